@@ -13,8 +13,6 @@ mod fewer;
 mod head;
 mod images;
 mod lowers;
-mod numbering;
-mod pair_numbers;
 mod parallel;
 mod partners;
 mod points;

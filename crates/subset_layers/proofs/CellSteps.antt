@@ -1,11 +1,13 @@
 -- The cell of a set, from the best sum of cost and width.
---     first_member      the smallest member of a mask
+--     first_member, first_has_mask      the smallest member of a mask
 --     some_member      a set of some layer but the first has a member
+--     asked_alike, costs_for_cell      the same costs at all members ask for the same widths; those of the layer before
 --     members_widths      the widths of all members, if widths are counted on
 --     cell_found, cell_clipped      the cell where the best sum leaves room, and where none does
-use Rattle.std.proofs.Common.{◌≡◌, ℕ, ◌+◌, ◌^◌, ◌<◌, ◌≤◌, true, ◌||◌, inl, inr, IsTrue, List, [], ◌∷◌, length, slice_index, unwrap_or, refl, ap, ◌∙◌, arith, eq-eqb, w16}
+use Rattle.std.proofs.Common.{◌≡◌, ℕ, ◌+◌, ◌-◌, ◌^◌, ◌<◌, ◌≤◌, Bool, true, cond, if◌then◌else◌, ◌||◌, nat_eq, nat_le, inl, inr, IsTrue, List, [], ◌∷◌, length, slice_index, unwrap_or, refl, sym, ap, ap₂, ◌∙◌, arith, eq-eqb, w16}
+use Rattle.std.specs.List.{filter}
 use Rattle.std.specs.Int.{bit_at, trailing_zeros}
-use Rattle.std.proofs.lemmas.Bool.{cases_lt}
+use Rattle.std.proofs.lemmas.Bool.{cases_lt, or_right}
 use Rattle.std.proofs.lemmas.Nat.Bits.{bit_at-trailing_zeros, bit_at_above}
 use Rattle.order_model.specs.Functions.{Function}
 use Rattle.order_model.specs.Orders.{has, IsOrder, members, without}
@@ -13,8 +15,8 @@ use Rattle.order_model.specs.Widths.{width}
 use Rattle.order_model.specs.Pairs.{Pair, Keeps, is_lawful}
 use Rattle.order_model.specs.Reserves.{reserved}
 use Rattle.order_model.specs.declared.reserve.Reserve.{Reserve}
-use Rattle.order_model.specs.declared.reserve.Reserve.TheVariants.{Widths}
-use Rattle.order_model.specs.Cells.{first_of, cell_of, AreForCell}
+use Rattle.order_model.specs.declared.reserve.Reserve.TheVariants.{Variables, Widths}
+use Rattle.order_model.specs.Cells.{first_of, cell_of, AreForCell, asked, candidates}
 use Rattle.order_model.proofs.Precedence.MaskLaws.{member_bit}
 use Rattle.order_model.proofs.Widths.Cells.{rising_members, first_has, first_le, all_asked, found, clipped, members_zero}
 use Rattle.subset_layers.specs.Layers.{masks_of, layer_with}
@@ -41,34 +43,58 @@ first_member n mask pos small lt =
       | inr g ↦ omega arith
     ]
 
+-- a mask that is not 0 has its smallest member
+pub first_has_mask : (n mask : ℕ) → 0 < mask → mask < 65536 → mask < 2 ^ n → has (members n mask) (first_of (members n mask)) ≡ true
+first_has_mask n mask pos small lt =
+    let z = bit_at-trailing_zeros w16 mask pos small in
+    let t = trailing_zeros w16 mask in
+    let below : t < n = elim (cases_lt t n) [ inl l ↦ l | inr g ↦ absurd (omega (arith, bit_at_above mask n t lt g)) ] in
+    first_has (members n mask) t (bit_has n mask t below ∙ eq-eqb (bit_at mask t) 1 z.1)
+
 -- ---- the cell
 
-module _ (c : CostsOf) (r : Reserve) (mask bound : ℕ) (widths : List ℕ) (F : List Function) (P : List Pair) (order : List ℕ) (o : IsOrder c.inputs order)
-    (k : Keeps P order)
-    (next : has (masks_of (layer_with c.inputs (c.size + 1))) mask ≡ true) (true_costs : AreTrueCosts c.inputs F P r bound c)
-    (true_widths : AreWidthsFor c.inputs F P r bound mask c widths) where
-  n : ℕ
-  n = c.inputs
-
-  for_cell : AreForCell c.inputs F P r bound mask (cost_without c mask) (slice_index widths)
-  for_cell = grind (arith, unwrap_or, less_one)
-
+module _ (n : ℕ) (r : Reserve) (mask bound : ℕ) (costs widths : ℕ → ℕ) (F : List Function) (P : List Pair) (order : List ℕ) (o : IsOrder n order)
+    (k : Keeps P order) (given : AreForCell n F P r bound mask costs widths) where
   -- if widths are counted on and some member is a candidate, the widths of all members are taken
-  pub members_widths : (y : ℕ) → is_lawful P (members c.inputs mask) ≡ true → has (members c.inputs mask) y ≡ true → cost_without c mask y ≤ bound →
-      r ≡ Widths → (x : ℕ) → has (members c.inputs mask) x ≡ true →
-      slice_index widths x ≡ width c.inputs F (without x (members c.inputs mask)) x
-  members_widths y l m le is x h = true_widths l x (all_asked c.inputs bound mask (cost_without c mask) r y is m le x h)
+  pub members_widths : (y : ℕ) → is_lawful P (members n mask) ≡ true → has (members n mask) y ≡ true → costs y ≤ bound →
+      r ≡ Widths → (x : ℕ) → has (members n mask) x ≡ true → widths x ≡ width n F (without x (members n mask)) x
+  members_widths y l m le is x h = given.are_widths l x (all_asked n bound mask costs r y is m le x h)
 
-  pub cell_found : (left sum x : ℕ) → is_lawful P (members c.inputs mask) ≡ true → left ≡ reserved c.inputs F r (members c.inputs mask) →
-      IsBest (λ y. IsTrue (has (members c.inputs mask) y)) bound (cost_without c mask) (slice_index widths) sum x → sum + left ≤ bound →
-      pair_of sum x ≡ cell_of c.inputs F P r bound mask
-  cell_found left sum x l e b room = grind (arith, pair_of, found, slice_index, for_cell)
+  pub cell_found : (left sum x : ℕ) → is_lawful P (members n mask) ≡ true → left ≡ reserved n F r (members n mask) →
+      IsBest (λ y. IsTrue (has (members n mask) y)) bound costs widths sum x → sum + left ≤ bound → pair_of sum x ≡ cell_of n F P r bound mask
+  cell_found left sum x l e b room = grind (arith, pair_of, found, given)
 
-  pub cell_clipped : (left z : ℕ) → has (members c.inputs mask) z ≡ true → left ≡ reserved c.inputs F r (members c.inputs mask) →
-      (is_lawful P (members c.inputs mask) ≡ true → (y : ℕ) → has (members c.inputs mask) y ≡ true → cost_without c mask y ≤ bound →
-      bound < cost_without c mask y + slice_index widths y + left) →
-      pair_of (bound + 1) (first_of (members c.inputs mask)) ≡ cell_of c.inputs F P r bound mask
-  cell_clipped left z m e none = grind (arith, clipped, slice_index, for_cell)
+  pub cell_clipped : (left z : ℕ) → has (members n mask) z ≡ true → left ≡ reserved n F r (members n mask) →
+      (is_lawful P (members n mask) ≡ true → (y : ℕ) → has (members n mask) y ≡ true → costs y ≤ bound → bound < costs y + widths y + left) →
+      pair_of (bound + 1) (first_of (members n mask)) ≡ cell_of n F P r bound mask
+  cell_clipped left z m e none = grind (arith, clipped, given)
+
+-- ---- the same costs at all members
+
+filter_alike : (p q : ℕ → Bool) (xs : List ℕ) → ((y : ℕ) → has xs y ≡ true → p y ≡ q y) → filter p xs ≡ filter q xs
+filter_alike p q [] h = refl
+filter_alike p q (x ∷ xs) h =
+    ap₂ (λ b ys. cond b (x ∷ ys) ys) (h x (ap (λ b. b || has xs x) (eq-eqb x x refl)))
+    (filter_alike p q xs (λ y m. h y (or_right (nat_eq y x) (has xs y) m)))
+
+pub asked_alike : (n : ℕ) (r : Reserve) (bound mask : ℕ) (f g : ℕ → ℕ) → ((y : ℕ) → has (members n mask) y ≡ true → f y ≡ g y) →
+    asked n r bound mask f ≡ asked n r bound mask g
+unfolding asked candidates
+asked_alike n Variables bound mask f g h = filter_alike (λ x. nat_le (f x) bound) (λ x. nat_le (g x) bound) (members n mask) (λ y m. ap (λ k. nat_le k bound) (h y m))
+asked_alike n Widths bound mask f g h =
+    ap (λ xs. if nat_eq (length xs) 0 then [] else members n mask)
+    (filter_alike (λ x. nat_le (f x) bound) (λ x. nat_le (g x) bound) (members n mask) (λ y m. ap (λ k. nat_le k bound) (h y m)))
+
+-- the costs of the layer before are those of the sets without one member
+pub costs_for_cell : (c : CostsOf) (r : Reserve) (mask bound : ℕ) (below widths : List ℕ) (F : List Function) (P : List Pair) →
+    has (masks_of (layer_with c.inputs (c.size + 1))) mask ≡ true → AreTrueCosts c.inputs F P r bound c → AreWidthsFor c.inputs F P r bound mask c widths →
+    ((x : ℕ) → has (members c.inputs mask) x ≡ true → slice_index below x ≡ cost_without c mask x) →
+    AreForCell c.inputs F P r bound mask (slice_index below) (slice_index widths)
+costs_for_cell c r mask bound below widths F P next true_costs true_widths same = record {
+  are_costs = λ x m. same x m ∙ ap (λ o. unwrap_or o 0) (true_costs (mask - 2 ^ x) (less_one c.inputs c.size mask x next m));
+  are_widths = λ l x m. true_widths l x
+      (ap (λ xs. has xs x) (sym (asked_alike c.inputs r bound mask (slice_index below) (cost_without c mask) same)) ∙ m);
+}
 
 -- a set of a layer after the empty one has a member
 pub some_member : (n k mask : ℕ) → has (masks_of (layer_with n (k + 1))) mask ≡ true → (0 < mask) × (has (members n mask) (first_of (members n mask)) ≡ true)

@@ -3,6 +3,7 @@
 --     cell_at c mask, cost_at c mask      the cell and the cost of a set, if it is in the layer; the empty set has the cost 0
 --     AreTrueCosts n F P r bound c      the costs are those of the definition's cells
 --     AreWidthsFor n F P r bound mask costs widths      the widths that the cell of a set takes are the definition's
+--     IsCellFrom v P bound mask below widths cell      the cell of a set, once the costs of smaller sets and the widths are
 --     IsCellOnce v P bound mask costs widths cell      the cell of a set, once these are
 use Rattle.std.specs.Prelude.{◌≡◌, ℕ, ◌-◌, ◌^◌, ◌≤◌, Option, Some, None, List, [], if◌then◌else◌, ◌<◌, IsTrue, nat_eq, length, slice_get, slice_index, unwrap_or}
 use Rattle.std.specs.Option.{option_map_or}
@@ -13,7 +14,7 @@ use Rattle.order_model.specs.Widths.{width}
 use Rattle.order_model.specs.Problems.{functions}
 use Rattle.order_model.specs.Reserves.{ReservesOf}
 use Rattle.order_model.specs.declared.reserve.Reserve.{Reserve}
-use Rattle.order_model.specs.Cells.{cell_of, cell_cost, asked}
+use Rattle.order_model.specs.Cells.{cell_of, cell_cost, asked, AreForCell}
 use Rattle.subset_layers.specs.declared.costs.Cell.{Cell}
 use Rattle.subset_layers.specs.Layers.{LayerOf, layer_with, masks_of}
 
@@ -68,6 +69,12 @@ AreTrueCells n F P r bound c =
 -- the cost of a set without one member
 abbrev pub cost_without : CostsOf → ℕ → ℕ → ℕ
 cost_without c mask x = unwrap_or (cost_at c (mask - 2 ^ x)) 0
+
+-- the cell of a set, once the costs of the sets without one member and the widths that it takes are the definition's
+abbrev pub IsCellFrom : ReservesOf → List Pair → ℕ → ℕ → List ℕ → List ℕ → ℕ × ℕ → Type 0
+IsCellFrom v P bound mask below widths cell =
+    AreForCell v.problem.inputs (functions v.problem) P v.reserve bound mask (slice_index below) (slice_index widths) →
+    cell ≡ cell_of v.problem.inputs (functions v.problem) P v.reserve bound mask
 
 -- the widths that the cell of a lawful set takes are the definition's
 abbrev pub AreWidthsFor : ℕ → List Function → List Pair → Reserve → ℕ → ℕ → CostsOf → List ℕ → Type 0

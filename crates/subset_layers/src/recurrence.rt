@@ -5,7 +5,7 @@ ghost use Rattle.order_model.specs.Orders.{has, members, IsOrder};
 ghost use Rattle.order_model.specs.Pairs.{Pair, Keeps, is_lawful};
 ghost use Rattle.order_model.specs.Cells.{first_of};
 ghost use Rattle.subset_layers.specs.Layers.{masks_of, layer_with};
-ghost use Rattle.subset_layers.specs.Costs.{cost_without, as_pair, IsCellOnce};
+ghost use Rattle.subset_layers.specs.Costs.{cost_without, as_pair, IsCellFrom, IsCellOnce};
 ghost use Rattle.subset_layers.specs.Sums.{IsBest};
 
 use crate::costs::{Cell, Costs};
@@ -32,18 +32,24 @@ fn smaller(best: Option<Sum>, next: Sum) -> Sum
 
 /// The least sum of cost and width over the members without which the cost is within the bound, by
 /// the smallest such member.
-fn best_sum(mask: Mask, costs: &Costs, widths: &[u32; 16], bound: u32) -> Option<Sum>
-    requires { IsTrue (has (masks_of (layer_with costs.now.inputs (costs.now.size + 1))) mask) }
+fn best_sum(
+    mask: Mask,
+    inputs: u8,
+    below: &[u32; 16],
+    widths: &[u32; 16],
+    bound: u32,
+) -> Option<Sum>
+    requires { inputs ≤ 16 }
     ensures best { IfSome result
-        (λ s. IsBest (λ x. IsTrue (has (members costs.now.inputs mask) x)) bound
-        (cost_without costs.now mask) (slice_index widths.now) s.sum s.variable) }
-    ensures none { IsNone result → (y : ℕ) → IsTrue (has (members costs.now.inputs mask) y) →
-        bound < cost_without costs.now mask y }
+        (λ s. IsBest (λ x. IsTrue (has (members inputs mask) x)) bound (slice_index below.now)
+        (slice_index widths.now) s.sum s.variable) }
+    ensures none { IsNone result → (y : ℕ) → IsTrue (has (members inputs mask) y) →
+        bound < slice_index below.now y }
 {
     let mut best: Option<Sum> = None;
-    for x in 0..costs.inputs() {
+    for x in 0..inputs {
         if contains(mask, x) {
-            let cost = costs.cost_of(mask - (1 << x)).unwrap();
+            let cost = below[x as usize];
             if cost <= bound {
                 let sum = cost as u64 + widths[x as usize] as u64;
                 best = Some(smaller(best, Sum { sum, variable: x }));
@@ -68,21 +74,23 @@ fn clipped_cell(mask: Mask, bound: u32) -> Cell
 /// The cell of a lawful set.
 fn lawful_cell(
     mask: Mask,
-    costs: &Costs,
+    inputs: u8,
+    below: &[u32; 16],
     widths: &[u32; 16],
     bound: u32,
     reserves: &Reserves<'_>,
 ) -> Cell
-    requires next { IsTrue
-        (has (masks_of (layer_with costs.now.inputs (costs.now.size + 1))) mask) }
-    requires inputs { reserves.now.problem.inputs ≡ costs.now.inputs }
+    requires some { 0 < mask }
+    requires within { mask < 2 ^ inputs }
+    requires few { inputs ≤ 16 }
+    requires functions { reserves.now.problem.inputs ≡ inputs }
     requires room { bound + 1 < 2 ^ 32 }
     ensures { (P : List Pair) (order : List ℕ) →
-        IsOrder costs.now.inputs order → Keeps P order →
-        IsTrue (is_lawful P (members costs.now.inputs mask)) →
-        IsCellOnce reserves.now P bound mask costs.now widths.now (as_pair result) }
+        IsOrder reserves.now.problem.inputs order → Keeps P order →
+        IsTrue (is_lawful P (members reserves.now.problem.inputs mask)) →
+        IsCellFrom reserves.now P bound mask below.now widths.now (as_pair result) }
 {
-    match best_sum(mask, costs, widths, bound) {
+    match best_sum(mask, inputs, below, widths, bound) {
         None => clipped_cell(mask, bound),
         Some(best) => {
             if best.sum + reserves.above(mask, widths) <= u64::from(bound) {
@@ -97,9 +105,48 @@ fn lawful_cell(
     }
 }
 
-/// The cell of a set of the layer after the costs' one. Widths are needed of the members without
-/// which the cost is within the bound, or of all members if widths are counted on above a set; the
-/// others may be anything.
+/// The cell of a set that is not empty, from the costs of the set without each of its members.
+/// Widths are needed of the members without which the cost is within the bound, or of all members
+/// if widths are counted on above a set; the others may be anything.
+pub fn cell_from(
+    mask: Mask,
+    below: &[u32; 16],
+    widths: &[u32; 16],
+    bound: u32,
+    reserves: &Reserves<'_>,
+    pairs: &Pairs,
+) -> Cell
+    requires some { 0 < mask }
+    requires within { mask < 2 ^ reserves.now.problem.inputs }
+    requires inputs { pairs.now.inputs ≡ reserves.now.problem.inputs }
+    requires room { bound + 1 < 2 ^ 32 }
+    ensures { IsCellFrom reserves.now pairs.now.pairs bound mask below.now widths.now
+        (as_pair result) }
+{
+    let inputs = pairs.inputs();
+    if pairs.lawful(mask) {
+        lawful_cell(mask, inputs, below, widths, bound, reserves)
+    } else {
+        clipped_cell(mask, bound)
+    }
+}
+
+/// The costs of the sets without one member of a set, by that member.
+fn costs_below(mask: Mask, costs: &Costs) -> [u32; 16]
+    requires { IsTrue (has (masks_of (layer_with costs.now.inputs (costs.now.size + 1))) mask) }
+    ensures { (x : ℕ) → IsTrue (has (members costs.now.inputs mask) x) →
+        slice_index result x ≡ cost_without costs.now mask x }
+{
+    let mut below = [0; 16];
+    for x in 0..costs.inputs() {
+        if contains(mask, x) {
+            below[x as usize] = costs.cost_of(mask - (1 << x)).unwrap();
+        }
+    }
+    below
+}
+
+/// The cell of a set of the layer after the costs' one, with widths as for `cell_from`.
 pub fn least_cell(
     mask: Mask,
     costs: &Costs,
@@ -116,10 +163,6 @@ pub fn least_cell(
     ensures { IsCellOnce reserves.now pairs.now.pairs bound mask costs.now widths.now
         (as_pair result) }
 {
-    prove!(pairs.inputs() <= 16);
-    if pairs.lawful(mask) {
-        lawful_cell(mask, costs, widths, bound, reserves)
-    } else {
-        clipped_cell(mask, bound)
-    }
+    let below = costs_below(mask, costs);
+    cell_from(mask, &below, widths, bound, reserves, pairs)
 }

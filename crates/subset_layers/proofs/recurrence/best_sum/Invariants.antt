@@ -1,8 +1,7 @@
 use Rattle.std.proofs.Common.{slice_index, IsTrue}
 use Rattle.order_model.specs.Orders.{has, members}
-use Rattle.subset_layers.specs.Costs.{cost_without}
 use Rattle.subset_layers.proofs.BestSums.{IsBestBelow}
 use Rattle.subset_layers.proofs.recurrence.best_sum.Given as goal
 
 abbrev pub invariant-loop-x : goal.invariant-loop-x
-invariant-loop-x l = IsBestBelow (λ x. IsTrue (has (members l.costs.inputs l.mask) x)) l.bound (cost_without l.costs l.mask) (slice_index l.widths) l.x l.best
+invariant-loop-x l = IsBestBelow (λ x. IsTrue (has (members l.inputs l.mask) x)) l.bound (slice_index l.below) (slice_index l.widths) l.x l.best
