@@ -1,1 +1,2 @@
 pub mod ChainSteps
+pub mod HighSets

@@ -32,6 +32,7 @@ impl<'a> Model for Setting<'a> {
 impl<'a> Setting<'a> {
     ghost use Rattle.order_model.specs.Problems.{functions};
     ghost use Rattle.order_model.specs.Widths.{essential_mask};
+    ghost use Rattle.order_model.specs.Reserves.{reserves_with};
     ghost use Rattle.layer_core.specs.Pairing.{pair_of};
     ghost use Rattle.layer_core.specs.Settings.{cell_for, setting_of};
 
@@ -79,6 +80,13 @@ impl<'a> Setting<'a> {
         ensures { result ≡ record { bound = self.now.bound; reserve = self.now.reserve } }
     {
         self.limit
+    }
+
+    /// What is counted on above the sets.
+    pub fn reserves(&self) -> &Reserves<'a>
+        ensures { result.now ≡ reserves_with self.now.problem self.now.reserve }
+    {
+        &self.reserves
     }
 
     /// The set of the variables on which some function depends.

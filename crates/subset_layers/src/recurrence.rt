@@ -140,7 +140,8 @@ fn costs_below(mask: Mask, costs: &Costs) -> [u32; 16]
     let mut below = [0; 16];
     for x in 0..costs.inputs() {
         if contains(mask, x) {
-            below[x as usize] = costs.cost_of(mask - (1 << x)).unwrap();
+            let cost = costs.cost_of(mask - (1 << x)).unwrap();
+            below[x as usize] = cost;
         }
     }
     below

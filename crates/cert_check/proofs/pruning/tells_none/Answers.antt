@@ -6,7 +6,7 @@ use Rattle.rayon.proofs.ListFacts.{IfOk-then}
 use Rattle.order_model.specs.Problems.{functions}
 use Rattle.cert_check.specs.LowerClasses.{IsWide}
 use Rattle.cert_check.specs.Tables.{rows_with}
-use Rattle.cert_check.proofs.HighSets.{double}
+use Rattle.pair_chains.proofs.HighSets.{double}
 use Rattle.cert_check.proofs.IntoOne.{none_into}
 use Rattle.cert_check.proofs.Stands.{wide_upper}
 use Rattle.cert_check.proofs.pruning.tells_none.Goals as goal

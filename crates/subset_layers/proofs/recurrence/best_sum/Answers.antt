@@ -1,51 +1,37 @@
-use Rattle.std.proofs.Common.{◌≡◌, ℕ, ◌+◌, ◌-◌, ◌<◌, Option, Some, None, IfSome, IsNone, IsTrue, unwrap_or, slice_index, refl, sym, ap, ◌∙◌, subst, arith}
+use Rattle.std.proofs.Common.{◌≡◌, ℕ, ◌+◌, ◌<◌, Option, Some, None, IfSome, IsNone, IsTrue, slice_index, refl, sym, ◌∙◌, subst, arith}
 use Rattle.std.proofs.lemmas.Bool.{iff_false, true≢false}
 use Rattle.std.proofs.lemmas.Nat.Bits.{shr_and_one}
 use Rattle.order_model.proofs.Bits.Masks.{members_small}
 use Rattle.subset_layers.specs.declared.recurrence.Sum.{Sum}
 use Rattle.order_model.specs.Orders.{has, members}
-use Rattle.subset_layers.specs.Costs.{cost_at, cost_without}
 use Rattle.subset_layers.specs.Sums.{IsBest}
-use Rattle.subset_layers.proofs.CostLists.{member_from_bit, bit_from_member, power_le_mask, shifted_bit, less_one}
+use Rattle.subset_layers.proofs.CostLists.{member_from_bit, bit_from_member}
 use Rattle.subset_layers.proofs.BestSums.{IsBestBelow, best_skipped, best_taken, best_all}
 use Rattle.subset_layers.proofs.recurrence.best_sum.Goals as goal
 use Rattle.subset_layers.proofs.recurrence.best_sum.Goals.{then-contains+then-cost-bound, then-contains+else-cost-bound, else-contains}
 
-pub overflow_sub-mask : goal.overflow_sub-mask
-overflow_sub-mask c =
-    omega (arith, power_le_mask c.args.mask c.loop-x.x (shr_and_one c.args.mask c.loop-x.x ∙ c.contains.ensures.0 c.if-contains.true))
-
-pub unwrap-cost-requires : goal.unwrap-cost-requires
-unwrap-cost-requires c = grind (arith, shifted_bit, shr_and_one, member_from_bit, less_one)
-
 pub loop-x-preserved : goal.loop-x-preserved
 loop-x-preserved c =
-    let n = c.args.costs.now.inputs in
+    let n = c.args.inputs in
+    let x = c.loop-x.x in
     let S : ℕ → Type 0 = λ x. IsTrue (has (members n c.args.mask) x) in
-    let costs : ℕ → ℕ = cost_without c.args.costs.now c.args.mask in
+    let costs : ℕ → ℕ = slice_index c.args.below.now in
     let widths : ℕ → ℕ = slice_index c.args.widths.now in
     elim c.if-contains.branch [
       | then-contains+then-cost-bound w ↦
-          let e = shifted_bit c.args.mask c.loop-x.x (omega arith) (shr_and_one c.args.mask c.loop-x.x ∙ c.contains.ensures.0 w.if-contains.true) in
-          let is : costs c.loop-x.x ≡ w.unwrap-cost.result = ap (λ k. unwrap_or (cost_at c.args.costs.now (c.args.mask - k)) 0) (sym e)
-          ∙ ap (λ o. unwrap_or o 0) (sym w.cost_of.ensures.value ∙ w.unwrap-cost.ensures) in
-          subst (λ o. IsBestBelow S c.args.bound costs widths (c.loop-x.x + 1) o) (sym w.best-is)
-          (best_taken S c.args.bound costs widths c.loop-x.x (w.unwrap-cost.result + slice_index c.args.widths.now c.loop-x.x) c.loop-x.best
-          _ w.smaller.result c.loop-x.invariant
-          (member_from_bit n c.args.mask c.loop-x.x (omega arith) (shr_and_one c.args.mask c.loop-x.x ∙ c.contains.ensures.0 w.if-contains.true))
-          (omega arith) (omega arith) refl w.smaller.ensures.none w.smaller.ensures.some)
+          subst (λ o. IsBestBelow S c.args.bound costs widths (x + 1) o) (sym w.best-is)
+          (best_taken S c.args.bound costs widths x (costs x + widths x) c.loop-x.best _ w.smaller.result c.loop-x.invariant
+          (member_from_bit n c.args.mask x (omega arith) (shr_and_one c.args.mask x ∙ c.contains.ensures.0 w.if-contains.true))
+          (omega arith) refl refl w.smaller.ensures.none w.smaller.ensures.some)
       | then-contains+else-cost-bound w ↦
-          let e = shifted_bit c.args.mask c.loop-x.x (omega arith) (shr_and_one c.args.mask c.loop-x.x ∙ c.contains.ensures.0 w.if-contains.true) in
-          let is : costs c.loop-x.x ≡ w.unwrap-cost.result = ap (λ k. unwrap_or (cost_at c.args.costs.now (c.args.mask - k)) 0) (sym e)
-          ∙ ap (λ o. unwrap_or o 0) (sym w.cost_of.ensures.value ∙ w.unwrap-cost.ensures) in
-          let over : c.args.bound < costs c.loop-x.x = omega arith in
-          subst (λ o. IsBestBelow S c.args.bound costs widths (c.loop-x.x + 1) o) (sym w.best-is)
-          (best_skipped S c.args.bound costs widths c.loop-x.x c.loop-x.best c.loop-x.invariant (λ m. over))
+          let over : c.args.bound < costs x = omega arith in
+          subst (λ o. IsBestBelow S c.args.bound costs widths (x + 1) o) (sym w.best-is)
+          (best_skipped S c.args.bound costs widths x c.loop-x.best c.loop-x.invariant (λ m. over))
       | else-contains w ↦
-          subst (λ o. IsBestBelow S c.args.bound costs widths (c.loop-x.x + 1) o) (sym w.best-is)
-          (best_skipped S c.args.bound costs widths c.loop-x.x c.loop-x.best c.loop-x.invariant
-          (λ m. absurd (iff_false c.contains.ensures w.if-contains.false (sym (shr_and_one c.args.mask c.loop-x.x)
-          ∙ bit_from_member n c.args.mask c.loop-x.x m))))
+          subst (λ o. IsBestBelow S c.args.bound costs widths (x + 1) o) (sym w.best-is)
+          (best_skipped S c.args.bound costs widths x c.loop-x.best c.loop-x.invariant
+          (λ m. absurd (iff_false c.contains.ensures w.if-contains.false (sym (shr_and_one c.args.mask x)
+          ∙ bit_from_member n c.args.mask x m))))
     ]
 
 -- the sum over all members

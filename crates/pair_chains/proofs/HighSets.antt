@@ -1,12 +1,13 @@
 -- Sets by their variables from a bound on: the highest bits of a mask.
 --     step_down      a set with no variable below the next bound
 --     high_new, high_or, high_more, high_room      its next variable down is new; with it; the sets that differ below the bound
+--     place_below      a set, by its variables from a bound on and those below
 --     free_all      all variables below the bound are free
 --     part_same, part_more, part_high      the part of a mask from a bound on, and from the next one down
 --     multiple, double      a multiple has no rest; twice a power of two
 use Rattle.std.proofs.Common.{◌≡◌, ℕ, zero, suc, ◌+◌, ◌-◌, ◌*◌, ◌/◌, ◌%◌, ◌^◌, ◌<◌, ◌≤◌, false, sym, ap, ◌∙◌, arith, bit_or, zero-mul}
 use Rattle.std.specs.Int.{bit_at}
-use Rattle.std.proofs.Math.Nat.{div-lt_iff_lt-mul}
+use Rattle.std.proofs.Math.Nat.{div-lt_iff_lt-mul, mul-le-mul_right}
 use Rattle.std.proofs.lemmas.Bool.{cases_eq}
 use Rattle.std.proofs.lemmas.Nat.{pow_pos, or_disjoint, mod-pow-add, mod-mul-add, div-add-mod', pow-add}
 use Rattle.std.proofs.lemmas.Nat.Bits.{shr_and_one, and_pow, bit_at-lt}
@@ -14,9 +15,8 @@ use Rattle.order_model.specs.Orders.{has, members}
 use Rattle.class_laws.specs.Table.{free_below}
 use Rattle.class_laws.proofs.Extended.{free_none, free_more}
 use Rattle.class_laws.proofs.LowSets.{bit_unset}
-use Rattle.cert_check.proofs.IntoSet.{place_below}
 
-low_bits : (mask x : ℕ) → mask % 2 ^ (x + 1) ≡ (mask / 2 ^ x % 2) * 2 ^ x + mask % 2 ^ x
+pub low_bits : (mask x : ℕ) → mask % 2 ^ (x + 1) ≡ (mask / 2 ^ x % 2) * 2 ^ x + mask % 2 ^ x
 low_bits mask x = ap (λ k. mask % 2 ^ k) (let s : x + 1 ≡ 1 + x = omega arith in s) ∙ mod-pow-add mask 1 x
 
 pub step_down : (set x : ℕ) → set % 2 ^ (x + 1) ≡ 0 → (set % 2 ^ x ≡ 0) × (set / 2 ^ x % 2 ≡ 0)
@@ -35,6 +35,10 @@ pub high_more : (set x : ℕ) → set % 2 ^ (x + 1) ≡ 0 → (set + 2 ^ x) % 2 
 high_more set x e =
     let z = (step_down set x e).0 in
     ap (λ k. k % 2 ^ x) (let s : set + 2 ^ x ≡ (set / 2 ^ x + 1) * 2 ^ x = omega arith in s) ∙ multiple (set / 2 ^ x + 1) (2 ^ x) (pow_pos x)
+
+-- a set, by its variables from y on and those below
+pub place_below : (n y a s : ℕ) → y ≤ n → a < 2 ^ (n - y) → s < 2 ^ y → a * 2 ^ y + s < 2 ^ n
+place_below n y a s le h l = grind (arith, pow-add, mul-le-mul_right)
 
 pub high_room : (n set y : ℕ) → y ≤ n → set % 2 ^ y ≡ 0 → set < 2 ^ n → set + 2 ^ y ≤ 2 ^ n
 high_room n set y le e small =

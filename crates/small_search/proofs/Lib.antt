@@ -1,0 +1,3 @@
+pub mod CellRows
+pub mod LowestVariables
+pub mod PathSteps

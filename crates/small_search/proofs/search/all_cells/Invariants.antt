@@ -1,0 +1,10 @@
+use Rattle.std.proofs.Common.{◌-◌}
+use Rattle.small_search.specs.FirstCells.{AreFirstCells}
+use Rattle.small_search.specs.Paths.{HoldPath}
+use Rattle.small_search.proofs.search.all_cells.Given as goal
+
+abbrev pub invariant-loop-number : goal.invariant-loop-number
+invariant-loop-number l = record {
+  path : HoldPath l.setting.problem (l.number - 1) l.tables.items;
+  cells : AreFirstCells l.setting l.number l.cells.items;
+}

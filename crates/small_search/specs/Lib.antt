@@ -1,0 +1,2 @@
+pub mod FirstCells
+pub mod Paths

@@ -1,0 +1,44 @@
+//! The cell of a set from those of smaller sets.
+
+ghost use Rattle.std.specs.Prelude.{◌≡◌, ◌+◌, ◌^◌, ◌<◌, ◌≤◌, length};
+ghost use Rattle.order_model.specs.Orders.{members};
+ghost use Rattle.order_model.specs.Problems.{functions};
+ghost use Rattle.class_laws.specs.Dependence.{AreMasks};
+ghost use Rattle.layer_core.specs.Pairing.{pair_of};
+ghost use Rattle.layer_core.specs.Settings.{cell_for};
+ghost use Rattle.small_search.specs.FirstCells.{AreFirstCells};
+
+use order_model::{Mask, contains};
+use point_classes::count_with;
+use solutions::Setting;
+use subset_layers::{Cell, cell_from};
+
+/// The cell of a set, from those of all smaller masks and the masks of the set's classes: one
+/// numbering gives the widths of all its members.
+pub(crate) fn cell_of_set(setting: &Setting<'_>, cells: &[Cell], masks: &[u16], set: Mask) -> Cell
+    requires some { 0 < set }
+    requires within { set < 2 ^ setting.now.problem.inputs }
+    requires cells { AreFirstCells setting.now set cells.now }
+    requires masks { AreMasks setting.now.problem.inputs (functions setting.now.problem)
+        (members setting.now.problem.inputs set) masks.now }
+    requires few { length masks.now ≤ 2 ^ 20 }
+    requires room { setting.now.bound + 1 < 2 ^ 32 }
+    ensures { pair_of result ≡ cell_for setting.now set }
+{
+    let mut below = [0; 16];
+    let mut widths = [0; 16];
+    for x in 0..setting.inputs() {
+        if contains(set, x) {
+            below[x as usize] = cells[(set - (1 << x)) as usize].cost;
+            widths[x as usize] = count_with(masks, x);
+        }
+    }
+    cell_from(
+        set,
+        &below,
+        &widths,
+        setting.limit().bound,
+        setting.reserves(),
+        setting.pairs(),
+    )
+}

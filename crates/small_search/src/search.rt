@@ -1,0 +1,116 @@
+//! The optimum of a small problem.
+
+ghost use Rattle.std.specs.Prelude.{◌≡◌, ◌*◌, ◌+◌, ◌-◌, ◌^◌, ◌<◌, ◌≤◌, ◌↔◌, IfOk, IsTrue, OnOk};
+ghost use Rattle.order_model.specs.Problems.{outputs_of};
+ghost use Rattle.order_model.specs.declared.reserve.Reserve.TheVariants.{Variables};
+ghost use Rattle.layer_core.specs.Pairing.{pair_of};
+ghost use Rattle.layer_core.specs.Settings.{cell_for};
+ghost use Rattle.small_search.specs.FirstCells.{AreFirstCells};
+ghost use Rattle.small_search.specs.Paths.{HoldPath};
+ghost use Rattle.solutions.specs.Bounded.{IsBounded};
+ghost use Rattle.solutions.specs.FlatCells.{AreFlatCells};
+ghost use Rattle.solutions.specs.Solutions.{IsOptimumFor, IsSolution};
+
+use crate::cells::cell_of_set;
+use crate::tables::{add_lowest, first_tables};
+use order_model::{Limit, Mask, Pairs, Problem, Reserve};
+use pair_chains::{Numbered, PairNumbers};
+use solutions::{AllCells, Optimum, Setting, Solution, optimum_of, solution_of};
+use std::alloc::{AllocError, Global};
+use subset_layers::Cell;
+
+/// More nodes than any order of 16 functions of 16 variables has.
+const NO_BOUND: u32 = 1 << 20;
+
+/// So many entries of truth tables at most make a problem small.
+const MOST_ENTRIES: usize = 1 << 13;
+
+/// Whether the truth tables of a problem are small.
+pub fn is_small(problem: &Problem) -> bool
+    ensures { IsTrue result ↔ (outputs_of problem.now * 2 ^ problem.now.inputs ≤ 2 ^ 13) }
+{
+    (problem.outputs() as usize) << problem.inputs() <= MOST_ENTRIES
+}
+
+/// What a search without a bound is for.
+fn setting_of<'a>(problem: &'a Problem, pairs: &'a Pairs) -> Setting<'a>
+    requires { pairs.now.inputs ≡ problem.now.inputs }
+    ensures problem { result.problem ≡ problem.now }
+    ensures pairs { result.pairs ≡ pairs.now }
+    ensures reserve { result.reserve ≡ Variables }
+    ensures bounded { IsBounded result }
+    ensures room { result.bound + 1 < 2 ^ 32 }
+{
+    prove!(problem.inputs() <= 16);
+    prove!(problem.outputs() <= 16);
+    prove!(pairs.inputs() <= 16);
+    let limit = Limit {
+        bound: NO_BOUND,
+        reserve: Reserve::Variables,
+    };
+    Setting::new(problem, pairs, limit)
+}
+
+/// The cell of the set after those that have cells; the tables on the way to it follow.
+fn next_cell(
+    alloc: Global,
+    setting: &Setting<'_>,
+    tables: &mut [Numbered],
+    seen: &mut PairNumbers,
+    cells: &[Cell],
+    set: Mask,
+) -> Result<Cell, AllocError>
+    requires room { setting.now.bound + 1 < 2 ^ 32 }
+    requires some { 0 < set }
+    requires within { set < 2 ^ setting.now.problem.inputs }
+    requires path { HoldPath setting.now.problem (set - 1) tables.old }
+    requires cells { AreFirstCells setting.now set cells.now }
+    ensures path { OnOk result (HoldPath setting.now.problem set tables.new) }
+    ensures cell { IfOk result (λ c. pair_of c ≡ cell_for setting.now set) }
+{
+    add_lowest(alloc, setting.problem(), tables, seen, set)?;
+    let table = &tables[set.count_ones() as usize];
+    Ok(cell_of_set(setting, cells, &table.masks, set))
+}
+
+/// The cells of all sets, each at its set's mask.
+fn all_cells(alloc: Global, setting: &Setting<'_>) -> Result<Vec<Cell>, AllocError>
+    requires { setting.now.bound + 1 < 2 ^ 32 }
+    ensures { IfOk result (λ v. AreFlatCells setting.now v.items) }
+{
+    let mut tables = first_tables(alloc, setting.problem())?;
+    let mut seen = PairNumbers::new(alloc)?;
+    let sets = 1u32 << setting.inputs();
+    let mut cells = Vec::with_capacity(alloc, sets as usize)?;
+    cells.push(Cell {
+        cost: 0,
+        variable: 0,
+    })?;
+    for number in 1..sets {
+        let set = number as Mask;
+        let cell = next_cell(alloc, setting, &mut tables, &mut seen, &cells, set)?;
+        cells.push(cell)?;
+    }
+    Ok(cells)
+}
+
+/// The first order of the fewest nodes among those that keep the pairs. It takes a step for each
+/// entry of the class tables of all sets, so it is for small problems.
+pub fn find_optimum(alloc: Global, problem: &Problem, pairs: &Pairs) -> Result<Optimum, AllocError>
+    requires { pairs.now.inputs ≡ problem.now.inputs }
+    ensures { IfOk result (IsOptimumFor problem.now pairs.now.pairs) }
+{
+    let setting = setting_of(problem, pairs);
+    let cells = all_cells(alloc, &setting)?;
+    optimum_of(alloc, &AllCells::of_cells(&setting, cells))
+}
+
+/// The same, with what the order's certificate lists.
+pub fn solve(alloc: Global, problem: &Problem, pairs: &Pairs) -> Result<Solution, AllocError>
+    requires { pairs.now.inputs ≡ problem.now.inputs }
+    ensures { IfOk result (IsSolution problem.now pairs.now.pairs) }
+{
+    let setting = setting_of(problem, pairs);
+    let cells = all_cells(alloc, &setting)?;
+    solution_of(alloc, &AllCells::of_cells(&setting, cells))
+}
