@@ -4,6 +4,7 @@ ghost use Rattle.std.specs.Prelude.{◌≡◌, ◌≢◌, ◌⊎◌, ◌≤◌, 
 ghost use Rattle.order_model.specs.KeptPairs.{CanBeKept};
 ghost use Rattle.order_model.specs.Pairs.{sorted_pairs};
 ghost use Rattle.order_model.specs.Problems.{functions};
+ghost use Rattle.solutions.specs.Solutions.{IsSolution};
 ghost use Rattle.minorder_c.specs.Answers.{AreTables, functions_in, pairs_given};
 ghost use Rattle.minorder_c.specs.Certified.{Holds, IsCertificateText, IsCertifyStatus, IsShort};
 ghost use Rattle.minorder_c.specs.Statuses.{RefusesPairs, TellsShape};
@@ -15,11 +16,27 @@ use crate::status::Refusal;
 use certificate::certificate_text;
 use order_model::Pairs;
 use order_solve::{Optimum, Solution, solve_alone};
+use small_search::{is_small, solve};
 use std::alloc::{AllocError, Global};
 use truth_table::Tables;
 
 /// The number that C is told if a certificate is longer than its place.
 const SHORT_TEXT: u32 = 7;
+
+/// The first order of the fewest nodes among those that keep the pairs, and the cells of its
+/// certificate; where the truth tables are not small, searched below the size of a sifted order.
+fn solution(alloc: Global, tables: &Tables, pairs: Pairs) -> Result<Solution, AllocError>
+    requires { pairs.inputs ≡ tables.now.inputs }
+    ensures { IfOk result (IsSolution tables.now pairs.pairs) }
+{
+    if is_small(tables.problem()) {
+        let solution = solve(alloc, tables.problem(), &pairs)?;
+        return Ok(solution);
+    }
+    let bound = bound_of(alloc, tables, pairs)?;
+    let solution = solve_alone(alloc, tables.problem(), bound)?;
+    Ok(solution)
+}
 
 /// The certificate of the first order of the fewest nodes among those that keep the pairs.
 fn text_of(alloc: Global, tables: &Tables, pairs: Pairs) -> Result<String, AllocError>
@@ -30,12 +47,11 @@ fn text_of(alloc: Global, tables: &Tables, pairs: Pairs) -> Result<String, Alloc
 {
     let kept = pairs.copied();
     let problem = tables.problem();
-    let bound = bound_of(alloc, tables, pairs)?;
     let Solution {
         optimum,
         cells,
         widths: _,
-    } = solve_alone(alloc, problem, bound)?;
+    } = solution(alloc, tables, pairs)?;
     let Optimum {
         order,
         total,

@@ -14,11 +14,12 @@ use crate::sifting_from::bound_of;
 use crate::status::Refusal;
 use order_model::Pairs;
 use order_solve::{Optimum, find_optimum_alone};
+use small_search::{find_optimum, is_small};
 use std::alloc::{AllocError, Global};
 use truth_table::Tables;
 
-/// The first order of the fewest nodes among those that keep the pairs, searched below the
-/// size of a sifted one.
+/// The first order of the fewest nodes among those that keep the pairs; where the truth tables are
+/// not small, searched below the size of a sifted one.
 fn optimum(alloc: Global, tables: &Tables, pairs: Pairs) -> Result<Optimum, AllocError>
     requires { pairs.inputs ≡ tables.now.inputs }
     ensures optimum { IfOk result
@@ -26,6 +27,10 @@ fn optimum(alloc: Global, tables: &Tables, pairs: Pairs) -> Result<Optimum, Allo
     ensures long { IfOk result (λ s. length s.order ≡ tables.now.inputs) }
     ensures counts { IfOk result (λ s. length s.levels.items ≡ tables.now.inputs) }
 {
+    if is_small(tables.problem()) {
+        let optimum = find_optimum(alloc, tables.problem(), &pairs)?;
+        return Ok(optimum);
+    }
     let bound = bound_of(alloc, tables, pairs)?;
     let optimum = find_optimum_alone(alloc, tables.problem(), bound)?;
     Ok(optimum)

@@ -3,7 +3,7 @@
 ghost use Rattle.std.specs.Prelude.{◌≡◌, IfOk};
 ghost use Rattle.report.specs.Bests.{IsBestFor};
 
-use order_model::{ListedCell, NoGate, Workers};
+use order_model::{ListedCell, NoGate, Pairs, Problem, Workers};
 use order_solve::{Optimum, Preparation, Solution, find_optimum, solve};
 use sifting::Sifted;
 use std::alloc::{AllocError, Global};
@@ -41,6 +41,34 @@ pub(crate) fn best_order<R: Threads + Sync>(
         });
     }
     let optimum = find_optimum(rt, alloc, prepared, bound, workers, &NoGate)?;
+    Ok(Best {
+        optimum,
+        cells: None,
+    })
+}
+
+/// The same of a problem whose truth tables are small, by the calling thread alone.
+pub(crate) fn small_best(
+    alloc: Global,
+    problem: &Problem,
+    pairs: &Pairs,
+    certify: bool,
+) -> Result<Best, AllocError>
+    requires { pairs.now.inputs ≡ problem.now.inputs }
+    ensures { IfOk result (IsBestFor problem.now pairs.now.pairs certify) }
+{
+    if certify {
+        let Solution {
+            optimum,
+            cells,
+            widths: _,
+        } = small_search::solve(alloc, problem, pairs)?;
+        return Ok(Best {
+            optimum,
+            cells: Some(cells),
+        });
+    }
+    let optimum = small_search::find_optimum(alloc, problem, pairs)?;
     Ok(Best {
         optimum,
         cells: None,

@@ -3,17 +3,21 @@
 ghost use Rattle.std.specs.Prelude.{◌≡◌, ◌≤◌, ◌<◌, ℕ, IfOk, length, slice_index};
 ghost use Rattle.order_model.specs.Diagrams.{nodes_at};
 ghost use Rattle.order_model.specs.Levels.{level_counts};
+ghost use Rattle.order_model.specs.Orders.{IsOrder};
 ghost use Rattle.order_model.specs.Problems.{functions};
-ghost use Rattle.dd_builder.specs.Building.{HasLevelCounts};
+ghost use Rattle.dd_builder.specs.Building.{HasLevelCounts, IsDiagramOf};
 ghost use Rattle.pla_reader.specs.Covers.{functions_of};
 ghost use Rattle.report.specs.FirstDiagrams.{IsFirstDiagram};
 ghost use Rattle.run_texts.specs.Texts.{file_order_levels};
 
 use crate::instance::Instance;
 use dd_builder::{build, build_tables};
+use order_model::laws::{some_diagram_has_the_level_counts, truth_tables_keep_functions};
 use order_model::{Diagram, NoGate, Order};
+use small_search::is_small;
 use std::alloc::{AllocError, Global};
 use std::thread::Threads;
+use table_diagrams::reduced_diagram;
 
 /// The level counts of a diagram, one a level of its order.
 fn levels_of(alloc: Global, diagram: &Diagram) -> Result<Vec<u32>, AllocError>
@@ -28,6 +32,34 @@ fn levels_of(alloc: Global, diagram: &Diagram) -> Result<Vec<u32>, AllocError>
     counts[..diagram.order().len()].to_vec(alloc)
 }
 
+/// The reduced diagram of the cover's functions under an order: of small truth tables straight from
+/// these, else in a store.
+fn diagram_under<R: Threads + Sync>(
+    rt: &R,
+    alloc: Global,
+    instance: &Instance<'_>,
+    order: &Order,
+) -> Result<Diagram, AllocError>
+    requires { IsOrder instance.now.cover.now.inputs order.now }
+    ensures { IfOk result
+        (IsDiagramOf instance.now.cover.now.inputs (functions_of instance.now.cover.now) order.now) }
+{
+    if is_small(instance.tables.problem()) {
+        some_diagram_has_the_level_counts();
+        truth_tables_keep_functions();
+        return reduced_diagram(alloc, instance.tables, order);
+    }
+    build(
+        rt,
+        alloc,
+        instance.cover,
+        instance.tables,
+        order,
+        instance.busy_workers(),
+        &NoGate,
+    )
+}
+
 /// The diagram under the first order that keeps the pairs.
 pub(crate) fn first_diagram<R: Threads + Sync>(
     rt: &R,
@@ -37,15 +69,7 @@ pub(crate) fn first_diagram<R: Threads + Sync>(
     ensures { IfOk result (IsFirstDiagram instance.now.cover.now instance.now.pairs.now.pairs) }
 {
     let order = instance.pairs.first_order(alloc)?;
-    let diagram = build(
-        rt,
-        alloc,
-        instance.cover,
-        instance.tables,
-        &order,
-        instance.busy_workers(),
-        &NoGate,
-    )?;
+    let diagram = diagram_under(rt, alloc, instance, &order)?;
     Ok(diagram)
 }
 
@@ -68,17 +92,28 @@ pub(crate) fn file_order_levels_of<R: Threads + Sync>(
         let levels = levels_of(alloc, first)?;
         return Ok(levels);
     }
-    let diagram = build(
-        rt,
-        alloc,
-        instance.cover,
-        instance.tables,
-        &order,
-        instance.busy_workers(),
-        &NoGate,
-    )?;
+    let diagram = diagram_under(rt, alloc, instance, &order)?;
     let levels = levels_of(alloc, &diagram)?;
     Ok(levels)
+}
+
+/// The reduced diagram of the truth tables under an order, as `diagram_under`.
+fn tables_diagram<R: Threads + Sync>(
+    rt: &R,
+    alloc: Global,
+    instance: &Instance<'_>,
+    order: &Order,
+) -> Result<Diagram, AllocError>
+    requires { length order.now ≡ instance.now.tables.now.inputs }
+    ensures { IfOk result
+        (IsDiagramOf instance.now.tables.now.inputs (functions instance.now.tables.now)
+        order.now) }
+{
+    if is_small(instance.tables.problem()) {
+        return reduced_diagram(alloc, instance.tables, order);
+    }
+    let workers = instance.busy_workers();
+    build_tables(rt, alloc, instance.tables, order, workers, &NoGate)
 }
 
 /// The level counts under an order, off the diagram built from the truth tables.
@@ -94,8 +129,7 @@ pub(crate) fn levels_under<R: Threads + Sync>(
         (functions instance.now.tables.now) order.now) }
     ensures few { IfOk result (λ v. length v.items ≤ 16) }
 {
-    let workers = instance.busy_workers();
-    let diagram = build_tables(rt, alloc, instance.tables, order, workers, &NoGate)?;
+    let diagram = tables_diagram(rt, alloc, instance, order)?;
     let levels = levels_of(alloc, &diagram)?;
     Ok(levels)
 }

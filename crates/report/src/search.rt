@@ -6,11 +6,12 @@ ghost use Rattle.report.specs.Found.{IsFirstManager, IsFound, IsSiftingFor, IsSi
 ghost use Rattle.report.specs.FirstDiagrams.{IsFirstDiagram};
 ghost use Rattle.run_texts.specs.Texts.{file_order_levels};
 
-use crate::best::{Best, best_order};
+use crate::best::{Best, best_order, small_best};
 use crate::diagrams::{file_order_levels_of, first_diagram};
 use crate::instance::Instance;
 use order_model::{Diagram, Limit, Order, Reserve, Workers, total};
 use order_solve::{Preparation, prepare};
+use small_search::is_small;
 use sifting::laws::diagrams_have_their_functions_tables;
 use sifting::{Manager, Sifted};
 use std::alloc::{AllocError, Global};
@@ -134,6 +135,32 @@ pub(crate) struct Found {
     pub file_size: u64,
 }
 
+/// The same of a problem whose truth tables are small, by the calling thread alone.
+fn search_small(
+    alloc: Global,
+    instance: &Instance<'_>,
+    manager: Manager,
+    file_size: u64,
+) -> Result<Found, AllocError>
+    requires manager { IsFirstManager instance.now manager }
+    requires file { file_size ≡ sum (file_order_levels instance.now.cover.now) }
+    ensures { IfOk result (IsFound instance.now) }
+{
+    let sifted = manager.sift(alloc)?;
+    let best = small_best(
+        alloc,
+        instance.tables.problem(),
+        instance.pairs,
+        instance.certify,
+    )?;
+    Ok(Found {
+        best,
+        sifted: sifted.order().try_clone(alloc)?,
+        sifted_size: sifted.size(),
+        file_size,
+    })
+}
+
 /// Searches, from the diagram under the first order that keeps the pairs: the first order of the
 /// fewest nodes, with what its certificate lists if that is asked for.
 pub(crate) fn search<R: Threads + Sync>(
@@ -146,6 +173,9 @@ pub(crate) fn search<R: Threads + Sync>(
     let first = first_diagram(rt, alloc, instance)?;
     let file_size = file_size_of(rt, alloc, instance, &first)?;
     let manager = manager_of(alloc, instance, first)?;
+    if is_small(instance.tables.problem()) {
+        return search_small(alloc, instance, manager, file_size);
+    }
     let (sifting, prepared) = sift_and_prepare(rt, alloc, instance, manager)?;
     let Sifting {
         sifted,
