@@ -20,6 +20,18 @@ use truth_table::Tables;
 
 /// The first order of the fewest nodes among those that keep the pairs; where the truth tables are
 /// not small, searched below the size of a sifted one.
+fn search(alloc: Global, tables: &Tables, pairs: Pairs) -> Result<Optimum, AllocError>
+    requires { pairs.inputs ≡ tables.now.inputs }
+    ensures { IfOk result (IsOptimumFor tables.now pairs.pairs) }
+{
+    if is_small(tables.problem()) {
+        return find_optimum(alloc, tables.problem(), &pairs);
+    }
+    let bound = bound_of(alloc, tables, pairs)?;
+    find_optimum_alone(alloc, tables.problem(), bound)
+}
+
+/// The same, with as many variables and level counts as there are inputs.
 fn optimum(alloc: Global, tables: &Tables, pairs: Pairs) -> Result<Optimum, AllocError>
     requires { pairs.inputs ≡ tables.now.inputs }
     ensures optimum { IfOk result
@@ -27,12 +39,7 @@ fn optimum(alloc: Global, tables: &Tables, pairs: Pairs) -> Result<Optimum, Allo
     ensures long { IfOk result (λ s. length s.order ≡ tables.now.inputs) }
     ensures counts { IfOk result (λ s. length s.levels.items ≡ tables.now.inputs) }
 {
-    if is_small(tables.problem()) {
-        let optimum = find_optimum(alloc, tables.problem(), &pairs)?;
-        return Ok(optimum);
-    }
-    let bound = bound_of(alloc, tables, pairs)?;
-    let optimum = find_optimum_alone(alloc, tables.problem(), bound)?;
+    let optimum = search(alloc, tables, pairs)?;
     Ok(optimum)
 }
 

@@ -40,7 +40,7 @@ fn diagram_under<R: Threads + Sync>(
     instance: &Instance<'_>,
     order: &Order,
 ) -> Result<Diagram, AllocError>
-    requires { IsOrder instance.now.cover.now.inputs order.now }
+    requires order { IsOrder instance.now.cover.now.inputs order.now }
     ensures { IfOk result
         (IsDiagramOf instance.now.cover.now.inputs (functions_of instance.now.cover.now) order.now) }
 {
@@ -104,7 +104,7 @@ fn tables_diagram<R: Threads + Sync>(
     instance: &Instance<'_>,
     order: &Order,
 ) -> Result<Diagram, AllocError>
-    requires { length order.now ≡ instance.now.tables.now.inputs }
+    requires order { length order.now ≡ instance.now.tables.now.inputs }
     ensures { IfOk result
         (IsDiagramOf instance.now.tables.now.inputs (functions instance.now.tables.now)
         order.now) }

@@ -22,14 +22,19 @@ use subset_layers::Cell;
 /// More nodes than any order of 16 functions of 16 variables has.
 const NO_BOUND: u32 = 1 << 20;
 
-/// So many entries of truth tables at most make a problem small.
+/// A problem of more variables has sets that a bound and symmetric variables leave out.
+const MOST_INPUTS: u8 = 10;
+
+/// Of more entries of truth tables the layers' numbering is the faster one.
 const MOST_ENTRIES: usize = 1 << 13;
 
-/// Whether the truth tables of a problem are small.
+/// Whether a problem is so small that this search is the faster one.
 pub fn is_small(problem: &Problem) -> bool
-    ensures { IsTrue result ↔ (outputs_of problem.now * 2 ^ problem.now.inputs ≤ 2 ^ 13) }
+    ensures { IsTrue result ↔ ((problem.now.inputs ≤ 10)
+        × (outputs_of problem.now * 2 ^ problem.now.inputs ≤ 2 ^ 13)) }
 {
-    (problem.outputs() as usize) << problem.inputs() <= MOST_ENTRIES
+    let inputs = problem.inputs();
+    inputs <= MOST_INPUTS && (problem.outputs() as usize) << inputs <= MOST_ENTRIES
 }
 
 /// What a search without a bound is for.

@@ -1,4 +1,4 @@
-use Rattle.std.proofs.Common.{◌≡◌, ap, sym, ◌∙◌, length}
+use Rattle.std.proofs.Common.{◌≡◌, ap, sym, subst, ◌∙◌, length}
 use Rattle.std.proofs.lemmas.List.FromFn.{length-range_with_len}
 use Rattle.std.proofs.lemmas.Bool.Decides.{Decides-eqb}
 use Rattle.std.proofs.lemmas.Slice.Eq.{slice_eq-Decides}
@@ -6,10 +6,14 @@ use Rattle.order_model.specs.Levels.{level_counts}
 use Rattle.order_model.specs.Orders.{variables}
 use Rattle.pla_reader.specs.Covers.{functions_of}
 use Rattle.report.proofs.Leveled.{counts_read}
+use Rattle.order_model.specs.Orders.{IsOrder}
+use Rattle.order_model.proofs.Lists.Accepted.{order_variables}
 use Rattle.report.proofs.diagrams.file_order_levels_of.Goals as goal
 
-pub build-requires-clause-order : goal.build-requires-clause-order
-build-requires-clause-order g c κs within = ap length c.in_ok-order.ensures ∙ length-range_with_len 0 c.inputs.result ∙ c.inputs.ensures.value
+pub diagram_under-requires-clause-order : goal.diagram_under-requires-clause-order
+diagram_under-requires-clause-order g c κs within =
+    subst (IsOrder c.args.instance.now.cover.now.inputs) (sym (c.in_ok-order.ensures ∙ ap (λ k. variables k) c.inputs.ensures.value))
+    (order_variables c.args.instance.now.cover.now.inputs)
 
 pub returns-then-eq-clause-counts : goal.returns-then-eq-clause-counts
 returns-then-eq-clause-counts g c =
@@ -27,7 +31,7 @@ returns-clause-counts g c =
     let cover = c.args.instance.now.cover.now in
     let read = counts_read cover.inputs (functions_of cover) c.in_ok-order.order c.in_ok-levels-2.levels.items
     c.in_ok-diagram.diagram.graph
-    (rw (← c.in_ok-diagram.ensures.diagram.order) c.in_ok-levels-2.ensures.long)
-    (rw (← c.in_ok-diagram.ensures.diagram.order) c.in_ok-levels-2.ensures.counts)
-    c.in_ok-diagram.ensures.diagram.levels in
+    (rw (← c.in_ok-diagram.ensures.order) c.in_ok-levels-2.ensures.long)
+    (rw (← c.in_ok-diagram.ensures.order) c.in_ok-levels-2.ensures.counts)
+    c.in_ok-diagram.ensures.levels in
     read ∙ ap (level_counts cover.inputs (functions_of cover)) (c.in_ok-order.ensures ∙ ap (λ k. variables k) c.inputs.ensures.value)
