@@ -1,8 +1,8 @@
--- The bound of all nodes is half of a store.
+-- The bound of all nodes is about half of a store's places.
 use Rattle.std.proofs.Common.{◌≡◌, ℕ, zero, suc, ◌<◌, ◌≤◌, true, false, Bool, nat_lt, ◌&&◌, refl, subst, arith, ⊎_elim, le-ltb}
 use Rattle.std.proofs.lemmas.Bool.{cases_lt}
 use Rattle.dd_builder.specs.Subfunctions.{most_nodes, MostNodesFit}
-use Rattle.dd_builder.proofs.Ranks.{more_above}
+use Rattle.dd_builder.proofs.LevelBounds.{more_above}
 
 -- with 16 outputs
 abbrev fits : ℕ → Bool

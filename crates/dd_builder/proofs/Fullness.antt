@@ -1,7 +1,8 @@
 -- The only session of a store, if it made nodes of subfunctions alone, knows no full store.
 use Rattle.std.proofs.Common.{◌≡◌, ◌≢◌, ℕ, ◌+◌, ◌^◌, ◌<◌, ◌≤◌, length, get_or, sym, ap, ◌∙◌, subst, arith}
-use Rattle.order_model.specs.Functions.{SameFunction}
-use Rattle.order_model.specs.Problems.{outputs_of}
+use Rattle.std.proofs.lemmas.List.{length-map}
+use Rattle.order_model.specs.Functions.{SameFunction, from_table}
+use Rattle.order_model.specs.Problems.{functions}
 use Rattle.node_words.specs.Nodes.{AreNodeWords, AreUnequal, level_of, low_of, high_of}
 use Rattle.node_words.specs.Meaning.{function_of}
 use Rattle.node_words.proofs.Making.{word_level, word_low, word_high, makes}
@@ -19,6 +20,7 @@ use Rattle.dd_builder.specs.Building.{KnowsFull}
 use Rattle.dd_builder.specs.Parts.{IsShareOf, halved, MayBeFull}
 use Rattle.dd_builder.specs.Subfunctions.{IsSubfunction, IsOfSubfunction, MadeSubfunctions}
 use Rattle.dd_builder.proofs.Halves.{halved_none}
+use Rattle.dd_builder.proofs.LevelBounds.{size_few}
 use Rattle.dd_builder.proofs.Ranks.{few}
 use Rattle.dd_builder.proofs.Bound.{most_fit}
 
@@ -61,10 +63,12 @@ module _ (s : Knowledge) (plan : IsPlan s.store.plan) (nodes : AreNodeWords (lev
 
   pub never_full : MadeAll s → IsAlone s → MadeSubfunctions s → KnowsFull s → ⊥
   never_full made alone subs full =
-      let a = few (order_of s.store.plan) s.store.plan.problem.value s.seen s.store.plan.places plan.order.order nodes unequal
+      let t = s.store.plan.problem.value in
+      let a = few (order_of s.store.plan) t s.seen plan.order.order nodes unequal s.store.plan.places
       (λ p there. function_is p there (subs (get_or s.seen p 0) (made alone p there))) full in
-      let b = most_fit (levels_of s.store.plan) (outputs_of s.store.plan.problem.value) plan.order.few plan.few_outputs in
-      let c = plan.places in omega (arith, a, b, c)
+      let z = size_few (levels_of s.store.plan) (functions t) (order_of s.store.plan) plan.order.order in
+      let b = most_fit (levels_of s.store.plan) (length (functions t)) plan.order.few (omega (arith, plan.few_outputs, length-map t.tables from_table)) in
+      let c = plan.places in omega (arith, a, z, b, c)
 
 stays_alone : (from s : Knowledge) → IsNoLess (halved 0 from.stake) s.stake → IsAlone from → IsAlone s
 stays_alone from s more alone = stays_whole from.stake s.stake (subst (λ (z : Stake). IsNoLess z s.stake) (halved_none from.stake) more) alone

@@ -9,6 +9,7 @@ pub mod Ends
 pub mod Unions
 pub mod Covers
 pub mod Counting
+pub mod LevelBounds
 pub mod Ranks
 pub mod Bound
 pub mod Keeping

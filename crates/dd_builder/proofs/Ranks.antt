@@ -1,305 +1,285 @@
--- Nodes of subfunctions, numbered: on the last three levels by the numbers of their children, else by an output and a path.
-use Rattle.std.proofs.Common.{◌≡◌, ◌≢◌, ℕ, zero, suc, ◌+◌, ◌-◌, ◌*◌, ◌^◌, ◌<◌, ◌≤◌, ◌⊎◌, inl, inr, nat_lt, if◌then◌else◌, List, length, take, get_or, sym, ap, ◌∙◌, subst, ⊎_elim, arith, mul-le-mul_right, lt-ltb, le-ltb}
-use Rattle.std.proofs.lemmas.Nat.{pow-add, pow_pos}
-use Rattle.std.proofs.lemmas.Bool.{cases_lt}
-use Rattle.order_model.specs.Functions.{SameFunction}
-use Rattle.order_model.specs.Orders.{IsOrder}
-use Rattle.order_model.specs.Problems.{TruthTables, outputs_of}
-use Rattle.node_words.specs.Nodes.{IsNode, AreNodeWords, AreUnequal, IsKnown, node_word, level_of, low_of, high_of}
+-- Filled places of nodes that denote subfunctions are no more than the size of the order: each is numbered by its level, and on the level
+-- by the place of its function's truth table among those that are counted there.
+use Rattle.std.proofs.Common.{◌≡◌, ◌≢◌, ℕ, zero, suc, ◌+◌, ◌-◌, ◌/◌, ◌<◌, ◌≤◌, inl, inr, Bool, true, false, not, cond, ◌||◌, nat_eq, eqb, List, [], ◌∷◌, ◌++◌, map, length, take, drop, get_or, set, replicate, refl, sym, ap, ◌∙◌, subst, ⊎_elim, arith, zero-add}
+use Rattle.std.specs.Int.{bit_at}
+use Rattle.std.specs.List.{filter, take_while}
+use Rattle.std.specs.Set.{is_member, unique_keys, distinct_count}
+use Rattle.std.proofs.lemmas.Bool.{cases_lt, cases_Bool, false≢true, true≢false, false_from_ne_true}
+use Rattle.std.proofs.lemmas.List.{length-set, length-take, length-replicate, get_or-set_same, get_or-set_other, set-get_or}
+use Rattle.std.proofs.lemmas.List.FromFn.{get_or-map-range_with_len}
+use Rattle.order_model.specs.Functions.{Point, Function, bit, from_table, restrict, SameFunction, table, depends, same_table}
+use Rattle.order_model.specs.Orders.{has, place_in, IsOrder}
+use Rattle.order_model.specs.Levels.{subfunctions, reach, dependents, level_count, level_counts, size_under}
+use Rattle.order_model.specs.Problems.{TruthTables, functions, table_at}
+use Rattle.order_model.proofs.Functions.Tables.{table_same, same_from_table, same_table_decides, depends_same, depends_no}
+use Rattle.order_model.proofs.Functions.Exchange.{mix, mix_is, Below, below_from_has, fixing_reached}
+use Rattle.order_model.proofs.Lists.Orders.{has_append, has_at, place_at, place_small}
+use Rattle.order_model.proofs.Lists.Sets.{Among, among_filter, among_map, among_flat_map, among_from_member, count_mono, nat_decides}
+use Rattle.order_model.proofs.Widths.ClassPairs.{before, before_here, before_next, not_among_before, rank_apart}
+use Rattle.node_words.specs.Nodes.{AreNodeWords, AreUnequal, IsKnown, level_of}
 use Rattle.node_words.specs.Meaning.{depth, function_of}
-use Rattle.node_words.proofs.Meaning.{choose_n, refuse_n, depth_terminal, depth_node, known_low, known_high}
-use Rattle.node_words.proofs.Functions.{depth_below, same_ids}
-use Rattle.unique_table.specs.Plans.{output_at, fixed}
-use Rattle.dd_builder.specs.Subfunctions.{IsSubfunction, AreSubfunctions, dependent, most_on, most_above, most_nodes}
-use Rattle.dd_builder.proofs.Counting.{three, at_most, parts_same, parts_small, pair, pair_small, pair_same}
+use Rattle.node_words.proofs.Meaning.{depth_node, no_higher}
+use Rattle.node_words.proofs.Functions.{point_along, length-point_along, value_at, same_ids}
+use Rattle.unique_table.specs.Plans.{output_at}
+use Rattle.dd_builder.specs.Subfunctions.{IsSubfunction, AreSubfunctions}
+use Rattle.dd_builder.proofs.Counting.{three, at_most}
+use Rattle.dd_builder.proofs.LevelBounds.{sum_below, sum_next, split_at, rest_alone}
+use Rattle.dd_builder.proofs.Restricting.{IsApart, laid, fixed_laid, length-laid, laid_apart, get_or_take}
 
--- how many ids there may be from the k-th last level on
-abbrev tail : ℕ → ℕ
-tail k = 2 ^ 2 ^ k
+-- ---- places among distinct elements
 
-tail_square : (k : ℕ) → tail (suc k) ≡ tail k * tail k
-tail_square k = ap (λ z. 2 ^ z) twice ∙ pow-add 2 (2 ^ k) (2 ^ k)
+module _ {K : Type 0} (eq : K → K → Bool) (decides : (x y : K) → (eq x y ≡ true → x ≡ y) × (x ≡ y → eq x y ≡ true)) where
+  among_before : (ts : List K) (t x : K) → Among x (before eq decides ts t) → Among x ts
+  unfolding before
+  among_before [] t x h = h
+  among_before (w ∷ ts) t x h =
+      elim (cases_Bool (eq t w)) [
+        | inl e ↦ absurd (subst (Among x) (before_here eq decides w ts t e) h)
+        | inr e ↦ elim (subst (Among x) (before_next eq decides w ts t e) h) [ inl s ↦ inl s | inr a ↦ inr (among_before ts t x a) ]
+      ]
+
+  -- how many distinct elements come before one
+  abbrev place_of : List K → K → ℕ
+  place_of ts t = distinct_count eq (take_while (λ v. not (eq t v)) ts)
+
+  place_of_small : (ts : List K) (t : K) → Among t ts → place_of ts t < distinct_count eq ts
+  unfolding before
+  place_of_small ts t m =
+      let new : is_member eq (before eq decides ts t) t ≡ false =
+      false_from_ne_true _ (λ r. not_among_before eq decides ts t (among_from_member eq decides (before eq decides ts t) t r)) in
+      let c = count_mono eq decides (t ∷ before eq decides ts t) ts
+      (λ x h. elim h [ inl e ↦ subst (λ z. Among z ts) (sym e) m | inr a ↦ among_before ts t x a ]) in
+      omega (arith, c, ap (λ b. length (cond b (unique_keys eq (before eq decides ts t)) (t ∷ unique_keys eq (before eq decides ts t)))) new)
+
+-- ---- functions with variables fixed
+
+apart_from_has : (xs : List ℕ) (y : ℕ) → has xs y ≡ false → IsApart y xs
+apart_from_has [] y h = tt
+apart_from_has (x ∷ xs) y h = at (nat_eq y x) refl (apart_from_has xs y)
   where
-    twice : 2 ^ suc k ≡ 2 ^ k + 2 ^ k
-    twice = omega arith
+    at : (c : Bool) → nat_eq y x ≡ c → (has xs y ≡ false → IsApart y xs) → IsApart y (x ∷ xs)
+    at true s rest = absurd (true≢false ((λ i. sym s i || has xs y) ∙ h))
+    at false s rest = ((λ e. true≢false (sym ((nat_decides y x).1 e) ∙ s)), rest ((λ i. sym s i || has xs y) ∙ h))
 
--- a number, itself times itself, and that times one less
-square : (q : ℕ) → 0 < q → q + q * (q - 1) ≡ q * q
-square zero some = absurd (omega arith)
-square (suc q) some = grind arith
+-- a variable that is set has its bit of the path
+laid_in : (xs : List ℕ) (v y : ℕ) (p q : Point) → has xs y ≡ true → y < length p → y < length q → bit (laid xs v p) y ≡ bit (laid xs v q) y
+laid_in [] v y p q h lp lq = absurd (false≢true h)
+laid_in (x ∷ xs) v y p q h lp lq = at (has xs y) refl (λ e. laid_in xs (v / 2) y (set p x b) (set q x b) e
+    (let l = length-set p x b in omega (arith, l, lp)) (let l = length-set q x b in omega (arith, l, lq)))
+  where
+    b : Bool
+    b = eqb (bit_at v 0) 1
 
-tail_next : (k : ℕ) → tail (suc k) ≡ tail k + tail k * (tail k - 1)
-tail_next k = tail_square k ∙ sym (square (tail k) (pow_pos (2 ^ k)))
+    here : (c : Bool) → nat_eq y x ≡ c → has xs y ≡ false → y ≡ x
+    here true s e = (nat_decides y x).0 s
+    here false s e = absurd (false≢true ((λ i. sym s i || sym e i) ∙ h))
 
-dependent_is : (k : ℕ) → dependent (suc k) ≡ tail k * (tail k - 1)
-dependent_is k = grind (arith, tail, tail_next)
+    own : (r : Point) → y < length r → y ≡ x → bit (set r x b) y ≡ b
+    own r l is = subst (λ z. bit (set r x b) z ≡ b) (sym is) (get_or-set_same r x b false (omega (arith, l, is)))
 
-module _ (n : ℕ) (ws : List ℕ) (nodes : AreNodeWords n ws) (unequal : AreUnequal ws) where
-  abbrev word : ℕ → ℕ
-  word id = get_or ws (id - 2) 0
+    at : (c : Bool) → has xs y ≡ c → (has xs y ≡ true → bit (laid xs (v / 2) (set p x b)) y ≡ bit (laid xs (v / 2) (set q x b)) y) →
+        bit (laid xs (v / 2) (set p x b)) y ≡ bit (laid xs (v / 2) (set q x b)) y
+    at true e rest = rest e
+    at false e rest = let is = here (nat_eq y x) refl e in let away = apart_from_has xs y e in
+        laid_apart xs (v / 2) y (set p x b) away ∙ (own p lp is ∙ (sym (own q lq is) ∙ sym (laid_apart xs (v / 2) y (set q x b) away)))
 
-  -- an id's number among those from the k-th last level on
-  abbrev rank : ℕ → ℕ → ℕ
-  rank zero id = id
-  rank (suc k) id =
-      if nat_lt (depth n ws id + k) n then tail k + pair (tail k) (rank k (low_of (word id))) (rank k (high_of (word id))) else rank k id
+laid_mix : (n : ℕ) (xs : List ℕ) (v : ℕ) (p : Point) → length p ≡ n → laid xs v p ≡ mix n xs (laid xs v (replicate n false)) p
+laid_mix n xs v p l = mix_is n xs (laid xs v zeros) p (laid xs v p) (length-laid xs v p ∙ l) (λ y low. at y low (has xs y) refl)
+  where
+    zeros : Point
+    zeros = replicate n false
 
-  rank_high : (k id : ℕ) → depth n ws id + k < n → rank (suc k) id ≡ tail k + pair (tail k) (rank k (low_of (word id))) (rank k (high_of (word id)))
-  rank_high k id less = choose_n (nat_lt (depth n ws id + k) n) (tail k + pair (tail k) (rank k (low_of (word id))) (rank k (high_of (word id))))
-      (rank k id) (lt-ltb (depth n ws id + k) n less)
+    at : (y : ℕ) → y < n → (c : Bool) → has xs y ≡ c → bit (laid xs v p) y ≡ cond c (bit (laid xs v zeros) y) (bit p y)
+    at y low true e = laid_in xs v y p zeros e (omega (arith, l, low)) (let r = length-replicate n false in omega (arith, r, low))
+    at y low false e = laid_apart xs v y p (apart_from_has xs y e)
 
-  rank_deep : (k id : ℕ) → n ≤ depth n ws id + k → rank (suc k) id ≡ rank k id
-  rank_deep k id more = refuse_n (nat_lt (depth n ws id + k) n) (tail k + pair (tail k) (rank k (low_of (word id))) (rank k (high_of (word id))))
-      (rank k id) (le-ltb (depth n ws id + k) n more)
-
-  record IsDeep (k id : ℕ) : Type 0 where
-    known : IsKnown ws id
-    deep : n ≤ depth n ws id + k
-
-  node_of : (id : ℕ) → IsKnown ws id → depth n ws id < n → 2 ≤ id
-  node_of id known less = grind (arith, ⊎_elim, depth_terminal, cases_lt)
-
-  terminal_of : (id : ℕ) → IsDeep 0 id → id < 2
-  terminal_of id d = grind (arith, ⊎_elim, depth_node, cases_lt)
-
-  module _ (k id : ℕ) (known : IsKnown ws id) (two : 2 ≤ id) (far : n ≤ depth n ws id + suc k) where
-    is_node : IsNode n ws (word id)
-    is_node = nodes (id - 2) (known two)
-
-    low_deep : IsDeep k (low_of (word id))
-    low_deep = record {
-      known = known_low n ws nodes id two known;
-      deep = let e = depth_node n ws id two in let b = depth_below n ws (level_of (word id)) (low_of (word id)) is_node.level is_node.low in
-          omega (arith, e, b, far);
-    }
-
-    high_deep : IsDeep k (high_of (word id))
-    high_deep = record {
-      known = known_high n ws nodes id two known;
-      deep = let e = depth_node n ws id two in let b = depth_below n ws (level_of (word id)) (high_of (word id)) is_node.level is_node.high in
-          omega (arith, e, b, far);
-    }
-
-  -- words of one level and equal children stand at one place
-  same_place : (p q : ℕ) → get_or ws p 0 ≢ 0 → get_or ws q 0 ≢ 0 → level_of (get_or ws p 0) ≡ level_of (get_or ws q 0)
-      → low_of (get_or ws p 0) ≡ low_of (get_or ws q 0) → high_of (get_or ws p 0) ≡ high_of (get_or ws q 0) → p ≡ q
-  same_place p q full full' level low high =
-      unequal p q full ((nodes p full).word ∙ ((λ i. node_word (level i) (low i) (high i)) ∙ sym (nodes q full').word))
-
-  -- such numbers are small, and one id has one
-  record IsRanked (k : ℕ) : Type 0 where
-    small : (id : ℕ) → IsDeep k id → rank k id < tail k
-    once : (a b : ℕ) → IsDeep k a → IsDeep k b → rank k a ≡ rank k b → a ≡ b
-
-  module _ (k : ℕ) (r : IsRanked k) (id : ℕ) (known : IsKnown ws id) (two : 2 ≤ id) (far : n ≤ depth n ws id + suc k) where
-    low_small : rank k (low_of (word id)) < tail k
-    low_small = r.small (low_of (word id)) (low_deep k id known two far)
-
-    high_small : rank k (high_of (word id)) < tail k
-    high_small = r.small (high_of (word id)) (high_deep k id known two far)
-
-    ranks_unequal : rank k (low_of (word id)) ≢ rank k (high_of (word id))
-    ranks_unequal e = (is_node k id known two far).unequal
-        (r.once (low_of (word id)) (high_of (word id)) (low_deep k id known two far) (high_deep k id known two far) e)
-
-    children_small : pair (tail k) (rank k (low_of (word id))) (rank k (high_of (word id))) < tail k * (tail k - 1)
-    children_small = pair_small (tail k) (rank k (low_of (word id))) (rank k (high_of (word id))) low_small high_small ranks_unequal
-
-  -- nodes of one of the last levels whose children have equal numbers
-  children_once : (k : ℕ) → IsRanked k → (a b : ℕ) → IsKnown ws a → IsKnown ws b → 2 ≤ a → 2 ≤ b → n ≤ depth n ws a + suc k → n ≤ depth n ws b + suc k
-      → depth n ws a ≡ depth n ws b → pair (tail k) (rank k (low_of (word a))) (rank k (high_of (word a))) ≡
-      pair (tail k) (rank k (low_of (word b))) (rank k (high_of (word b))) → a ≡ b
-  children_once k r a b ka kb ta tb fa fb level e =
-      let s = pair_same (tail k) (rank k (low_of (word a))) (rank k (high_of (word a))) (rank k (low_of (word b))) (rank k (high_of (word b)))
-      (low_small k r a ka ta fa) (high_small k r a ka ta fa) (ranks_unequal k r a ka ta fa)
-      (low_small k r b kb tb fb) (high_small k r b kb tb fb) (ranks_unequal k r b kb tb fb) e in
-      let place = same_place (a - 2) (b - 2) (ka ta) (kb tb) (sym (depth_node n ws a ta) ∙ (level ∙ depth_node n ws b tb))
-      (r.once (low_of (word a)) (low_of (word b)) (low_deep k a ka ta fa) (low_deep k b kb tb fb) s.0)
-      (r.once (high_of (word a)) (high_of (word b)) (high_deep k a ka ta fa) (high_deep k b kb tb fb) s.1) in
-      omega (arith, place, ta, tb)
-
-  ranked : (k : ℕ) → IsRanked k
-  ranked zero = record { small = λ id d. terminal_of id d; once = λ a b da db e. e }
-  ranked (suc k) = let r = ranked k in record {
-    small = λ id d. ⊎_elim
-        (λ (here : depth n ws id + k < n). let two = node_of id d.known (omega (arith, here)) in
-        let e = rank_high k id here in let s = children_small k r id d.known two d.deep in let t = tail_next k in omega (arith, e, s, t))
-        (λ (deep : n ≤ depth n ws id + k). let e = rank_deep k id deep in let s = r.small id record { known = d.known; deep = deep } in
-        let t = tail_next k in omega (arith, e, s, t))
-        (cases_lt (depth n ws id + k) n);
-    once = λ a b da db e. ⊎_elim
-        (λ (here : depth n ws a + k < n). ⊎_elim
-        (λ (here' : depth n ws b + k < n). let far = da.deep in let far' = db.deep in
-        children_once k r a b da.known db.known (node_of a da.known (omega (arith, here))) (node_of b db.known (omega (arith, here'))) far far'
-        (omega (arith, here, here', far, far')) (let x = rank_high k a here in let y = rank_high k b here' in omega (arith, x, y, e)))
-        (λ (deep' : n ≤ depth n ws b + k). let x = rank_high k a here in let y = rank_deep k b deep' in
-        let s = r.small b record { known = db.known; deep = deep' } in absurd (omega (arith, x, y, s, e)))
-        (cases_lt (depth n ws b + k) n))
-        (λ (deep : n ≤ depth n ws a + k). let x = rank_deep k a deep in let s = r.small a record { known = da.known; deep = deep } in ⊎_elim
-        (λ (here' : depth n ws b + k < n). let y = rank_high k b here' in absurd (omega (arith, x, y, s, e)))
-        (λ (deep' : n ≤ depth n ws b + k). r.once a b record { known = da.known; deep = deep } record { known = db.known; deep = deep' }
-        (sym x ∙ (e ∙ rank_deep k b deep')))
-        (cases_lt (depth n ws b + k) n))
-        (cases_lt (depth n ws a + k) n);
-  }
-
-  -- ---- a node's number on its level
-
-  abbrev by_children : ℕ → ℕ → ℕ
-  by_children k w = pair (tail k) (rank k (low_of w)) (rank k (high_of w))
-
-  abbrev on_level : ℕ → ℕ → ℕ → ℕ → ℕ
-  on_level level w output path = if nat_lt (n - level) 4 then by_children (n - level - 1) w else output * 2 ^ level + path
-
-  level_late : (level w output path : ℕ) → n - level < 4 → on_level level w output path ≡ by_children (n - level - 1) w
-  level_late level w output path late =
-      choose_n (nat_lt (n - level) 4) (by_children (n - level - 1) w) (output * 2 ^ level + path) (lt-ltb (n - level) 4 late)
-
-  level_early : (level w output path : ℕ) → 4 ≤ n - level → on_level level w output path ≡ output * 2 ^ level + path
-  level_early level w output path early =
-      refuse_n (nat_lt (n - level) 4) (by_children (n - level - 1) w) (output * 2 ^ level + path) (le-ltb (n - level) 4 early)
-
-  most_late : (m level : ℕ) → n - level < 4 → level < n → most_on n m level ≡ tail (n - level - 1) * (tail (n - level - 1) - 1)
-  most_late m level late inside =
-      choose_n (nat_lt (n - level) 4) (dependent (n - level)) (m * 2 ^ level) (lt-ltb (n - level) 4 late)
-      ∙ (ap dependent (omega (arith, inside)) ∙ dependent_is (n - level - 1))
-
-  most_early : (m level : ℕ) → 4 ≤ n - level → most_on n m level ≡ m * 2 ^ level
-  most_early m level early = refuse_n (nat_lt (n - level) 4) (dependent (n - level)) (m * 2 ^ level) (le-ltb (n - level) 4 early)
-
-  module _ (p : ℕ) (full : get_or ws p 0 ≢ 0) where
-    id_known : IsKnown ws (p + 2)
-    id_known two e = full (ap (λ z. get_or ws z 0) back ∙ e)
-      where
-        back : p ≡ p + 2 - 2
-        back = omega arith
-
-    id_word : word (p + 2) ≡ get_or ws p 0
-    id_word = ap (λ z. get_or ws z 0) back
-      where
-        back : p + 2 - 2 ≡ p
-        back = omega arith
-
-    id_depth : depth n ws (p + 2) ≡ level_of (get_or ws p 0)
-    id_depth = depth_node n ws (p + 2) (omega arith) ∙ ap level_of id_word
-
-    id_far : n ≤ depth n ws (p + 2) + suc (n - level_of (get_or ws p 0) - 1)
-    id_far = let e = id_depth in let l = (nodes p full).level in omega (arith, e, l)
-
-  on_level_small : (p m output path : ℕ) → (full : get_or ws p 0 ≢ 0) → output < m → path < 2 ^ level_of (get_or ws p 0)
-      → on_level (level_of (get_or ws p 0)) (get_or ws p 0) output path < most_on n m (level_of (get_or ws p 0))
-  on_level_small p m output path full few short = let level : ℕ = level_of (get_or ws p 0) in let k : ℕ = n - level - 1 in ⊎_elim
-      (λ (late : n - level < 4). let x = level_late level (get_or ws p 0) output path late in let y = most_late m level late (nodes p full).level in
-      let s : by_children k (get_or ws p 0) < tail k * (tail k - 1) =
-      subst (λ z. by_children k z < tail k * (tail k - 1)) (id_word p full)
-      (children_small k (ranked k) (p + 2) (id_known p full) (omega arith) (id_far p full)) in
-      omega (arith, x, y, s))
-      (λ (early : 4 ≤ n - level). let x = level_early level (get_or ws p 0) output path early in let y = most_early m level early in
-      let s = parts_small (2 ^ level) m output path few short in omega (arith, x, y, s))
-      (cases_lt (n - level) 4)
-
-  -- nodes of one level with one number are one node, or denote the same output along the same path
-  on_level_once : (p q output path output' path' : ℕ) → (full : get_or ws p 0 ≢ 0) → (full' : get_or ws q 0 ≢ 0)
-      → path < 2 ^ level_of (get_or ws p 0) → path' < 2 ^ level_of (get_or ws p 0) → level_of (get_or ws p 0) ≡ level_of (get_or ws q 0)
-      → on_level (level_of (get_or ws p 0)) (get_or ws p 0) output path ≡ on_level (level_of (get_or ws p 0)) (get_or ws q 0) output' path'
-      → (p ≡ q) ⊎ ((output ≡ output') × (path ≡ path'))
-  on_level_once p q output path output' path' full full' short short' same e = let level : ℕ = level_of (get_or ws p 0) in let k : ℕ = n - level - 1 in ⊎_elim
-      (λ (late : n - level < 4). inl
-      (let x = level_late level (get_or ws p 0) output path late in let y = level_late level (get_or ws q 0) output' path' late in
-      let far' : n ≤ depth n ws (q + 2) + suc k =
-      subst (λ z. n ≤ depth n ws (q + 2) + suc (n - z - 1)) (sym same) (id_far q full') in
-      let ids = children_once k (ranked k) (p + 2) (q + 2) (id_known p full) (id_known q full') (omega arith) (omega arith) (id_far p full) far'
-      (id_depth p full ∙ (same ∙ sym (id_depth q full')))
-      (ap (by_children k) (id_word p full) ∙ (sym x ∙ (e ∙ (y ∙ sym (ap (by_children k) (id_word q full')))))) in
-      omega (arith, ids)))
-      (λ (early : 4 ≤ n - level). inr
-      (let x = level_early level (get_or ws p 0) output path early in let y = level_early level (get_or ws q 0) output' path' early in
-      parts_same (2 ^ level) output path output' path' short short' (sym x ∙ (e ∙ y))))
-      (cases_lt (n - level) 4)
+among_at : {X Y : Type 0} (f : X → Y) (xs : List X) (d : X) (j : ℕ) → j < length xs → Among (f (get_or xs j d)) (map f xs)
+among_at f [] d j low = absurd (omega arith)
+among_at f (x ∷ xs) d zero low = inl refl
+among_at f (x ∷ xs) d (suc j) low = inr (among_at f xs d j (omega arith))
 
 -- ---- levels, one after the other
 
-above_rises : (n m a b : ℕ) → a ≤ b → most_above n m a ≤ most_above n m b
-above_rises n m a zero low = grind arith
-above_rises n m a (suc b) low = ⊎_elim
-    (λ (less : a < suc b). let r = above_rises n m a b (omega (arith, less)) in omega (arith, r))
-    (λ (more : suc b ≤ a). let same : suc b ≡ a = omega (arith, low, more) in subst (λ z. most_above n m z ≤ most_above n m (suc b)) same (omega arith))
+rises : (f : ℕ → ℕ) (a b : ℕ) → a ≤ b → sum_below f a ≤ sum_below f b
+rises f a zero low = let e : a ≡ 0 = omega arith in subst (λ z. sum_below f z ≤ sum_below f 0) (sym e) (omega arith)
+rises f a (suc b) low = ⊎_elim
+    (λ (less : a < suc b). let r = rises f a b (omega (arith, less)) in let s = sum_next f b in omega (arith, r, s))
+    (λ (more : suc b ≤ a). let same : suc b ≡ a = omega (arith, low, more) in subst (λ z. sum_below f z ≤ sum_below f (suc b)) same (omega arith))
     (cases_lt a (suc b))
 
 -- numbers of two levels differ
-levels_same : (n m i j c d : ℕ) → c < most_on n m i → d < most_on n m j → most_above n m i + c ≡ most_above n m j + d → i ≡ j
-levels_same n m i j c d small small' e = ⊎_elim
-    (λ (less : i < j). let r = above_rises n m (suc i) j less in absurd (omega (arith, r, small, e)))
+levels_same : (f : ℕ → ℕ) (i j c d : ℕ) → c < f i → d < f j → sum_below f i + c ≡ sum_below f j + d → i ≡ j
+levels_same f i j c d small small' e = ⊎_elim
+    (λ (less : i < j). let r = rises f (suc i) j less in let s = sum_next f i in absurd (omega (arith, r, s, small, e)))
     (⊎_elim
     (λ (same : i ≡ j). same)
-    (λ (less : j < i). let r = above_rises n m (suc j) i less in absurd (omega (arith, r, small', e))))
+    (λ (less : j < i). let r = rises f (suc j) i less in let s = sum_next f j in absurd (omega (arith, r, s, small', e))))
     (three i j)
 
-module _ (order : List ℕ) (t : TruthTables) (ws : List ℕ) (count : ℕ) (is : IsOrder (length order) order) (nodes : AreNodeWords (length order) ws)
-    (unequal : AreUnequal ws) (subs : AreSubfunctions order t ws) (full : (p : ℕ) → p < count → get_or ws p 0 ≢ 0) where
+module _ (order : List ℕ) (t : TruthTables) (ws : List ℕ) (is : IsOrder (length order) order) (nodes : AreNodeWords (length order) ws)
+    (unequal : AreUnequal ws) where
   abbrev n : ℕ
   n = length order
 
-  abbrev m : ℕ
-  m = outputs_of t
+  -- the truth tables that are counted on a level
+  abbrev tables_on : ℕ → List (List Bool)
+  tables_on l = map (table n) (filter (λ f. depends n f (get_or order l 0)) (reach (functions t) (take l order)))
 
-  abbrev level_at : ℕ → ℕ
-  level_at p = level_of (get_or ws p 0)
+  count_is : (l : ℕ) → level_count n (functions t) order l ≡ distinct_count same_table (tables_on l)
+  unfolding level_count dependents
+  count_is l = refl
 
-  abbrev sub_at : (p : ℕ) → p < count → IsSubfunction order t (level_at p) (function_of order ws (p + 2))
-  sub_at p low = subs p (full p low)
+  module _ (p : ℕ) (full : get_or ws p 0 ≢ 0) (s : IsSubfunction order t (level_of (get_or ws p 0)) (function_of order ws (p + 2))) where
+    abbrev level : ℕ
+    level = level_of (get_or ws p 0)
 
-  abbrev local : (p : ℕ) → p < count → ℕ
-  local p low = on_level n ws nodes unequal (level_at p) (get_or ws p 0) (sub_at p low).output (sub_at p low).path
+    abbrev denoted : Function
+    denoted = function_of order ws (p + 2)
 
-  local_small : (p : ℕ) (low : p < count) → local p low < most_on n m (level_at p)
-  local_small p low =
-      let s = sub_at p low in on_level_small n ws nodes unequal p m s.output s.path (full p low) s.is_output s.is_path
+    abbrev x : ℕ
+    x = get_or order level 0
 
-  abbrev numbered : (p : ℕ) → p < count → ℕ
-  numbered p low = most_above n m (level_at p) + local p low
+    back : p + 2 - 2 ≡ p
+    back = omega arith
 
-  numbered_small : (p : ℕ) (low : p < count) → numbered p low < most_nodes n m
-  numbered_small p low = let s = local_small p low in let r = above_rises n m (suc (level_at p)) n (nodes p (full p low)).level in omega (arith, s, r)
+    id_known : IsKnown ws (p + 2)
+    id_known two e = full (ap (λ z. get_or ws z 0) (sym back) ∙ e)
 
-  same_functions : (p q : ℕ) (low : p < count) (low' : q < count) → level_at p ≡ level_at q → (sub_at p low).output ≡ (sub_at q low').output →
-      (sub_at p low).path ≡ (sub_at q low').path → SameFunction n (function_of order ws (p + 2)) (function_of order ws (q + 2))
-  unfolding SameFunction
-  same_functions p q low low' level output path x l = (sub_at p low).same x l
-      ∙ ((λ i. fixed (take (level i) order) (path i) (output_at t (output i)) x) ∙ sym ((sub_at q low').same x l))
+    id_depth : depth n ws (p + 2) ≡ level
+    id_depth = depth_node n ws (p + 2) (omega arith) ∙ ap (λ z. level_of (get_or ws z 0)) back
 
-  numbered_once : (p q : ℕ) (low : p < count) (low' : q < count) → numbered p low ≡ numbered q low' → p ≡ q
-  numbered_once p q low low' e =
-      let level : level_at p ≡ level_at q =
-      levels_same n m (level_at p) (level_at q) (local p low) (local q low') (local_small p low) (local_small q low') e in
-      let here : local p low ≡ local q low' = omega (arith, ap (most_above n m) level, e) in
-      let there : local p low ≡ on_level n ws nodes unequal (level_at p) (get_or ws q 0) (sub_at q low').output (sub_at q low').path = here
-      ∙ ap (λ z. on_level n ws nodes unequal z (get_or ws q 0) (sub_at q low').output (sub_at q low').path) (sym level) in
-      ⊎_elim
-      (λ (same : p ≡ q). same)
-      (λ (s : ((sub_at p low).output ≡ (sub_at q low').output) × ((sub_at p low).path ≡ (sub_at q low').path)).
-      let ids = same_ids order ws nodes unequal (p + 2) (q + 2) is (id_known n ws nodes unequal p (full p low)) (id_known n ws nodes unequal q (full q low'))
-      (same_functions p q low low' level s.0 s.1) in
-      omega (arith, ids))
-      (on_level_once n ws nodes unequal p q (sub_at p low).output (sub_at p low).path (sub_at q low').output (sub_at q low').path (full p low) (full q low')
-      (sub_at p low).is_path (subst (λ z. (sub_at q low').path < 2 ^ z) (sym level) (sub_at q low').is_path) level there)
+    inside : level < n
+    inside = (nodes p full).level
 
-  pub few : count ≤ most_nodes n m
-  few = at_most count (most_nodes n m) numbered numbered_small numbered_once
+    split_is : IsOrder n (take level order ++ x ∷ drop (suc level) order)
+    split_is = subst (λ z. IsOrder n z) (sym (split_at order level inside)) is
 
--- ---- the bound
+    above_below : Below n (take level order)
+    above_below = below_from_has n (take level order)
+        (λ y h. (is.all y).0 (ap (λ z. has z y) (sym (split_at order level inside)) ∙ (has_append (take level order) (x ∷ drop (suc level) order) y
+        ∙ ap (λ b. b || has (x ∷ drop (suc level) order) y) h)))
 
-more_outputs : (n m level : ℕ) → m ≤ 16 → most_on n m level ≤ most_on n 16 level
-more_outputs n m level few = ⊎_elim
-    (λ (late : n - level < 4).
-    let a = choose_n (nat_lt (n - level) 4) (dependent (n - level)) (m * 2 ^ level) (lt-ltb (n - level) 4 late) in
-    let b = choose_n (nat_lt (n - level) 4) (dependent (n - level)) (16 * 2 ^ level) (lt-ltb (n - level) 4 late) in omega (arith, a, b))
-    (λ (early : 4 ≤ n - level).
-    let a = refuse_n (nat_lt (n - level) 4) (dependent (n - level)) (m * 2 ^ level) (le-ltb (n - level) 4 early) in
-    let b = refuse_n (nat_lt (n - level) 4) (dependent (n - level)) (16 * 2 ^ level) (le-ltb (n - level) 4 early) in
-    let s : m * 2 ^ level ≤ 16 * 2 ^ level = mul-le-mul_right (2 ^ level) few in omega (arith, a, b, s))
-    (cases_lt (n - level) 4)
+    -- its function is reached by the variables above
+    reached : (g : Function) × Among g (reach (functions t) (take level order)) × SameFunction n g denoted
+    unfolding reach SameFunction output_at
+    reached =
+        let f : Function = from_table (table_at t s.output) in
+        let a : Point = laid (take level order) s.path (replicate n false) in
+        let found = fixing_reached n (take level order) above_below f a in (
+          found.0,
+          among_flat_map (subfunctions (take level order)) f (functions t) found.0 (among_at from_table t.tables [] s.output s.is_output) found.1,
+          λ q l. found.2 q l ∙ (ap f (sym (laid_mix n (take level order) s.path q l)) ∙ (sym (fixed_laid (take level order) s.path f q) ∙ sym (s.same q l))),
+        )
 
-pub more_above : (n m level : ℕ) → m ≤ 16 → most_above n m level ≤ most_above n 16 level
-more_above n m zero few = omega arith
-more_above n m (suc level) few = let a = more_above n m level few in let b = more_outputs n m level few in omega (arith, a, b)
+    -- two points that agree below the level, if it doesn't depend on the level's variable
+    lower_alone : depends n denoted x ≡ false → (q r : Point) → length q ≡ n → length r ≡ n →
+        ((y : ℕ) → y < n → has (take level order) y ≡ false → y ≢ x → bit q y ≡ bit r y) → denoted q ≡ denoted r
+    unfolding SameFunction restrict
+    lower_alone none q r lq lr agree =
+        without q lq (bit q x) refl
+        ∙ (sym (reached.2 (set q x false) (length-set q x false ∙ lq))
+        ∙ (rest_alone n (functions t) (take level order) x (drop (suc level) order) split_is reached.0 reached.1 (set q x false) (set r x false)
+        (length-set q x false ∙ lq) (length-set r x false ∙ lr) (λ y low out. at y low out (nat_eq y x) refl)
+        ∙ (reached.2 (set r x false) (length-set r x false ∙ lr) ∙ sym (without r lr (bit r x) refl))))
+      where
+        without : (z : Point) → length z ≡ n → (b : Bool) → bit z x ≡ b → denoted z ≡ denoted (set z x false)
+        without z l false e = ap denoted (sym (set-get_or z x false) ∙ ap (λ b. set z x b) e)
+        without z l true e = ap denoted (sym (set-get_or z x false) ∙ ap (λ b. set z x b) e) ∙ sym (depends_no n denoted x none z l)
+
+        x_inside : x < n
+        x_inside = (is.all x).0 (has_at order level inside)
+
+        at : (y : ℕ) → y < n → has (take level order) y ≡ false → (c : Bool) → nat_eq y x ≡ c → bit (set q x false) y ≡ bit (set r x false) y
+        at y low out true e = let same = (nat_decides y x).0 e in subst (λ z. bit (set q x false) z ≡ bit (set r x false) z) (sym same)
+            (get_or-set_same q x false false (omega (arith, lq, x_inside)) ∙ sym (get_or-set_same r x false false (omega (arith, lr, x_inside))))
+        at y low out false e = let other : y ≢ x = (λ w. true≢false (sym ((nat_decides y x).1 w) ∙ e)) in
+            get_or-set_other q x y false false other ∙ (agree y low out other ∙ sym (get_or-set_other r x y false false other))
+
+    -- a variable that isn't above the level and isn't the level's has its place below
+    place_below : (y : ℕ) → y < n → has (take level order) y ≡ false → y ≢ x → suc level ≤ place_in order y
+    place_below y low out other = ⊎_elim
+        (λ (less : place_in order y < level). absurd (false≢true (sym out ∙ higher less)))
+        (λ (more : level ≤ place_in order y). ⊎_elim
+        (λ (below : level < place_in order y). omega (arith, below))
+        (λ (same : place_in order y ≤ level). absurd (other (sym there ∙ ap (λ z. get_or order z 0) (omega (arith, same, more)))))
+        (cases_lt level (place_in order y)))
+        (cases_lt (place_in order y) level)
+      where
+        short : place_in order y < length order
+        short = place_small order y ((is.all y).1 low)
+
+        there : get_or order (place_in order y) 0 ≡ y
+        there = place_at order y short
+
+        higher : place_in order y < level → has (take level order) y ≡ true
+        higher less = subst (λ z. has (take level order) z ≡ true) (get_or_take order level (place_in order y) less ∙ there)
+            (has_at (take level order) (place_in order y) (let l = length-take level order in omega (arith, l, less, short)))
+
+    -- its function depends on the level's variable
+    dependence : depends n denoted x ≡ true
+    dependence = elim (cases_Bool (depends n denoted x)) [
+      | inl e ↦ e
+      | inr none ↦ absurd (let k = no_higher n ws nodes unequal (suc level) (p + 2) id_known inside
+          (λ c d agree. value_at order ws nodes (p + 2) c is id_known
+          ∙ (lower_alone none (point_along order c) (point_along order d) (length-point_along order c) (length-point_along order d)
+          (λ y low out other. place_value c y low ∙ (agree (place_in order y) (place_below y low out other) ∙ sym (place_value d y low)))
+          ∙ sym (value_at order ws nodes (p + 2) d is id_known))) in
+          omega (arith, k, id_depth))
+    ]
+      where
+        place_value : (c : ℕ → Bool) (y : ℕ) → y < n → bit (point_along order c) y ≡ c (place_in order y)
+        place_value c y low = get_or-map-range_with_len (λ z. c (place_in order z)) 0 n y y false low (zero-add y)
+
+    there : Among (table n denoted) (tables_on level)
+    there = let g : Function = reached.0 in
+        subst (λ z. Among z (tables_on level)) (table_same n g denoted reached.2)
+        (among_map (table n) g (filter (λ f. depends n f x) (reach (functions t) (take level order)))
+        (among_filter (λ f. depends n f x) g (reach (functions t) (take level order)) reached.1
+        (depends_same n g denoted x reached.2 ∙ dependence)))
+
+    -- its number on the level
+    abbrev own : ℕ
+    own = place_of same_table same_table_decides (tables_on level) (table n denoted)
+
+    own_small : own < level_count n (functions t) order level
+    own_small = let c = count_is level in let r = place_of_small same_table same_table_decides (tables_on level) (table n denoted) there in omega (arith, c, r)
+
+  module _ (count : ℕ) (subs : AreSubfunctions order t ws) (full : (p : ℕ) → p < count → get_or ws p 0 ≢ 0) where
+    abbrev level_at : ℕ → ℕ
+    level_at p = level_of (get_or ws p 0)
+
+    abbrev local : (p : ℕ) → p < count → ℕ
+    local p low = own p (full p low) (subs p (full p low))
+
+    abbrev counts : ℕ → ℕ
+    counts = level_count n (functions t) order
+
+    local_small : (p : ℕ) (low : p < count) → local p low < counts (level_at p)
+    local_small p low = own_small p (full p low) (subs p (full p low))
+
+    abbrev numbered : (p : ℕ) → p < count → ℕ
+    numbered p low = sum_below counts (level_at p) + local p low
+
+    numbered_small : (p : ℕ) (low : p < count) → numbered p low < sum_below counts n
+    numbered_small p low = let s = local_small p low in let r = rises counts (suc (level_at p)) n (nodes p (full p low)).level in
+        let m = sum_next counts (level_at p) in omega (arith, s, r, m)
+
+    numbered_once : (p q : ℕ) (low : p < count) (low' : q < count) → numbered p low ≡ numbered q low' → p ≡ q
+    numbered_once p q low low' e =
+        let level : level_at p ≡ level_at q =
+        levels_same counts (level_at p) (level_at q) (local p low) (local q low') (local_small p low) (local_small q low') e in
+        let here : local p low ≡ local q low' = omega (arith, ap (sum_below counts) level, e) in
+        let at_q : local q low' ≡ place_of same_table same_table_decides (tables_on (level_at p)) (table n (function_of order ws (q + 2))) =
+        ap (λ l. place_of same_table same_table_decides (tables_on l) (table n (function_of order ws (q + 2)))) (sym level) in
+        let same = rank_apart same_table same_table_decides (tables_on (level_at p)) (table n (function_of order ws (p + 2)))
+        (table n (function_of order ws (q + 2))) (there p (full p low) (subs p (full p low)))
+        (subst (λ l. Among (table n (function_of order ws (q + 2))) (tables_on l)) (sym level) (there q (full q low') (subs q (full q low'))))
+        (here ∙ at_q) in
+        let ids = same_ids order ws nodes unequal (p + 2) (q + 2) is (id_known p (full p low) (subs p (full p low)))
+        (id_known q (full q low') (subs q (full q low')))
+        (same_from_table n (function_of order ws (p + 2)) (function_of order ws (q + 2)) same) in
+        omega (arith, ids)
+
+    pub few : count ≤ size_under n (functions t) order
+    unfolding size_under level_counts
+    few = at_most count (sum_below counts n) numbered numbered_small numbered_once

@@ -1,6 +1,7 @@
 -- Functions with the variables on top of an order fixed to the bits of a path.
 --     fixed_step      a function is made of the two in which one more variable is fixed
---     fixed_point      with all variables fixed it is the value at a point
+--     laid xs v p      a point with variables set to the bits of a path
+--     fixed_point      with all variables fixed a function is the value at a point
 use Rattle.std.proofs.Common.{◌≡◌, ◌≢◌, ℕ, zero, suc, ◌+◌, ◌/◌, ◌^◌, ◌<◌, Bool, true, false, cond, nat_eq, List, [], ◌∷◌, ◌++◌, length, take, get_or, set, refl, sym, ap, ◌∙◌, arith, subst, eqb}
 use Rattle.std.specs.Int.{bit_at}
 use Rattle.std.specs.List.{IsDistinct}
@@ -51,7 +52,7 @@ apart_places : (xs : List ℕ) (x : ℕ) → ((i : ℕ) → i < length xs → x 
 apart_places [] x h = tt
 apart_places (y ∷ ys) x h = (h 0 (omega arith), apart_places ys x (λ i l. h (suc i) (omega arith)))
 
-get_or_take : (xs : List ℕ) (k i : ℕ) → i < k → get_or (take k xs) i 0 ≡ get_or xs i 0
+pub get_or_take : (xs : List ℕ) (k i : ℕ) → i < k → get_or (take k xs) i 0 ≡ get_or xs i 0
 get_or_take [] zero i l = refl
 get_or_take [] (suc k) i l = refl
 get_or_take (x ∷ xs) zero i l = absurd (omega arith)
@@ -78,20 +79,20 @@ fixed_step order level v f p once inside small =
 -- ---- all variables fixed
 
 -- a point with variables set to the bits of a path
-abbrev laid : List ℕ → ℕ → Point → Point
+abbrev pub laid : List ℕ → ℕ → Point → Point
 laid [] v p = p
 laid (x ∷ xs) v p = laid xs (v / 2) (set p x (eqb (bit_at v 0) 1))
 
-fixed_laid : (xs : List ℕ) (v : ℕ) (f : Function) (p : Point) → fixed xs v f p ≡ f (laid xs v p)
+pub fixed_laid : (xs : List ℕ) (v : ℕ) (f : Function) (p : Point) → fixed xs v f p ≡ f (laid xs v p)
 unfolding fixed restrict
 fixed_laid [] v f p = refl
 fixed_laid (x ∷ xs) v f p = fixed_laid xs (v / 2) f (set p x (eqb (bit_at v 0) 1))
 
-length-laid : (xs : List ℕ) (v : ℕ) (p : Point) → length (laid xs v p) ≡ length p
+pub length-laid : (xs : List ℕ) (v : ℕ) (p : Point) → length (laid xs v p) ≡ length p
 length-laid [] v p = refl
 length-laid (x ∷ xs) v p = length-laid xs (v / 2) (set p x (eqb (bit_at v 0) 1)) ∙ length-set p x (eqb (bit_at v 0) 1)
 
-laid_apart : (xs : List ℕ) (v y : ℕ) (p : Point) → IsApart y xs → bit (laid xs v p) y ≡ bit p y
+pub laid_apart : (xs : List ℕ) (v y : ℕ) (p : Point) → IsApart y xs → bit (laid xs v p) y ≡ bit p y
 laid_apart [] v y p h = refl
 laid_apart (x ∷ xs) v y p h = laid_apart xs (v / 2) y (set p x (eqb (bit_at v 0) 1)) h.1 ∙ get_or-set_other p x y (eqb (bit_at v 0) 1) false h.0
 

@@ -2,14 +2,15 @@
 --     IsSubfunction order t level f      f is an output with the variables above a level fixed in some way
 --     AreSubfunctions order t ws      each node denotes a subfunction of its level
 --     most_on inputs outputs level, most_nodes inputs outputs      bounds for a level and for all
---     SubfunctionsAreFew, MostNodesFit      the law
+--     SizesAreFew, SubfunctionsAreFew, MostNodesFit      the laws
 --     MadeSubfunctions s, KeepsSubfunctions s s'      a session that made nodes of subfunctions alone, and one that goes on so
 --     IsFresh s      the first session of a store in which nothing was made
 use Rattle.std.specs.Prelude.{◌≡◌, ◌≢◌, ℕ, zero, suc, ◌+◌, ◌-◌, ◌*◌, ◌^◌, ◌<◌, ◌≤◌, nat_lt, if◌then◌else◌, List, [], length, slice_index, take}
 use Rattle.std.specs.List.{Contains}
 use Rattle.order_model.specs.Functions.{Function, SameFunction}
+use Rattle.order_model.specs.Levels.{size_under}
 use Rattle.order_model.specs.Orders.{IsOrder}
-use Rattle.order_model.specs.Problems.{TruthTables, outputs_of}
+use Rattle.order_model.specs.Problems.{TruthTables, functions, outputs_of}
 use Rattle.node_words.specs.Nodes.{AreNodeWords, AreUnequal, level_of, node_word}
 use Rattle.node_words.specs.Meaning.{function_of, branch}
 use Rattle.unique_table.specs.Plans.{order_of, levels_of, variable_at, output_at, fixed}
@@ -45,13 +46,17 @@ most_above inputs outputs (suc level) = most_above inputs outputs level + most_o
 abbrev pub most_nodes : ℕ → ℕ → ℕ
 most_nodes inputs outputs = most_above inputs outputs inputs
 
--- unequal nodes that denote subfunctions of their levels are no more than that
+-- the size of an order is no more than that
+abbrev pub SizesAreFew : Type 0
+SizesAreFew = (n : ℕ) (F : List Function) (order : List ℕ) → IsOrder n order → size_under n F order ≤ most_nodes n (length F)
+
+-- unequal nodes that denote subfunctions of their levels are no more than the order's size
 abbrev pub SubfunctionsAreFew : Type 0
 SubfunctionsAreFew = (order : List ℕ) (t : TruthTables) (ws : List ℕ) (count : ℕ) → IsOrder (length order) order →
     AreNodeWords (length order) ws → AreUnequal ws → AreSubfunctions order t ws →
-    ((p : ℕ) → p < count → slice_index ws p ≢ 0) → count ≤ most_nodes (length order) (outputs_of t)
+    ((p : ℕ) → p < count → slice_index ws p ≢ 0) → count ≤ size_under (length order) (functions t) order
 
--- which is half of a store
+-- about half of a store's places
 abbrev pub MostNodesFit : Type 0
 MostNodesFit = (inputs outputs : ℕ) → inputs ≤ 16 → outputs ≤ 16 → most_nodes inputs outputs ≤ 131310
 

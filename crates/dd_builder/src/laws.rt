@@ -3,7 +3,7 @@
 ghost use Rattle.std.specs.Prelude.{length};
 ghost use Rattle.order_model.specs.Orders.{IsOrder};
 ghost use Rattle.unique_table.specs.Plans.{IsPlan};
-ghost use Rattle.dd_builder.specs.Subfunctions.{SubfunctionsAreFew, MostNodesFit};
+ghost use Rattle.dd_builder.specs.Subfunctions.{SizesAreFew, SubfunctionsAreFew, MostNodesFit};
 
 use order_model::Order;
 use unique_table::Store;
@@ -22,8 +22,9 @@ pub(crate) fn orders_have_each_variable_once(order: &Order)
     let _variables = order.variables();
 }
 
-/// Nodes of subfunctions are few, by the inputs and outputs: no more than 131,310.
+/// Nodes of subfunctions are no more than the order's size, and that is at most 131,310.
 pub fn subfunctions_are_few()
     ensures few { SubfunctionsAreFew }
+    ensures sizes { SizesAreFew }
     ensures fit { MostNodesFit }
 {}
