@@ -45,8 +45,8 @@ fn finish(
     };
     match store.close(alloc, session) {
         Ok(diagram) => Ok(diagram),
-        Err(CloseFault::OutOfMemory) => Err(BuildError::OutOfMemory),
-        Err(CloseFault::MissingRoot(_)) => unreachable!(),
+        Err((_, CloseFault::OutOfMemory)) => Err(BuildError::OutOfMemory),
+        Err((_, CloseFault::MissingRoot(_))) => unreachable!(),
     }
 }
 

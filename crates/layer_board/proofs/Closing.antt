@@ -1,5 +1,5 @@
 -- What a board ends with.
-use Rattle.std.proofs.Common.{◌≡◌, ◌≢◌, ℕ, zero, suc, ◌<◌, ◌≤◌, false, List, [], ◌∷◌, map, get_or, length, Option, Some, None, Result, Ok, Err, IfErr, IfSome, sym, refl, ap, ◌∙◌, subst, arith}
+use Rattle.std.proofs.Common.{◌≡◌, ◌≢◌, ℕ, zero, suc, ◌<◌, ◌≤◌, false, List, [], ◌∷◌, map, get_or, length, Option, Some, None, IfSome, sym, refl, ap, ◌∙◌, subst, arith}
 use Rattle.std.proofs.lemmas.List.{length-map}
 use Rattle.std.proofs.lemmas.Option.{slice_get_within, get_or_from_slice_get}
 use mathlib.Core.Option.{some, some-injective, some-ne-none}
@@ -40,10 +40,6 @@ some_there : {A X : Type 0} (f : A → X) (xs : List A) (p : ℕ) → p < length
 some_there f [] p h = absurd (omega arith)
 some_there f (x ∷ xs) zero h = λ e. cc
 some_there f (x ∷ xs) (suc p) h = some_there f xs p (omega arith)
-
-pub err_weaker : {A E : Type 0} (P Q : E → Type 0) (r : Result A E) → IfErr r P → ((e : E) → P e → Q e) → IfErr r Q
-err_weaker P Q (Ok x) h f = tt
-err_weaker P Q (Err e) h f = f e h
 
 -- a list is no longer than a sum of positive numbers over it
 no_more : {A : Type 0} (f : A → ℕ) (l : List A) → ((i : ℕ) (v : A) → get_elem? l i ≡ some v → 0 < f v) → length l ≤ total f l

@@ -7,7 +7,7 @@ ghost use Rattle.layer_core.specs.Settings.{cell_for, setting_of};
 ghost use Rattle.layer_board.specs.Views.{fresh, first_seat, stepped, no_more, found_empty, has_claimed, knows_filled, learned};
 ghost use Rattle.layer_core.specs.Pairing.{pair_of};
 ghost use Rattle.layer_board.specs.Closing.{IsFinalBoard};
-ghost use Rattle.layer_board.specs.Refusals.{RefusesPost, LacksMask};
+ghost use Rattle.layer_board.specs.Refusals.{RefusesPost, LacksCell, LacksMask};
 
 use crate::cell_words::{cell_of_word, word_of_cell};
 use crate::closed::{CloseError, ClosedBoard};
@@ -204,16 +204,26 @@ impl Board {
         }
     }
 
-    /// All cells in the layer's order, or the least mask whose cell is empty.
-    pub fn close(self, alloc: Global, seat: BoardSeat) -> Result<Vec<Cell>, CloseError>
+    /// All cells in the layer's order. Else the closed board, and the least mask whose cell in it
+    /// is empty, or `OutOfMemory`.
+    pub fn close(
+        self,
+        alloc: Global,
+        seat: BoardSeat,
+    ) -> Result<Vec<Cell>, (ClosedBoard, CloseError)>
         requires { seat.board ≡ self }
         ensures cells { IfOk result
             (λ v. map pair_of v.items ≡ map (cell_for self.brief.setting)
             (masks_of self.brief.layer)) }
-        ensures lacks { IfErr result (LacksMask seat) }
+        ensures last { IfErr result (λ e. IsFinalBoard seat e.0) }
+        ensures lacks { IfErr result (λ e. LacksCell e.0 e.1) }
+        ensures unknown { IfErr result (λ e. LacksMask seat e.1) }
     {
         let closed = self.into_closed(seat);
-        closed.cells(alloc)
+        match closed.cells(alloc) {
+            Ok(cells) => Ok(cells),
+            Err(error) => Err((closed, error)),
+        }
     }
 }
 

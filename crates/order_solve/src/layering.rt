@@ -178,8 +178,8 @@ fn cells_of_layer<R: Threads + Sync, G: Gate>(
     let seat = post_by_workers(crew, alloc, &board, seats, context, found)?;
     match board.close(alloc, seat) {
         Ok(cells) => Ok(cells),
-        Err(CloseError::Missing(_)) => cells_alone(alloc, context, found),
-        Err(CloseError::OutOfMemory) => Err(AllocError),
+        Err((_, CloseError::Missing(_))) => cells_alone(alloc, context, found),
+        Err((_, CloseError::OutOfMemory)) => Err(AllocError),
     }
 }
 

@@ -178,7 +178,10 @@ fn post_and_read(
 pub(crate) fn error_of_closing(alloc: Global, board: Board, seat: BoardSeat) -> Option<CloseError>
     requires { seat.board ≡ board }
 {
-    board.close(alloc, seat).err()
+    match board.close(alloc, seat) {
+        Ok(_) => None,
+        Err((_, error)) => Some(error),
+    }
 }
 
 /// The masks 0005, 0006, 0009, 000a and 000c, each a block.

@@ -55,7 +55,7 @@ fn cells_by_one(
     let limit = setting.limit();
     let (board, seat) = lone_board(rt, alloc, setting.problem(), setting.pairs(), limit, layer);
     let (seat, _) = worked(rt, alloc, &board, seat, 1, &context);
-    board.close(alloc, seat).expect(rt, "all cells")
+    board.close(alloc, seat).ok().expect(rt, "all cells")
 }
 
 /// The cells of the sets of one variable.

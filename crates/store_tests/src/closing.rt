@@ -116,7 +116,10 @@ fn close_both(
 ) -> Result<Diagram, CloseFault> {
     let (store, mut session) = store_of_both(rt, alloc);
     make_and_publish(rt, &store, &mut session, published, further);
-    store.into_closed(session).diagram(alloc)
+    match store.close(alloc, session) {
+        Ok(diagram) => Ok(diagram),
+        Err((_, fault)) => Err(fault),
+    }
 }
 
 /// Whether a store of both closes to a diagram with the three nodes of the two functions.

@@ -128,6 +128,6 @@ module _ (c : ClosedStoreOf) (f : AreFinal c) (full : HasAllRoots c) (ids : List
       represents_same (levels_of c.plan) (root_functions c) (functions c.plan.problem.value) (order_of c.plan) d (same_functions c f full)
       (subst (λ (z : List Function). Represents (levels_of c.plan) z (order_of c.plan) d) found r)
 
-pub err_weaker : {A E : Type 0} (P Q : E → Type 0) (r : Result A E) → IfErr r P → ((e : E) → P e → Q e) → IfErr r Q
-err_weaker P Q (Ok x) h f = tt
-err_weaker P Q (Err e) h f = f e h
+pub err_from : {A E : Type 0} (P Q R : E → Type 0) (r : Result A E) → IfErr r P → IfErr r Q → ((e : E) → P e → Q e → R e) → IfErr r R
+err_from P Q R (Ok x) p q f = tt
+err_from P Q R (Err e) p q f = f e p q

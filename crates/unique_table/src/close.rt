@@ -61,21 +61,25 @@ impl Drop for ClosedStore {
 
 impl ClosedStore {
     /// The reduced diagram of the store's functions: the roots that were published, with the nodes
-    /// that they reach. The closed store is spent in every case.
-    pub fn diagram(self, alloc: Global) -> Result<Diagram, CloseFault>
+    /// that they reach. Else the closed store, and why it gives none.
+    pub fn diagram(self, alloc: Global) -> Result<Diagram, (ClosedStore, CloseFault)>
         ensures roots { OnOk result (HasAllRoots self) }
         ensures order { IfOk result (λ d. d.order ≡ order_of self.plan) }
         ensures diagram { IfOk result
             (λ d. Represents (levels_of self.plan) (functions self.plan.problem.value)
             (order_of self.plan) d.graph) }
         ensures reduced { IfOk result (λ d. IsReduced d.graph) }
-        ensures missing { IfErr result (LacksRoot self) }
+        ensures kept { IfErr result (λ e. e.0 ≡ self) }
+        ensures missing { IfErr result (λ e. LacksRoot self e.1) }
     {
-        let ids = self.root_ids(alloc)?;
+        let ids = match self.root_ids(alloc) {
+            Ok(ids) => ids,
+            Err(fault) => return Err((self, fault)),
+        };
         let order = self.order.variables();
         let made = reached_nodes(alloc, &self.closed, self.places, order, ids.as_slice());
         let Ok(reached) = made else {
-            return Err(CloseFault::OutOfMemory);
+            return Err((self, CloseFault::OutOfMemory));
         };
         let ClosedStore {
             closed,

@@ -9,7 +9,7 @@ ghost use Rattle.node_words.specs.Meaning.{branch};
 ghost use Rattle.unique_table.specs.Sessions.{Knows, IsKnownBelow, Means, Follows, MakesStep, HasParts, HasUniqueIds, HasLevels, MadeAll, GainsOnly, LiesNoHigher, combined_in, function_in, depth_in, HasPiece};
 ghost use Rattle.order_model.specs.Diagrams.{Represents, IsReduced};
 ghost use Rattle.unique_table.specs.Stakes.{whole, half, joined};
-ghost use Rattle.unique_table.specs.Closing.{IsFinalStore, MayLackRoot};
+ghost use Rattle.unique_table.specs.Closing.{IsFinalStore, LacksRoot, MayLackRoot};
 
 use crate::close::{CloseFault, ClosedStore};
 use crate::create::{blank_words, cache_places, kind_of, node_places, parts_count};
@@ -353,16 +353,22 @@ impl Store {
     }
 
     /// The reduced diagram of the store's functions: the published roots, with the nodes that they
-    /// reach. The store is spent in every case. Other sessions may have published roots that this
-    /// one doesn't know of.
-    pub fn close(self, alloc: Global, session: Session) -> Result<Diagram, CloseFault>
+    /// reach. Else the closed store, and why it gives none. Other sessions may have published roots
+    /// that this one doesn't know of.
+    pub fn close(
+        self,
+        alloc: Global,
+        session: Session,
+    ) -> Result<Diagram, (ClosedStore, CloseFault)>
         requires { session.store ≡ self }
         ensures order { IfOk result (λ d. d.order ≡ order_of self.plan) }
         ensures diagram { IfOk result
             (λ d. Represents (levels_of self.plan) (functions self.plan.problem.value)
             (order_of self.plan) d.graph) }
         ensures reduced { IfOk result (λ d. IsReduced d.graph) }
-        ensures missing { IfErr result (MayLackRoot session) }
+        ensures last { IfErr result (λ e. IsFinalStore session e.0) }
+        ensures lacks { IfErr result (λ e. LacksRoot e.0 e.1) }
+        ensures missing { IfErr result (λ e. MayLackRoot session e.1) }
     {
         self.into_closed(session).diagram(alloc)
     }

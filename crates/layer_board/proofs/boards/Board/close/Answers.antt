@@ -1,8 +1,6 @@
-use Rattle.layer_board.specs.Refusals.{LacksCell, LacksMask}
-use Rattle.layer_board.proofs.Closing.{err_weaker, lacking}
+use Rattle.layer_board.proofs.Closing.{lacking}
 use Rattle.layer_board.proofs.boards.Board.close.Goals as goal
 
-pub returns-clause-lacks : goal.returns-clause-lacks
-returns-clause-lacks c =
-    err_weaker (LacksCell c.into_closed-closed.result) (LacksMask c.args.seat) c.cells.result c.cells.ensures.lacks
-    (λ e l. lacking c.args.seat c.into_closed-closed.result e c.into_closed-closed.ensures.last l)
+pub returns-in-Err-clause-unknown : goal.returns-in-Err-clause-unknown
+returns-in-Err-clause-unknown c =
+    lacking c.args.seat c.into_closed-closed.result c.in-Err.error c.into_closed-closed.ensures.last c.in-Err.ensures.lacks

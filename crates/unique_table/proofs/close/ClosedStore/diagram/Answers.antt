@@ -21,8 +21,8 @@ nodes_found c C k is = ap (λ (z : ClosedStoreOf). nodes_of z.plan z.words) (sym
 pub reached_nodes-made-requires-clause-known : goal.reached_nodes-made-requires-clause-known
 reached_nodes-made-requires-clause-known c =
     subst (λ (ws : List ℕ). All (IsKnown ws) c.as_slice.result.now) (nodes_found c.self.inside c.args.self c.self.invariant c.self.view_is)
-    (ids_known c.args.self (subst AreFinal c.self.view_is c.self.invariant.final) c.in_ok-ids.ensures.roots c.as_slice.result.now
-    (c.as_slice.ensures.value ∙ c.in_ok-ids.ensures.ids))
+    (ids_known c.args.self (subst AreFinal c.self.view_is c.self.invariant.final) c.in-Ok.ensures.roots c.as_slice.result.now
+    (c.as_slice.ensures.value ∙ c.in-Ok.ensures.ids))
 
 pub returns-clause-diagram : goal.returns-clause-diagram
 returns-clause-diagram c =
@@ -30,10 +30,10 @@ returns-clause-diagram c =
     let order : c.variables-order.result.now ≡ order_of c.args.self.plan =
     c.variables-order.ensures.value ∙ (k.order ∙ ap (λ (z : ClosedStoreOf). order_of z.plan) c.self.view_is) in
     let nodes = nodes_found c.self.inside c.args.self k c.self.view_is in
-    let found : Graph = record { nodes = c.in-Ok.reached.nodes.items; roots = c.in-Ok.reached.roots.items } in
+    let found : Graph = record { nodes = c.in-Ok-made.reached.nodes.items; roots = c.in-Ok-made.reached.roots.items } in
     subst (λ (d : Graph). Represents (levels_of c.args.self.plan) (functions c.args.self.plan.problem.value) (order_of c.args.self.plan) d)
     (λ i. record { nodes = sym c.new.ensures.nodes i; roots = sym c.new.ensures.roots i })
-    (ids_represent c.args.self (subst AreFinal c.self.view_is k.final) c.in_ok-ids.ensures.roots ids
-    (c.as_slice.ensures.value ∙ c.in_ok-ids.ensures.ids) found
+    (ids_represent c.args.self (subst AreFinal c.self.view_is k.final) c.in-Ok.ensures.roots ids
+    (c.as_slice.ensures.value ∙ c.in-Ok.ensures.ids) found
     (subst (λ (z : List ℕ × List ℕ). Represents (length z.0) (map (function_of z.0 z.1) ids) z.0 found) (λ i. (order i, sym nodes i))
-    c.in-Ok.ensures.represents))
+    c.in-Ok-made.ensures.represents))
