@@ -19,7 +19,8 @@ use Rattle.class_laws.specs.Places.{low_place, pairs}
 use Rattle.class_laws.specs.Table.{functions_of, set_of}
 use Rattle.class_laws.proofs.Apart.{distinct_first}
 use Rattle.class_laws.proofs.Counted.{width_is_dependent_classes}
-use Rattle.class_laws.proofs.Firsts.{Made, made_none, made_first, made_numbers, made_many, made_told}
+use Rattle.class_laws.specs.Made.{Made}
+use Rattle.class_laws.proofs.Firsts.{made_none, made_first, made_numbers, made_many, made_told}
 use Rattle.class_laws.proofs.Index.{length-pairs, pair_listed, pair_within}
 use Rattle.cert_check.specs.Tables.{HoldsRows, IsFull, TableOf, classes_at, rows_with}
 use Rattle.cert_check.proofs.Shortened.{rows, rows_more}

@@ -1,5 +1,4 @@
 -- Numbers of pairs, and something told of them, as a mask, made together: at the first pair of each kind it is added.
---     Made none ps join out masks j      the numbers of the first j pairs, and what `join` tells of them; `none` stands after the end of these
 --     made_none, made_first, made_again      no pair yet; one more, the first of its kind; one that has come before
 --     made_numbers, made_many, made_told      the end
 use Rattle.std.proofs.Common.{◌≡◌, ℕ, ◌+◌, ◌<◌, ◌≤◌, List, [], ◌∷◌, ◌++◌, map, length, get_or, set, take, refl, sym, ap, ◌∙◌, subst, arith}
@@ -8,10 +7,11 @@ use Rattle.std.proofs.lemmas.List.{take_more_set, length-set, length-append, tak
 use Rattle.order_model.specs.Widths.{same_pair}
 use Rattle.order_model.proofs.Widths.ClassPairs.{pair_decides}
 use Rattle.order_model.proofs.Lists.Sets.{Among}
+use Rattle.class_laws.specs.Made.{Progress, Joined, Made}
 use Rattle.class_laws.specs.Numbering.{IsFirstOccurrence, rank, ranks}
 use Rattle.class_laws.proofs.Ranks.{rank_absent, rank_below}
-use Rattle.class_laws.proofs.Progress.{Progress, progress_none, progress_new, progress_old, progress_all, among_take, take_among}
-use Rattle.class_laws.proofs.Joined.{Joined, joined_none, joined_new, joined_old, joined_many, joined_told, rank_is}
+use Rattle.class_laws.proofs.Progress.{progress_none, progress_new, progress_old, progress_all, among_take, take_among}
+use Rattle.class_laws.proofs.Joined.{joined_none, joined_new, joined_old, joined_many, joined_told, rank_is}
 
 module _ {M : Type 0} (none : M) (ps : List (ℕ × ℕ)) (join : ℕ × ℕ → M) where
   -- the masks with one more pair, which is the first of its kind
@@ -32,19 +32,11 @@ module _ {M : Type 0} (none : M) (ps : List (ℕ × ℕ)) (join : ℕ × ℕ →
       joined_old none ps join masks j (rank same_pair ps (get_or ps j (0, 0))) l h refl
       (λ e. omega (arith, rank_is ps j l, rank_below same_pair pair_decides (take j ps) (get_or ps j (0, 0)) there))
 
-  -- the first j numbers are written, and the masks are those of as many pairs
-  pub record Made (out : List ℕ) (masks : List M) (j : ℕ) : Type 0 where
-    pub long : length out ≡ length ps
-    pub few : length masks ≤ j
-    pub within : j ≤ length ps
-    pub progress : Progress ps (take j out) (length masks) j
-    pub joined : Joined none ps join masks j
-
-  pub made_none : (out : List ℕ) → length out ≡ length ps → Made out [] 0
+  pub made_none : (out : List ℕ) → length out ≡ length ps → Made none ps join out [] 0
   made_none out l = record { long = l; few = omega arith; within = omega arith; progress = progress_none ps; joined = joined_none none ps join }
 
   pub made_first : (out : List ℕ) (masks : List M) (j : ℕ) (mask : M) → j < length ps → IsFirstOccurrence (λ i. get_or ps i (0, 0)) j j →
-      mask ≡ join (get_or ps j (0, 0)) → Made out masks j → Made (set out j (length masks)) (masks ++ mask ∷ []) (j + 1)
+      mask ≡ join (get_or ps j (0, 0)) → Made none ps join out masks j → Made none ps join (set out j (length masks)) (masks ++ mask ∷ []) (j + 1)
   made_first out masks j mask l f m h =
       let e = length-append masks (mask ∷ []) in
       let more : length (masks ++ mask ∷ []) ≡ length masks + 1 = omega arith in
@@ -58,7 +50,7 @@ module _ {M : Type 0} (none : M) (ps : List (ℕ × ℕ)) (join : ℕ × ℕ →
       }
 
   pub made_again : (out : List ℕ) (masks : List M) (j first : ℕ) → j < length ps → IsFirstOccurrence (λ i. get_or ps i (0, 0)) j first → first < j →
-      Made out masks j → Made (set out j (get_or out first 0)) masks (j + 1)
+      Made none ps join out masks j → Made none ps join (set out j (get_or out first 0)) masks (j + 1)
   made_again out masks j first l f lt h =
       record {
         long = length-set out j (get_or out first 0) ∙ h.long;
@@ -70,11 +62,11 @@ module _ {M : Type 0} (none : M) (ps : List (ℕ × ℕ)) (join : ℕ × ℕ →
         joined = joined_again masks j first l f lt h.joined;
       }
 
-  pub made_numbers : (out : List ℕ) (masks : List M) (j : ℕ) → length ps ≤ j → Made out masks j → out ≡ ranks same_pair ps
+  pub made_numbers : (out : List ℕ) (masks : List M) (j : ℕ) → length ps ≤ j → Made none ps join out masks j → out ≡ ranks same_pair ps
   made_numbers out masks j l h = sym (take_all j out (omega arith)) ∙ progress_all ps (take j out) (length masks) j l h.progress
 
-  pub made_many : (out : List ℕ) (masks : List M) (j : ℕ) → length ps ≤ j → Made out masks j → length masks ≡ distinct_count same_pair ps
+  pub made_many : (out : List ℕ) (masks : List M) (j : ℕ) → length ps ≤ j → Made none ps join out masks j → length masks ≡ distinct_count same_pair ps
   made_many out masks j l h = joined_many none ps join masks j l h.joined
 
-  pub made_told : (out : List ℕ) (masks : List M) (j : ℕ) → length ps ≤ j → Made out masks j → map (λ c. get_or masks c none) out ≡ map join ps
+  pub made_told : (out : List ℕ) (masks : List M) (j : ℕ) → length ps ≤ j → Made none ps join out masks j → map (λ c. get_or masks c none) out ≡ map join ps
   made_told out masks j l h = ap (map (λ c. get_or masks c none)) (made_numbers out masks j l h) ∙ joined_told none ps join masks j l h.joined

@@ -1,5 +1,4 @@
 -- Something told of numbered pairs, as a mask: one for each class, made at its first pair.
---     Joined none ps join out j      `out` has what `join` tells of each class among the first j pairs; `none` stands after its end
 --     joined_none, joined_new, joined_old      no pair yet; one more, the first of its kind; one that has come before
 --     joined_many, joined_told      the end
 --     rank_is, number_at, length-ranks, numbered_place      a pair's number, as a rank and in the list of numbers
@@ -11,6 +10,7 @@ use Rattle.std.proofs.lemmas.List.{append_assoc, take-append-drop, take_more, ta
 use Rattle.order_model.specs.Widths.{same_pair}
 use Rattle.order_model.proofs.Widths.ClassPairs.{pair_decides}
 use Rattle.order_model.proofs.Lists.Sets.{Among}
+use Rattle.class_laws.specs.Made.{Joined}
 use Rattle.class_laws.specs.Numbering.{rank, ranks}
 use Rattle.class_laws.proofs.Ranks.{count_new, count_old, count_end, rank_next, rank_found, rank_absent, rank_below, among_or_not}
 use Rattle.class_laws.specs.Places.{pair_at, pairs}
@@ -38,18 +38,13 @@ module _ (ps : List (ℕ × ℕ)) where
   count_is j l = ap (distinct_count same_pair) (take_more ps j (0, 0) l) ∙ count_end same_pair pair_decides (get_or ps j (0, 0)) (take j ps)
 
 module _ {M : Type 0} (none : M) (ps : List (ℕ × ℕ)) (join : ℕ × ℕ → M) where
-  -- after j pairs
-  pub record Joined (out : List M) (j : ℕ) : Type 0 where
-    pub many : length out ≡ distinct_count same_pair (take j ps)
-    pub told : (i : ℕ) → i < j → get_or out (rank same_pair ps (get_or ps i (0, 0))) none ≡ join (get_or ps i (0, 0))
-
-  pub joined_none : Joined [] 0
+  pub joined_none : Joined none ps join [] 0
   joined_none = record { many = refl; told = λ i l. absurd (omega arith) }
 
   -- a pair with the next number
-  pub joined_new : (out : List M) (j number : ℕ) (mask : M) → j < length ps → Joined out j →
+  pub joined_new : (out : List M) (j number : ℕ) (mask : M) → j < length ps → Joined none ps join out j →
       number ≡ rank same_pair ps (get_or ps j (0, 0)) → number ≡ length out → mask ≡ join (get_or ps j (0, 0)) →
-      Joined (out ++ mask ∷ []) (j + 1)
+      Joined none ps join (out ++ mask ∷ []) (j + 1)
   joined_new out j number mask l h e f m = record {
     many = omega (arith, count_is ps j l ∙ count_new same_pair pair_decides (get_or ps j (0, 0)) (take j ps) absent, length-append out (mask ∷ []));
     told = λ i lt. elim (cases_lt i j) [
@@ -64,8 +59,8 @@ module _ {M : Type 0} (none : M) (ps : List (ℕ × ℕ)) (join : ℕ × ℕ →
       absent a = omega (arith, rank_is ps j l, rank_below same_pair pair_decides (take j ps) (get_or ps j (0, 0)) a)
 
   -- a pair with an older number
-  pub joined_old : (out : List M) (j number : ℕ) → j < length ps → Joined out j → number ≡ rank same_pair ps (get_or ps j (0, 0)) →
-      number ≢ length out → Joined out (j + 1)
+  pub joined_old : (out : List M) (j number : ℕ) → j < length ps → Joined none ps join out j → number ≡ rank same_pair ps (get_or ps j (0, 0)) →
+      number ≢ length out → Joined none ps join out (j + 1)
   joined_old out j number l h e f = elim (among_or_not same_pair pair_decides (get_or ps j (0, 0)) (take j ps)) [
     | inl a ↦ record {
       many = search (count_is, count_old, pair_decides);
@@ -79,10 +74,10 @@ module _ {M : Type 0} (none : M) (ps : List (ℕ × ℕ)) (join : ℕ × ℕ →
     | inr n ↦ grind (arith, rank_is, rank_absent)
   ]
 
-  pub joined_many : (out : List M) (j : ℕ) → length ps ≤ j → Joined out j → length out ≡ distinct_count same_pair ps
+  pub joined_many : (out : List M) (j : ℕ) → length ps ≤ j → Joined none ps join out j → length out ≡ distinct_count same_pair ps
   joined_many out j l h = h.many ∙ ap (distinct_count same_pair) (take_all j ps l)
 
-  pub joined_told : (out : List M) (j : ℕ) → length ps ≤ j → Joined out j → map (λ c. get_or out c none) (ranks same_pair ps) ≡ map join ps
+  pub joined_told : (out : List M) (j : ℕ) → length ps ≤ j → Joined none ps join out j → map (λ c. get_or out c none) (ranks same_pair ps) ≡ map join ps
   unfolding ranks
   joined_told out j l h = alike ps (λ i lt. h.told i (omega arith))
     where

@@ -1,13 +1,13 @@
 -- Numbers of pairs, found one after another from the first place of each.
 --     among_take, take_among      an element of a list's beginning, and its place
---     Progress ps out count j      the first j pairs are numbered, and `count` of them are distinct
---     progress_new, progress_old      with one more pair, which none before equals; which has come before
+--     progress_none, progress_new, progress_old      no pair yet; with one more pair, which none before equals; which has come before
 use Rattle.std.proofs.Common.{◌≡◌, ℕ, zero, suc, ◌+◌, ◌<◌, ◌≤◌, inl, inr, List, [], ◌∷◌, ◌++◌, map, length, get_or, take, drop, refl, sym, ap, ◌∙◌, subst, arith}
 use Rattle.std.specs.Set.{distinct_count}
 use Rattle.std.proofs.lemmas.List.{append_assoc, map-append, take-append-drop, length-take, take_all, get_or-map, take_more, get_or-take}
 use Rattle.order_model.specs.Widths.{same_pair}
 use Rattle.order_model.proofs.Widths.ClassPairs.{pair_decides}
 use Rattle.order_model.proofs.Lists.Sets.{Among}
+use Rattle.class_laws.specs.Made.{Progress}
 use Rattle.class_laws.specs.Numbering.{IsFirstOccurrence, rank, ranks}
 use Rattle.class_laws.proofs.Ranks.{count_new, count_old, count_end, rank_here}
 
@@ -31,12 +31,7 @@ module _ (ps : List (ℕ × ℕ)) where
   take_among (q ∷ qs) (suc j) zero l m = inl refl
   take_among (q ∷ qs) (suc j) (suc i) l m = inr (take_among qs j i (omega arith) (omega arith))
 
-  -- how far the numbering has come
-  pub record Progress (out : List ℕ) (count j : ℕ) : Type 0 where
-    pub done : out ≡ map (rank same_pair ps) (take j ps)
-    pub many : count ≡ distinct_count same_pair (take j ps)
-
-  pub progress_none : Progress [] 0 0
+  pub progress_none : Progress ps [] 0 0
   progress_none = record { done = refl; many = refl }
 
   one_more : (j : ℕ) → j < length ps → take (j + 1) ps ≡ take j ps ++ key j ∷ []
@@ -51,8 +46,8 @@ module _ (ps : List (ℕ × ℕ)) where
   out_more out number j l o e = grind (arith, one_more, map-append)
 
   -- a pair that none before equals has the next number
-  pub progress_new : (out : List ℕ) (count j : ℕ) → j < length ps → Progress out count j → IsFirstOccurrence (λ i. get_or ps i (0, 0)) j j →
-      Progress (out ++ count ∷ []) (count + 1) (j + 1)
+  pub progress_new : (out : List ℕ) (count j : ℕ) → j < length ps → Progress ps out count j → IsFirstOccurrence (λ i. get_or ps i (0, 0)) j j →
+      Progress ps (out ++ count ∷ []) (count + 1) (j + 1)
   unfolding key
   progress_new out count j l p f = record {
     done = out_more out count j l p.done
@@ -67,8 +62,8 @@ module _ (ps : List (ℕ × ℕ)) where
       absent a = let s = among_take ps j (get_or ps j (0, 0)) a in f.none s.0 s.1 s.3
 
   -- another one has the number of its first place
-  pub progress_old : (out : List ℕ) (count j first : ℕ) → j < length ps → Progress out count j → first < j →
-      IsFirstOccurrence (λ i. get_or ps i (0, 0)) j first → Progress (out ++ get_or out first 0 ∷ []) count (j + 1)
+  pub progress_old : (out : List ℕ) (count j first : ℕ) → j < length ps → Progress ps out count j → first < j →
+      IsFirstOccurrence (λ i. get_or ps i (0, 0)) j first → Progress ps (out ++ get_or out first 0 ∷ []) count (j + 1)
   unfolding key
   progress_old out count j first l p lt f = record {
     done = grind (arith, out_more, get_or-map, length-take, get_or-take);
@@ -80,6 +75,6 @@ module _ (ps : List (ℕ × ℕ)) where
       there : Among (get_or ps j (0, 0)) (take j ps)
       there = subst (λ t. Among t (take j ps)) f.same (take_among ps j first lt (omega arith))
 
-  pub progress_all : (out : List ℕ) (count j : ℕ) → length ps ≤ j → Progress out count j → out ≡ ranks same_pair ps
+  pub progress_all : (out : List ℕ) (count j : ℕ) → length ps ≤ j → Progress ps out count j → out ≡ ranks same_pair ps
   unfolding ranks
   progress_all out count j l p = p.done ∙ ap (map (rank same_pair ps)) (take_all j ps l)

@@ -1,4 +1,5 @@
 pub mod Dependence
+pub mod Made
 pub mod Numbering
 pub mod PairTables
 pub mod Places

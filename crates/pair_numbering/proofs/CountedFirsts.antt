@@ -9,7 +9,8 @@ use Rattle.class_laws.specs.Numbering.{IsFirstOccurrence}
 use Rattle.class_laws.specs.Dependence.{joined_mask}
 use Rattle.pair_numbering.specs.Scratch.{CountsMasks}
 use Rattle.class_laws.proofs.Firsts.{joined_again, joined_first}
-use Rattle.class_laws.proofs.Joined.{Joined, joined_many, joined_told}
+use Rattle.class_laws.specs.Made.{Joined}
+use Rattle.class_laws.proofs.Joined.{joined_many, joined_told}
 
 module _ (ps : List (ℕ × ℕ)) (masks : List ℕ) (x : ℕ) where
   -- after j pairs

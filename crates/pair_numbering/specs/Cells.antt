@@ -6,7 +6,7 @@
 use Rattle.std.specs.Prelude.{◌≡◌, ◌≢◌, ℕ, ◌+◌, ◌*◌, ◌/◌, ◌^◌, ◌<◌, ◌≤◌, List, take, length, get_or}
 use Rattle.class_laws.specs.Dependence.{joined_mask}
 use Rattle.class_laws.specs.Places.{pairs}
-use Rattle.class_laws.proofs.Firsts.{Made}
+use Rattle.class_laws.specs.Made.{Made}
 use Rattle.pair_numbering.specs.declared.masks.MaskedPairs.{MaskedPairs}
 
 module _ (classes : ℕ) where

@@ -3,7 +3,8 @@ use Rattle.std.proofs.lemmas.List.{get_or_default, map-id}
 use Rattle.class_laws.specs.Numbering.{IsFirstOccurrence}
 use Rattle.class_laws.specs.Places as places
 use Rattle.class_laws.proofs.Index.{first_listed, pair_listed, length-pairs}
-use Rattle.class_laws.proofs.Firsts.{Made, made_none, made_first, made_again, made_numbers, made_many, made_told}
+use Rattle.class_laws.specs.Made.{Made}
+use Rattle.class_laws.proofs.Firsts.{made_none, made_first, made_again, made_numbers, made_many, made_told}
 use Rattle.pair_numbering.proofs.chains.number_firsts.Goals as goal
 use Rattle.pair_numbering.proofs.chains.number_firsts.Goals.{then-f-j+in_ok-push, else-f-j}
 

@@ -4,7 +4,8 @@ use Rattle.class_laws.specs.Dependence.{joined_mask}
 use Rattle.class_laws.specs.Places as places
 use Rattle.class_laws.specs.Numbering.{IsFirstOccurrence}
 use Rattle.class_laws.proofs.Index.{length-pairs, pair_listed}
-use Rattle.class_laws.proofs.Firsts.{Made, made_none, made_first, made_numbers, made_many, made_told}
+use Rattle.class_laws.specs.Made.{Made}
+use Rattle.class_laws.proofs.Firsts.{made_none, made_first, made_numbers, made_many, made_told}
 use Rattle.pair_numbering.proofs.InBlocks.{pair_inside}
 use Rattle.pair_numbering.proofs.distinct.number_distinct_pairs.Goals as goal
 

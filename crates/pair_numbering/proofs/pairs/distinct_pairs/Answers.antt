@@ -2,7 +2,8 @@ use Rattle.std.proofs.Common.{ℕ, ◌+◌, ◌^◌, ◌<◌, map, length, get_o
 use Rattle.class_laws.specs.Places as places
 use Rattle.std.proofs.lemmas.List.{map-id}
 use Rattle.class_laws.proofs.Index.{pair_listed, length-pairs}
-use Rattle.class_laws.proofs.Joined.{Joined, joined_new, joined_old, joined_many, joined_told, number_at, numbered_place}
+use Rattle.class_laws.specs.Made.{Joined}
+use Rattle.class_laws.proofs.Joined.{joined_new, joined_old, joined_many, joined_told, number_at, numbered_place}
 use Rattle.pair_numbering.proofs.pairs.distinct_pairs.Goals as goal
 use Rattle.pair_numbering.proofs.pairs.distinct_pairs.Goals.{then-number-len+in_ok-push, else-number-len}
 

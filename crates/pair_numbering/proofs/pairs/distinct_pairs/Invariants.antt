@@ -1,6 +1,6 @@
 use Rattle.std.proofs.Common.{◌^◌}
 use Rattle.class_laws.specs.Places as places
-use Rattle.class_laws.proofs.Joined.{Joined}
+use Rattle.class_laws.specs.Made.{Joined}
 use Rattle.pair_numbering.proofs.pairs.distinct_pairs.Given as goal
 
 abbrev pub invariant-loop-j : goal.invariant-loop-j
