@@ -1,10 +1,11 @@
 -- Widths that are found ahead of their layer.
 --     RowsOf      some sets, and of each its row
---     AheadOf      a problem, and rows that were found ahead
+--     AheadOf      a problem, rows that were found ahead, and the size of the largest sets of which rows are to be found
 --     AreAhead p rows      the rows hold the widths of all members, of a problem's variables
+--     none_ahead p end      nothing is found
 --     widths_ahead found      how many widths the rows hold
 --     with_others found others      with what others found of the same problem
-use Rattle.std.specs.Prelude.{ℕ, List, ◌++◌, sum_by}
+use Rattle.std.specs.Prelude.{ℕ, List, [], ◌++◌, sum_by}
 use Rattle.std.specs.List.{All}
 use Rattle.order_model.specs.Problems.{TruthTables}
 use Rattle.compaction.specs.Rows.{AreWidthRows, wanted_count}
@@ -14,10 +15,15 @@ pub record RowsOf : Type 0 where
   pub masks : List ℕ
   pub rows : List (List ℕ)
 
--- the functions, and rows that were found ahead of the layers of their sets
+-- the functions, rows that were found ahead of the layers of their sets, and the size of the largest sets of which rows are to be found
 pub record AheadOf : Type 0 where
   pub problem : TruthTables
   pub rows : List RowsOf
+  pub end : ℕ
+
+-- nothing is found
+abbrev pub none_ahead : TruthTables → ℕ → AheadOf
+none_ahead p end = record { problem = p; rows = []; end = end }
 
 -- the rows hold the widths of all members of the sets
 abbrev pub AreAhead : TruthTables → List RowsOf → Type 0
@@ -29,4 +35,4 @@ widths_ahead found = sum_by (λ r. wanted_count r.masks) found.rows
 
 -- with the rows that others found, of the same functions
 abbrev pub with_others : AheadOf → AheadOf → AheadOf
-with_others found others = record { problem = found.problem; rows = found.rows ++ others.rows }
+with_others found others = record found { rows = found.rows ++ others.rows }

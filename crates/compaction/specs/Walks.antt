@@ -59,6 +59,7 @@ pub record HasRoom (tallies : Tallies) (widths : ℕ) : Type 0 where
 -- one tally rises by so many widths, the other by those that are found ahead, of the same functions
 pub record Counts (widths : ℕ) (old : AheadOf) (before : Tallies) (new : AheadOf) (after : Tallies) : Type 0 where
   pub problem : new.problem ≡ old.problem
+  pub end : new.end ≡ old.end
   pub cells : after.cells ≡ before.cells + widths
   pub ahead : after.ahead + widths_ahead old ≡ before.ahead + widths_ahead new
   pub few : after.ahead ≤ before.ahead + 2 ^ 16

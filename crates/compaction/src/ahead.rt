@@ -5,7 +5,7 @@ ghost use Rattle.std.specs.Prelude.{◌≡◌, ℕ, ◌+◌, ◌^◌, ◌<◌, �
 ghost use Rattle.std.specs.Int.{bit_at};
 ghost use Rattle.order_model.specs.Orders.{has, members};
 ghost use Rattle.subset_layers.specs.Layers.{block_masks};
-ghost use Rattle.compaction.specs.Ahead.{AreAhead, with_others, widths_ahead};
+ghost use Rattle.compaction.specs.Ahead.{AreAhead, none_ahead, with_others, widths_ahead};
 ghost use Rattle.compaction.specs.Rows.{AreWidthRows, IsWidthRow, AreOfByte, AreMembers, wanted_count, most_compactions};
 ghost use Rattle.compaction.specs.Walks.{AreAsked, AreRowsOf, Counts, HasRoom};
 
@@ -54,6 +54,7 @@ impl<'a> Model for WidthsAhead<'a> {
     ghost view = { λ a. record {
       problem = a.problem.now;
       rows = a.bytes.items;
+      end = a.end;
     } };
 
     ghost invariant = { λ a. AreAhead a.problem.now a.bytes.items };
@@ -96,7 +97,7 @@ fn place_of(masks: &[Mask], mask: Mask, from: usize) -> Option<usize>
 impl<'a> WidthsAhead<'a> {
     /// Nothing is found, and rows are to be found of sets up to a size.
     pub fn up_to(alloc: Global, problem: &'a Problem, end: u8) -> WidthsAhead<'a>
-        ensures { result ≡ record { problem = problem.now; rows = [] } }
+        ensures { result ≡ none_ahead problem.now end }
     {
         WidthsAhead {
             problem,
@@ -114,7 +115,9 @@ impl<'a> WidthsAhead<'a> {
     }
 
     /// The size of the largest sets of which rows are to be found.
-    pub fn end(&self) -> u8 {
+    pub fn end(&self) -> u8
+        ensures { result ≡ self.now.end }
+    {
         self.end
     }
 
@@ -134,6 +137,7 @@ impl<'a> WidthsAhead<'a> {
         requires right { AreWidthRows self.old.problem byte.masks byte.masks byte.rows }
         requires room { tally.old ≤ 2 ^ 32 }
         ensures problem { self.new.problem ≡ self.old.problem }
+        ensures end { self.new.end ≡ self.old.end }
         ensures counted { OnOk result
             (tally.new + widths_ahead self.old ≡ tally.old + widths_ahead self.new) }
         ensures few { OnOk result (tally.new ≤ tally.old + 2 ^ 16) }

@@ -2,7 +2,7 @@
 //! for none.
 
 ghost use Rattle.std.specs.Prelude.{◌≡◌, ◌+◌, ◌^◌, ◌<◌, ◌≤◌, All, length, vec_len, IfOk, OnOk};
-ghost use Rattle.compaction.specs.Ahead.{widths_ahead};
+ghost use Rattle.compaction.specs.Ahead.{none_ahead, widths_ahead};
 ghost use Rattle.compaction.specs.Rows.{AreWidthRows};
 
 use crate::ahead::{ByteRows, Sizes, WidthsAhead, sets_of_byte};
@@ -212,7 +212,7 @@ impl<'a> Model for Preparation<'a> {
 impl<'a> Preparation<'a> {
     /// Without rows, by the calling thread.
     pub fn of(alloc: Global, problem: &'a Problem) -> Result<Preparation<'a>, AllocError>
-        ensures { IfOk result (λ p. p.problem ≡ problem.now) }
+        ensures { IfOk result (λ p. p ≡ none_ahead problem.now 0) }
     {
         Ok(Preparation {
             shared: SharedTables::of(alloc, problem)?,
