@@ -1,6 +1,6 @@
 //! The cells of a block's sets.
 
-ghost use Rattle.std.specs.Prelude.{◌≡◌, map, IfOk, OnOk};
+ghost use Rattle.std.specs.Prelude.{◌≡◌, false, map, IfOk, OnOk};
 ghost use Rattle.compaction.specs.Rows.{AreWidthRows, wanted_count};
 ghost use Rattle.compaction.specs.Walks.{AreAsked, AreRowsOf, Counts, HasRoom};
 ghost use Rattle.subset_layers.specs.Layers.{layer_of, block_masks};
@@ -30,6 +30,7 @@ fn widths_of(
         (λ rows. AreRowsOf context.now.setting.problem block.now needed.now rows.items) }
     ensures counts { OnOk result
         (Counts (wanted_count needed.now) found.old tallies.old found.new tallies.new) }
+    ensures alone { context.now.has_source ≡ false → OnOk result (found.new ≡ found.old) }
 {
     let setting = context.setting;
     let Some(source) = &context.source else {
@@ -84,6 +85,7 @@ pub(crate) fn cells_of_block(
     ensures cells { IfOk result (λ v. AreCells context.now.setting (block_masks block.now) v.items) }
     ensures counts { OnOk result (Counts (widths_for context.now.setting (block_masks block.now))
         found.old tallies.old found.new tallies.new) }
+    ensures alone { context.now.has_source ≡ false → OnOk result (found.new ≡ found.old) }
 {
     prove!(context.setting.inputs() <= 16);
     let needs = needs_of_block(alloc, block, context)?;

@@ -1,6 +1,6 @@
 //! What the workers of a layer read.
 
-ghost use Rattle.std.specs.Prelude.{◌≡◌};
+ghost use Rattle.std.specs.Prelude.{◌≡◌, true};
 
 use compaction::WidthSource;
 use solutions::Setting;
@@ -18,12 +18,13 @@ pub struct LayerContext<'a> {
 }
 
 impl<'a> Model for LayerContext<'a> {
-    ghost use Rattle.std.specs.Prelude.{◌≡◌, IfSome};
+    ghost use Rattle.std.specs.Prelude.{◌≡◌, IfSome, is_some};
     ghost use Rattle.order_solve.specs.LayerContexts.{ContextOf, context_with, IsContext};
 
     ghost Value = { ContextOf };
 
-    ghost view = { λ c. context_with c.setting.now c.layer.now c.before.now };
+    ghost view = { λ c. record (context_with c.setting.now c.layer.now c.before.now)
+        { has_source = is_some c.source } };
 
     ghost invariant = { λ c. IsContext (context_with c.setting.now c.layer.now c.before.now)
         × IfSome c.source (λ w. w ≡ c.setting.now.problem) };
@@ -48,7 +49,7 @@ impl<'a> LayerContext<'a> {
     /// The same context, with a source of widths.
     pub(crate) fn with_source(self, source: WidthSource<'a>) -> LayerContext<'a>
         requires { source ≡ self.setting.problem }
-        ensures { result ≡ self.entry }
+        ensures { result ≡ record self.entry { has_source = true } }
     {
         LayerContext {
             source: Some(source),

@@ -1,6 +1,6 @@
 //! A worker at the board of a layer.
 
-ghost use Rattle.std.specs.Prelude.{◌≡◌, ℕ, Some, IfOk, IsTrue};
+ghost use Rattle.std.specs.Prelude.{◌≡◌, ℕ, false, [], Some, IfOk, IsTrue};
 ghost use Rattle.order_model.specs.Orders.{has};
 ghost use Rattle.subset_layers.specs.Layers.{block_masks};
 ghost use Rattle.compaction.specs.Ahead.{widths_ahead};
@@ -113,6 +113,8 @@ pub fn work_layer<'a, G: Gate>(
         (λ e. (mask : ℕ) → IsTrue (gains seat e.seat mask) → IsTrue (knows_filled e.seat mask)) }
     ensures tally { IfOk result (λ e. e.tally ≡ widths_for context.now.setting (gained seat e.seat)) }
     ensures ahead { IfOk result (λ e. e.ahead ≡ widths_ahead e.found) }
+    ensures alone { context.now.has_source ≡ false → IfOk result
+        (λ e. (e.ahead ≡ 0) × (e.found.rows ≡ [])) }
 {
     prove!(context.setting.inputs() <= 16);
     let worker = Worker::new(board, context, worker, gate);

@@ -20,5 +20,6 @@ returns-clause-layer c =
     layer_is t size c.in_ok-layer.layer c.in_ok-cells.cells.items c.of-costs.result
     (c.in_ok-layer.ensures ∙ ap (λ n. layer_with n size) c.inputs.ensures.value) c.of-costs.ensures.value
     (c.in_ok-cells.ensures.cells
-    ∙ ap (λ (b : ContextOf). map (cell_for b.setting) (masks_of b.layer)) (c.with_source-context.ensures ∙ c.new.ensures))
+    ∙ (ap (λ (b : ContextOf). map (cell_for b.setting) (masks_of b.layer)) c.with_source-context.ensures
+    ∙ ap (λ (b : ContextOf). map (cell_for b.setting) (masks_of b.layer)) c.new.ensures))
     c.of-costs.ensures.exact

@@ -1,6 +1,7 @@
 use Rattle.std.proofs.Common.{rules, ◌≡◌, ℕ, ◌+◌, ◌≤◌, sym, ap, ◌∙◌, subst, arith}
 use Rattle.subset_layers.specs.Layers.{LayerOf, BlockOf, layer_of, block_masks}
 use Rattle.order_model.specs.Orders.{has}
+use Rattle.compaction.specs.Ahead.{AheadOf}
 use Rattle.layer_board.specs.Views.{BoardId}
 use Rattle.solutions.specs.Needs.{widths_for}
 use Rattle.order_solve.specs.LayerContexts.{ContextOf}
@@ -74,6 +75,7 @@ loop-claim-preserved g c =
       found = c.in_ok-cells.ensures.counts.problem ∙ c.loop-claim.invariant.found;
       ahead = (let r = c.in_ok-cells.ensures.counts.ahead in let i = c.loop-claim.invariant.ahead in omega (arith, r, i));
       few = few_round s s1 s2 c.loop-claim.tallies.ahead p b h c.loop-claim.invariant.few _ c.post_block.ensures.stays c.in_ok-cells.ensures.counts.few;
+      alone = λ none. ap (λ (z : AheadOf). z.rows) (c.in_ok-cells.ensures.alone none) ∙ c.loop-claim.invariant.alone none;
     }
 
 pub returns-clause-told : goal.returns-clause-told

@@ -1,4 +1,4 @@
-use Rattle.std.proofs.Common.{◌≡◌}
+use Rattle.std.proofs.Common.{◌≡◌, false, []}
 use Rattle.compaction.specs.Ahead.{widths_ahead}
 use Rattle.order_solve.proofs.Rounds.{Working, IsFewAhead}
 use Rattle.order_solve.proofs.Claimed.{open_marks}
@@ -10,6 +10,7 @@ invariant-loop-claim g l = record {
   found : l.found.problem ≡ l.context.setting.problem;
   ahead : l.tallies.ahead ≡ widths_ahead l.found;
   few : IsFewAhead l.seat l.tallies.ahead;
+  alone : l.context.has_source ≡ false → l.found.rows ≡ [];
 }
 
 abbrev pub decreases-loop-claim : goal.decreases-loop-claim
