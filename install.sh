@@ -79,8 +79,28 @@ documents() {
     ln -s ../../../minorder/python "$made/tree/$folder/bindings/python"
 }
 
+# The commands of the Python package; each runs the one of the prefix that it lies in.
+commands() {
+    local name module
+    sed -n '/^\[project.scripts\]/,/^\[/s/^\(minorder-[a-z]*\) = "\(.*\):main"$/\1 \2/p' "$top/bindings/python/pyproject.toml" | while read -r name module; do
+        cat << END > "$made/tree/bin/$name"
+#!/usr/bin/env python3
+import os
+import sys
+
+sys.dont_write_bytecode = True
+sys.path.insert(0, os.path.join(os.path.dirname(os.path.dirname(os.path.realpath(__file__))), "share", "minorder", "python"))
+from $module import main  # noqa: E402
+
+sys.exit(main())
+END
+        chmod 755 "$made/tree/bin/$name"
+    done
+}
+
 tree() {
     put 755 bin "$top/crates/minorder/out/minorder" "$top/crates/ordercheck/out/ordercheck"
+    commands
     put 644 lib "$top"/lib/libminorder.{a,so.1}
     ln -s libminorder.so.1 "$made/tree/lib/libminorder.so"
     put 644 include "$top/include/minorder.h"
@@ -92,6 +112,7 @@ tree() {
     put 644 share/minorder/python "$top/bindings/python/pyproject.toml"
     put 644 share/minorder/python/backend "$top"/bindings/python/backend/*.py
     put 644 share/minorder/python/minorder "$top"/bindings/python/minorder/{*.py,py.typed}
+    put 644 share/minorder/python/minorder/benchmarks "$top"/bindings/python/minorder/benchmarks/*.{py,csv}
 }
 
 # ---- putting it there: each file beside its place first, then all by a rename
@@ -189,7 +210,7 @@ uninstall() {
         [ ! -e "$root/$name" ] || [ -w "$(dirname "$root/$name")" ] || fail "$root/$name can't be taken away"
     done
     # what Python keeps of the package's modules
-    rm -rf -- "$root"/share/minorder/{optima,python/minorder,python/backend}/__pycache__
+    rm -rf -- "$root"/share/minorder/{optima,python/minorder,python/minorder/benchmarks,python/backend}/__pycache__
     for name in "${names[@]}"; do
         [[ $name == */ ]] || rm -f -- "$root/$name"
     done

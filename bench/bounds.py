@@ -4,15 +4,14 @@ inputs (13)
 
 Sifts as `Sifted::tightened` does, by the library's passes. MINORDER_LIBRARY names the library.
 """
-import csv
 import math
 import os
 import sys
 
 TOP = os.path.dirname(os.path.dirname(os.path.abspath(__file__)))
-sys.path[:0] = [f"{TOP}/optima", f"{TOP}/bindings/python"]
-import functions  # noqa: E402
+sys.path.insert(0, f"{TOP}/bindings/python")
 import minorder  # noqa: E402
+from minorder import benchmarks  # noqa: E402
 
 
 def settled(tables, sifted):
@@ -32,12 +31,10 @@ def tightened(tables, sifted):
 
 def main():
     least = int(sys.argv[1]) if len(sys.argv) > 1 else 13
-    with open(f"{TOP}/optima/optima.csv") as rows:
-        optima = {row["name"]: int(row["optimum"]) for row in csv.DictReader(rows)}
     ratios = []
-    for entry in functions.entries():
+    for entry in benchmarks.entries():
         if len(entry.inputs) >= least:
-            tables, optimum = entry.tables(), optima[entry.name]
+            tables, optimum = entry.tables(), benchmarks.optima()[entry.name].optimum
             sifted = minorder.sift(tables, range(len(entry.inputs)))
             tight = tightened(tables, sifted)
             ratios.append((sifted.total / optimum, tight.total / optimum))

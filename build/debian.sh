@@ -32,7 +32,7 @@ lay() {
 }
 
 programs() {
-    lay minorder usr/bin bin/{minorder,ordercheck}
+    lay minorder usr/bin bin/{minorder,ordercheck,minorder-*}
     lay minorder usr/share/man/man1 share/man/man1/{minorder,ordercheck}.1
     lay minorder usr/share share/minorder
     lay minorder usr/share/doc share/doc/minorder

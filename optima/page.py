@@ -2,11 +2,10 @@
 import os
 from math import exp, log
 
-import aliases
 import few
-import functions
 import pictures
 import table
+from minorder.benchmarks import aliases, entry
 
 HERE = os.path.dirname(os.path.abspath(__file__))
 LEAGUE_LINK = "- [The league of heuristics](#the-league): how far the methods of CUDD, BuDDy and ABC end from the optimum.\n"
@@ -161,8 +160,7 @@ def few_part(programs):
 def profile_levels(rows):
     """The level counts of the largest hidden weighted bit under three orders, by the library."""
     minorder = few.library()
-    entry = next(entry for entry in functions.entries() if entry.name == "hwb16")
-    inputs, tables = len(entry.inputs), entry.tables()
+    inputs, tables = 16, entry("hwb16").tables()
     row = next(row for row in rows if row["name"] == "hwb16")
     sifted, best = (list(map(int, row[column].split())) for column in ("sifted_order", "first_optimal_order"))
     orders = {"file's order": list(range(inputs)), "sifted order": sifted, "best order": best}

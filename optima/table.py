@@ -8,11 +8,9 @@ import shutil
 import subprocess
 import sys
 
-import aliases
-import functions
-
 HERE = os.path.dirname(os.path.abspath(__file__))
 sys.path.append(f"{HERE}/../bindings/python")
+from minorder.benchmarks import aliases, entries, textbook  # noqa: E402
 from minorder.files import parts_of  # noqa: E402
 
 KEPT_BELOW = 20_000
@@ -46,9 +44,9 @@ def write(path, content):
 
 
 def by_family():
-    entries = list(functions.entries())
-    families = list(dict.fromkeys(entry.family for entry in entries))
-    return sorted(entries, key=lambda entry: families.index(entry.family))
+    found = list(entries())
+    families = list(dict.fromkeys(entry.family for entry in found))
+    return sorted(found, key=lambda entry: families.index(entry.family))
 
 
 def used():
@@ -89,7 +87,7 @@ def is_kept(row, room):
 
 
 def textbook_families():
-    return {entry.family for entry in functions.textbook.entries()}
+    return {entry.family for entry in textbook.entries()}
 
 
 def keep(rows, room, into):
@@ -114,11 +112,11 @@ def make(programs):
     """Measures all functions, those first that are done soonest, and writes the table and what the gate judges."""
     room = f"{programs.room}/table"
     os.makedirs(room, exist_ok=True)
-    entries, rows = by_family(), {}
-    for i, entry in enumerate(sorted(entries, key=lambda it: (len(it.inputs), it.outputs)), 1):
-        print(f"{entry.name}: {i} of {len(entries)}", file=sys.stderr)
+    found, rows = by_family(), {}
+    for i, entry in enumerate(sorted(found, key=lambda it: (len(it.inputs), it.outputs)), 1):
+        print(f"{entry.name}: {i} of {len(found)}", file=sys.stderr)
         rows[entry.name] = measure(entry, programs, room)
-    ordered = [rows[entry.name] for entry in entries]
+    ordered = [rows[entry.name] for entry in found]
     os.makedirs(f"{programs.into}/optima", exist_ok=True)
     with open(f"{programs.into}/optima/optima.csv", "w", newline="") as file:
         table = csv.DictWriter(file, COLUMNS, lineterminator="\n", extrasaction="ignore")

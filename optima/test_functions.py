@@ -1,15 +1,11 @@
 """Tests of the functions of the table against what their sources say: python3 -m unittest discover -s optima"""
+import os
+import sys
 import unittest
 
-import aliases
-import automata
-import chips
-import circuits
-import codings
-import digits
-import functions
-import sboxes
-from entry import bits_of, number
+sys.path.insert(0, f"{os.path.dirname(os.path.abspath(__file__))}/../bindings/python")
+from minorder.benchmarks import aliases, automata, chips, circuits, codings, digits, entries, sboxes  # noqa: E402
+from minorder.benchmarks.entry import bits_of, number  # noqa: E402
 
 
 def points(n):
@@ -94,7 +90,7 @@ class Codings(unittest.TestCase):
 class Others(unittest.TestCase):
     def test_names_are_given_once_and_shapes_hold(self):
         seen = set()
-        for entry in functions.entries():
+        for entry in entries():
             self.assertNotIn(entry.name, seen)
             seen.add(entry.name)
             n = len(entry.inputs)
@@ -104,7 +100,7 @@ class Others(unittest.TestCase):
                 self.assertEqual(len(entry.values(x)), entry.outputs)
 
     def test_names_of_the_field_are_of_functions_of_that_shape(self):
-        shapes = {entry.name: (len(entry.inputs), entry.outputs) for entry in functions.entries()}
+        shapes = {entry.name: (len(entry.inputs), entry.outputs) for entry in entries()}
         for alias, (here, *shape) in aliases.FIELD.items():
             self.assertEqual(shapes[here], tuple(shape), alias)
             self.assertTrue(alias == here or alias not in shapes, alias)

@@ -1,4 +1,4 @@
-"""What pip calls to build the package (PEP 517): a wheel is an archive of the package's files and three more that describe it."""
+"""What pip calls to build the package (PEP 517): a wheel is an archive of the package's files and four more that describe it."""
 import base64
 import hashlib
 import os
@@ -26,8 +26,15 @@ def _version():
 
 def _package():
     """The package's files, and the shared library if one lies beside them."""
-    names = sorted(os.listdir(os.path.join(TOP, "minorder")))
-    return [f"minorder/{name}" for name in names if name.endswith((".py", "py.typed")) or ".so" in name]
+    folders = ("minorder", "minorder/benchmarks")
+    names = [f"{folder}/{name}" for folder in folders for name in sorted(os.listdir(os.path.join(TOP, folder)))]
+    return [name for name in names if name.endswith((".py", ".csv", "py.typed")) or ".so" in name]
+
+
+def _commands():
+    """What pyproject.toml has below [project.scripts], as a wheel spells it."""
+    commands = _read("pyproject.toml").decode().partition("[project.scripts]\n")[2].partition("[")[0]
+    return "[console_scripts]\n" + commands.replace('"', "")
 
 
 def build_wheel(wheel_directory, config_settings=None, metadata_directory=None):
@@ -37,6 +44,7 @@ def build_wheel(wheel_directory, config_settings=None, metadata_directory=None):
     files[f"{about}/METADATA"] = ABOUT.format(version=version).encode()
     pure = "true" if tag.endswith("any") else "false"
     files[f"{about}/WHEEL"] = f"Wheel-Version: 1.0\nGenerator: wheels.py\nRoot-Is-Purelib: {pure}\nTag: {tag}\n".encode()
+    files[f"{about}/entry_points.txt"] = _commands().encode()
     record = ""
     for name, content in files.items():
         digest = base64.urlsafe_b64encode(hashlib.sha256(content).digest()).rstrip(b"=").decode()
@@ -51,7 +59,7 @@ def build_wheel(wheel_directory, config_settings=None, metadata_directory=None):
 
 def build_sdist(sdist_directory, config_settings=None):
     made = f"minorder-{_version()}"
-    with tarfile.open(os.path.join(sdist_directory, f"{made}.tar.gz"), "w:gz") as archive:
+    with tarfile.open(os.path.join(sdist_directory, f"{made}.tar.gz"), "w:gz", dereference=True) as archive:
         for name in ["pyproject.toml", "backend/wheels.py", *_package()]:
             archive.add(os.path.join(TOP, name), f"{made}/{name}")
         about = os.path.join(sdist_directory, "PKG-INFO")

@@ -1,6 +1,7 @@
 """Names of the field's benchmarks (Brayton, Hachtel, McMullen and Sangiovanni-Vincentelli 1984; Yang 1991) for functions of the
 table that are the same by their definition, up to the order of inputs and outputs: the name here, and the inputs and outputs
 that the field's lists have."""
+from __future__ import annotations
 
 FIELD = {
     "rd53": ("rd53", 5, 3),
@@ -20,6 +21,6 @@ FIELD = {
 }
 
 
-def of(name):
+def of(name: str) -> list[str]:
     """What the field calls a function of the table."""
     return [alias for alias, (here, _, _) in FIELD.items() if here == name]

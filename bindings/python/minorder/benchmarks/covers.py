@@ -1,13 +1,16 @@
 """Irredundant covers by prime-like products (Morreale 1970, Minato 1993), with truth tables as
 whole numbers: bit p is the value at point p."""
+from __future__ import annotations
+
+from typing import Sequence
 
 
-def products(inputs, ones):
+def products(inputs: int, ones: int) -> list[str]:
     """Products, as a PLA file spells them, that cover exactly the points of a truth table; none of them can be left out."""
     full = [(1 << (1 << count)) - 1 for count in range(inputs + 1)]
-    seen = {}
+    seen: dict[tuple[int, int, int], tuple[list[str], int]] = {}
 
-    def cover(least, most, count):
+    def cover(least: int, most: int, count: int) -> tuple[list[str], int]:
         """Products on the first variables that cover all of `least` and nothing outside `most`, and what they cover."""
         if not least:
             return [], 0
@@ -26,7 +29,7 @@ def products(inputs, ones):
     return cover(ones, ones, inputs)[0]
 
 
-def points(inputs, tables):
+def points(inputs: int, tables: Sequence[int]) -> list[str]:
     """The lines of all points at which some output is 1."""
     values = [f"{ones:0{1 << inputs}b}"[::-1] for ones in tables]
     rows = []
@@ -37,10 +40,10 @@ def points(inputs, tables):
     return rows
 
 
-def lines(inputs, tables):
+def lines(inputs: int, tables: Sequence[int]) -> list[str]:
     """The lines of a PLA file with an output for each truth table: products, of which equal ones of several outputs stand
     once, or points where these are fewer."""
-    rows = {}
+    rows: dict[str, list[str]] = {}
     for output, ones in enumerate(tables):
         for term in products(inputs, ones):
             rows.setdefault(term, ["0"] * len(tables))[output] = "1"

@@ -1,19 +1,22 @@
 """The functions of the textbooks: arithmetic, symmetric functions, multiplexers, hidden weighted bit, random ones."""
+from __future__ import annotations
+
 import hashlib
+from typing import Iterator
 
-from entry import Entry, bits_of, interleaved, named, number, two_words
+from .entry import Bits, Entry, Formula, OfNumbers, bits_of, interleaved, named, number, two_words
 
-ROOTS = {}
+ROOTS: dict[int, list[int]] = {}
 
 
-def isqrt(value):
+def isqrt(value: int) -> int:
     root = 0
     while (root + 1) ** 2 <= value:
         root += 1
     return root
 
 
-def random_values(n, m):
+def random_values(n: int, m: int) -> Formula:
     """m random functions of n inputs: bit p of the SHA-256 stream of the blocks `bakchuon n m j k`
     is the value of function j at point p."""
     tables = []
@@ -23,35 +26,35 @@ def random_values(n, m):
     return lambda x: [tables[j][number(x) // 8] >> number(x) % 8 & 1 for j in range(m)]
 
 
-def storage(k, w):
+def storage(k: int, w: int) -> Formula:
     """Indirect storage access: k bits choose a word of w bits of a memory of 2^w bits, and the word
     chooses a bit of the memory."""
-    def value(x):
+    def value(x: Bits) -> list[int]:
         memory, start = x[k:], number(x[:k]) * w
         return [memory[number([memory[(start + i) % (1 << w)] for i in range(w)])]]
     return value
 
 
-def isqrt_table(n):
+def isqrt_table(n: int) -> list[int]:
     if n not in ROOTS:
         ROOTS[n] = [isqrt(value) for value in range(1 << n)]
     return ROOTS[n]
 
 
-def hidden_weighted_bit(x):
+def hidden_weighted_bit(x: Bits) -> list[int]:
     return [x[sum(x) - 1] if sum(x) else 0]
 
 
-def quotient_and_remainder(k):
+def quotient_and_remainder(k: int) -> OfNumbers:
     """Of two numbers of k bits; both 0 where the divisor is 0."""
     return lambda a, b: bits_of(a // b, k) + bits_of(a % b, k) if b else [0] * (2 * k)
 
 
-def achilles(k):
+def achilles(k: int) -> Formula:
     return lambda x: [any(x[i] and x[k + i] for i in range(k))]
 
 
-def arithmetic():
+def arithmetic() -> Iterator[Entry]:
     for n in range(4, 17):
         yield Entry("hidden weighted bit", f"hwb{n}", named("x", n), 1,
                     "x[w], w being the number of ones among x1 .. xn; 0 where w is 0 (Bryant 1991)", hidden_weighted_bit)
@@ -82,7 +85,7 @@ def arithmetic():
                     lambda x, n=n: bits_of(isqrt_table(n)[number(x)], n // 2))
 
 
-def others():
+def others() -> Iterator[Entry]:
     for n in (8, 16):
         yield Entry("codes", f"gray{n}", named("x", n), n, "binary to Gray: x xor x / 2",
                     lambda x, n=n: bits_of(number(x) ^ number(x) >> 1, n))
@@ -109,6 +112,6 @@ def others():
             yield Entry("random", f"random{n}_{m}", named("x", n), m, words, random_values(n, m))
 
 
-def entries():
+def entries() -> Iterator[Entry]:
     yield from arithmetic()
     yield from others()

@@ -1,5 +1,9 @@
 """S-boxes of ciphers and hash functions. Input x0 and output 0 are the lowest bits of the numbers that the standards write."""
-from entry import of_table
+from __future__ import annotations
+
+from typing import Iterator
+
+from .entry import Entry, of_table
 
 # rows 0 to 3 of S1 to S8
 DES = (
@@ -38,7 +42,7 @@ ASCON = [0x04, 0x0B, 0x1F, 0x14, 0x1A, 0x15, 0x09, 0x02, 0x1B, 0x05, 0x08, 0x12,
          0x1E, 0x13, 0x07, 0x0E, 0x00, 0x0D, 0x11, 0x18, 0x10, 0x0C, 0x01, 0x19, 0x16, 0x0A, 0x0F, 0x17]
 
 
-def product(a, b):
+def product(a: int, b: int) -> int:
     """In the field of 256 elements of AES, the polynomials over two elements modulo x^8 + x^4 + x^3 + x + 1."""
     result = 0
     while b:
@@ -48,30 +52,32 @@ def product(a, b):
     return result
 
 
-def aes():
+def aes() -> list[int]:
     """The affine image of the inverse; 0 is its own inverse."""
     inverse = [0] + [next(y for y in range(1, 256) if product(x, y) == 1) for x in range(1, 256)]
     turned = [[(y << k | y >> 8 - k) & 0xFF for k in range(5)] for y in inverse]
     return [a ^ b ^ c ^ d ^ e ^ 0x63 for a, b, c, d, e in turned]
 
 
-def inverse_of(table):
+def inverse_of(table: list[int]) -> list[int]:
     return [table.index(value) for value in range(len(table))]
 
 
-def des(i):
+def des(i: int) -> list[int]:
     """S-box i from 0: the outer two of six bits choose the row, the inner four the column."""
     rows = [[int(digit, 16) for digit in row] for row in DES[i].split()]
     return [rows[x >> 4 & 2 | x & 1][x >> 1 & 15] for x in range(64)]
 
 
-def chi():
+def chi() -> list[int]:
     """Bit i of a row of five is x[i] + (not x[i + 1]) x[i + 2]."""
-    bit = lambda x, i: x >> i % 5 & 1
+    def bit(x: int, i: int) -> int:
+        return x >> i % 5 & 1
+
     return [sum((bit(x, i) ^ (1 - bit(x, i + 1)) & bit(x, i + 2)) << i for i in range(5)) for x in range(32)]
 
 
-def entries():
+def entries() -> Iterator[Entry]:
     family = "S-boxes"
     yield of_table(family, "aes", 8, 8, "AES, SubBytes (FIPS 197)", aes())
     yield of_table(family, "aes_inverse", 8, 8, "AES, InvSubBytes (FIPS 197)", inverse_of(aes()))

@@ -1,33 +1,37 @@
 """Parts of processors and networks: shifters, counters, arbiters, units, sorters."""
-from entry import Entry, bits_of, named, number
+from __future__ import annotations
+
+from typing import Iterator, Sequence
+
+from .entry import Bits, Entry, Formula, bits_of, named, number
 
 
-def leading_zeros(x):
+def leading_zeros(x: Bits) -> int:
     return next((i for i, bit in enumerate(reversed(x)) if bit), len(x))
 
 
-def rotated(x):
+def rotated(x: Bits) -> Sequence[object]:
     """Eight bits turned left by three bits' amount."""
     return [x[(i - number(x[8:])) % 8] for i in range(8)]
 
 
-def shifted(x):
+def shifted(x: Bits) -> Sequence[object]:
     return bits_of(number(x[:8]) << number(x[8:]), 8)
 
 
-def shifted_with_sign(x):
+def shifted_with_sign(x: Bits) -> Sequence[object]:
     """To the right, with copies of the highest bit coming in."""
     return [x[min(7, i + number(x[8:]))] for i in range(8)]
 
 
-def first_request(x):
+def first_request(x: Bits) -> Sequence[object]:
     """The request with the smallest number is granted."""
     return [x[i] and not any(x[:i]) for i in range(len(x))]
 
 
-def round_robin(n):
+def round_robin(n: int) -> Formula:
     """The first request from a pointer on, round the ring, is granted."""
-    def values(x):
+    def values(x: Bits) -> Sequence[object]:
         pointer = number(x[n:])
         turn = [(pointer + i) % n for i in range(n)]
         granted = next((i for i in turn if x[i]), None)
@@ -35,12 +39,12 @@ def round_robin(n):
     return values
 
 
-def arithmetic_logic(k):
+def arithmetic_logic(k: int) -> Formula:
     """a, b of k bits and an operation: +, -, and, or, exclusive or, not a, a < b without a sign, a
     < b with one; the carry of + and of a + not b + 1."""
     half, mask = 1 << k - 1, (1 << k) - 1
 
-    def values(x):
+    def values(x: Bits) -> Sequence[object]:
         a, b, op = number(x[:k]), number(x[k:2 * k]), number(x[2 * k:])
         sums = (a + b, a + (b ^ mask) + 1)
         results = (*sums, a & b, a | b, a ^ b, a ^ mask, a < b, (a ^ half) < (b ^ half))
@@ -48,34 +52,34 @@ def arithmetic_logic(k):
     return values
 
 
-def words(x, k):
+def words(x: Bits, k: int) -> list[int]:
     return [number(x[i:i + k]) for i in range(0, len(x), k)]
 
 
-def sorted_words(k):
+def sorted_words(k: int) -> Formula:
     return lambda x: [bit for word in sorted(words(x, k)) for bit in bits_of(word, k)]
 
 
-def median(k):
-    def values(x):
+def median(k: int) -> Formula:
+    def values(x: Bits) -> Sequence[object]:
         each = sorted(words(x, k))
         return bits_of(each[len(each) // 2], k)
     return values
 
 
-def rank(k):
+def rank(k: int) -> Formula:
     """How many of the other words are smaller than the first."""
-    def values(x):
+    def values(x: Bits) -> Sequence[object]:
         first, *others = words(x, k)
         return bits_of(sum(other < first for other in others), len(others).bit_length())
     return values
 
 
-def several(letters, k):
+def several(letters: str, k: int) -> list[str]:
     return [f"{letter}{i}" for letter in letters for i in range(k)]
 
 
-def of_words():
+def of_words() -> Iterator[Entry]:
     family = "processor parts"
     for n in (8, 12, 16):
         yield Entry(family, f"leadingzeros{n}", named("x", n), n.bit_length(), "how many zeros stand above the highest one",
@@ -98,7 +102,7 @@ def of_words():
         yield Entry(family, f"arithmeticlogic{k}", inputs, k + 1, said, arithmetic_logic(k))
 
 
-def of_networks():
+def of_networks() -> Iterator[Entry]:
     family = "counting and sorting"
     for n in (6, 10, 12, 15, 16):
         yield Entry(family, f"ones{n}", named("x", n), n.bit_length(), "the number of ones, in binary",
@@ -119,6 +123,6 @@ def of_networks():
                     f"how many of b .. are smaller than a, {n} numbers of {k} bits", rank(k))
 
 
-def entries():
+def entries() -> Iterator[Entry]:
     yield from of_words()
     yield from of_networks()

@@ -1,11 +1,15 @@
 """Decimal digits and arithmetic beyond the textbook's."""
-from entry import Entry, bits_of, named, number, two_words
+from __future__ import annotations
+
+from typing import Iterator, Sequence
+
+from .entry import Bits, Entry, Formula, OfNumbers, bits_of, named, number, two_words
 
 
-def decimal_adder(offset):
+def decimal_adder(offset: int) -> Formula:
     """The sum of two digits, each written as the digit + offset, and a carry: its digit and its
     carry; all 0 where an input is no digit."""
-    def values(x):
+    def values(x: Bits) -> Sequence[object]:
         a, b = number(x[:4]) - offset, number(x[4:8]) - offset
         if not (0 <= a <= 9 and 0 <= b <= 9):
             return [0] * 5
@@ -14,34 +18,34 @@ def decimal_adder(offset):
     return values
 
 
-def to_decimal(digits):
+def to_decimal(digits: int) -> Formula:
     """A number to its decimal digits, four bits each, the lowest first."""
     return lambda x: [bit for i in range(digits) for bit in bits_of(number(x) // 10 ** i % 10, 4)]
 
 
-def from_decimal(x):
+def from_decimal(x: Bits) -> Sequence[object]:
     """Two decimal digits to a number; 0 where one is none."""
     low, high = number(x[:4]), number(x[4:])
     return bits_of(10 * high + low if low < 10 and high < 10 else 0, 7)
 
 
-def signed(value, count):
+def signed(value: int, count: int) -> int:
     return value - (1 << count) if value >> count - 1 else value
 
 
-def saturated(k):
+def saturated(k: int) -> OfNumbers:
     """The sum of two numbers of k bits with a sign, held between the least and the greatest."""
-    def values(a, b):
+    def values(a: int, b: int) -> list[int]:
         total = signed(a, k) + signed(b, k)
         return bits_of(max(-(1 << k - 1), min((1 << k - 1) - 1, total)), k)
     return values
 
 
-def is_prime(value):
+def is_prime(value: int) -> bool:
     return value > 1 and all(value % divisor for divisor in range(2, int(value ** 0.5) + 1))
 
 
-def of_digits():
+def of_digits() -> Iterator[Entry]:
     family, digit = "decimal digits", named("x", 4)
     inputs = named("a", 4) + named("b", 4) + ["carry"]
     yield Entry(family, "bcdadd", inputs, 5,
@@ -56,7 +60,7 @@ def of_digits():
     yield Entry(family, "fromdecimal2", named("x", 8), 7, "two decimal digits to a number; 0 where one is none", from_decimal)
 
 
-def of_numbers():
+def of_numbers() -> Iterator[Entry]:
     family = "more arithmetic"
     yield Entry(family, "affine7", named("x", 7), 10, "5 x + 1, all bits", lambda x: bits_of(5 * number(x) + 1, 10))
     yield Entry(family, "affine8", named("x", 8), 8, "5 x + 1 modulo 256", lambda x: bits_of(5 * number(x) + 1, 8))
@@ -81,6 +85,6 @@ def of_numbers():
         yield Entry(family, f"prime{n}", named("x", n), 1, "x is a prime number", lambda x: [is_prime(number(x))])
 
 
-def entries():
+def entries() -> Iterator[Entry]:
     yield from of_digits()
     yield from of_numbers()

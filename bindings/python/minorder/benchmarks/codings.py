@@ -1,5 +1,9 @@
 """Codes that find and correct errors, codes of lines, and codes of digits and characters."""
-from entry import Entry, bits_of, named, number
+from __future__ import annotations
+
+from typing import Iterator, Sequence
+
+from .entry import Bits, Entry, Formula, bits_of, named, number
 
 # abcdei of the five bits EDCBA, and fghj of HGF, at the running disparity -1 (Widmer and Franaszek 1983)
 SIX = """100111 011101 101101 110001 110101 101001 011001 111000 111001 100101 010101 110100 001101 101100 011100 010111
@@ -7,14 +11,14 @@ SIX = """100111 011101 101101 110001 110101 101001 011001 111000 111001 100101 0
 FOUR = "1011 1001 0101 1100 1101 1010 0110 1110".split()
 
 
-def hamming_places(r):
+def hamming_places(r: int) -> list[int]:
     """The places 1 to 2^r - 1 that carry data: those that are no powers of two."""
     return [place for place in range(1, 1 << r) if place & place - 1]
 
 
-def hamming_encoder(r):
+def hamming_encoder(r: int) -> Formula:
     """The word by places: the checks make the places of its ones add up to 0, bit by bit."""
-    def values(x):
+    def values(x: Bits) -> Sequence[object]:
         word, syndrome = [0] * (1 << r), 0
         for place, bit in zip(hamming_places(r), x):
             word[place] = bit
@@ -25,7 +29,7 @@ def hamming_encoder(r):
     return values
 
 
-def syndrome(x):
+def syndrome(x: Bits) -> int:
     """The places of the ones, added up bit by bit: where the one wrong bit is, or 0."""
     found = 0
     for place, bit in enumerate(x, 1):
@@ -33,17 +37,17 @@ def syndrome(x):
     return found
 
 
-def hamming_decoder(r):
-    def values(x):
+def hamming_decoder(r: int) -> Formula:
+    def values(x: Bits) -> Sequence[object]:
         wrong = syndrome(x)
         return [x[place - 1] ^ (place == wrong) for place in hamming_places(r)]
     return values
 
 
-def remainder(generator, degree, length):
+def remainder(generator: int, degree: int, length: int) -> Formula:
     """Of the message times x^degree by the generator (with its highest term); the highest bit of
     the message is the coefficient of the highest power."""
-    def values(x):
+    def values(x: Bits) -> Sequence[object]:
         rest = number(x) << degree
         for i in reversed(range(degree, degree + length)):
             if rest >> i & 1:
@@ -52,7 +56,7 @@ def remainder(generator, degree, length):
     return values
 
 
-def powers(count, modulus=0b10011, high=0b10000):
+def powers(count: int, modulus: int = 0b10011, high: int = 0b10000) -> list[int]:
     """The powers of the root x of x^4 + x + 1 in the field of 16 elements."""
     found = [1]
     while len(found) < count:
@@ -61,7 +65,7 @@ def powers(count, modulus=0b10011, high=0b10000):
     return found
 
 
-def bch_syndromes(x):
+def bch_syndromes(x: Bits) -> Sequence[object]:
     """The sums of a^i and of a^3i over the ones i of the word."""
     alpha, first, third = powers(15), 0, 0
     for i, bit in enumerate(x):
@@ -71,11 +75,11 @@ def bch_syndromes(x):
     return bits_of(first, 4) + bits_of(third, 4)
 
 
-def turned(word):
+def turned(word: list[int]) -> list[int]:
     return [1 - bit for bit in word]
 
 
-def ten_bits(x):
+def ten_bits(x: Bits) -> Sequence[object]:
     """8b/10b of a data byte, lowest bit A first, and the running disparity (1 for +1): a b c d e i
     f g h j, and the disparity after it."""
     low, high, disparity = number(x[:5]), number(x[5:8]), x[8]
@@ -91,13 +95,13 @@ def ten_bits(x):
     return [*six, *four, middle ^ (sum(four) != 2)]
 
 
-def hex_digit(x):
+def hex_digit(x: Bits) -> Sequence[object]:
     """The value of a hexadecimal digit in ASCII, upper or lower case, and whether it is one."""
     character = chr(number(x))
     return bits_of(int(character, 16), 4) + [1] if character in "0123456789abcdefABCDEF" else [0] * 5
 
 
-def classes(x):
+def classes(x: Bits) -> Sequence[object]:
     """Whether an ASCII character is an upper case letter, a lower case one, a digit, white space,
     another printing one, a control character."""
     code = number(x)
@@ -107,18 +111,18 @@ def classes(x):
     return [upper, lower, digit, space, other, code < 32 or code == 127]
 
 
-def sequence_length(x):
+def sequence_length(x: Bits) -> Sequence[object]:
     """How many bytes a UTF-8 sequence with this first byte has; 0 where none begins with it (RFC 3629)."""
     first = number(x)
     starts = ((0x00, 0x7F, 1), (0xC2, 0xDF, 2), (0xE0, 0xEF, 3), (0xF0, 0xF4, 4))
     return bits_of(next((length for least, most, length in starts if least <= first <= most), 0), 3)
 
 
-def from_gray(x):
+def from_gray(x: Bits) -> Sequence[object]:
     return [sum(x[i:]) % 2 for i in range(len(x))]
 
 
-def entries():
+def entries() -> Iterator[Entry]:
     family = "error-correcting codes"
     for r, name in ((3, "7_4"), (4, "15_11")):
         n, k = (1 << r) - 1, (1 << r) - 1 - r

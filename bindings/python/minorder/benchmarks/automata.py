@@ -1,44 +1,47 @@
 """Cellular automata, and properties of small graphs and boards."""
+from __future__ import annotations
+
 from itertools import combinations, permutations
+from typing import Iterator, Sequence
 
-from entry import Entry, named
+from .entry import Bits, Entry, Formula, named
 
 
-def stepped(rule, cells):
+def stepped(rule: int, cells: Bits) -> list[int]:
     """The cells that have both neighbours, one step on."""
     return [rule >> (4 * cells[i - 1] + 2 * cells[i] + cells[i + 1]) & 1 for i in range(1, len(cells) - 1)]
 
 
-def middle(rule, steps):
+def middle(rule: int, steps: int) -> Formula:
     """The middle cell after so many steps, a function of the cells that far away."""
-    def values(x):
+    def values(x: Bits) -> Sequence[object]:
         for _ in range(steps):
             x = stepped(rule, x)
         return x
     return values
 
 
-def ring(rule, steps):
+def ring(rule: int, steps: int) -> Formula:
     """The cells of a ring after so many steps."""
-    def values(x):
+    def values(x: Bits) -> Sequence[object]:
         for _ in range(steps):
             x = stepped(rule, [x[-1], *x, x[0]])
         return x
     return values
 
 
-def life(x):
+def life(x: Bits) -> Sequence[object]:
     """Conway's Life: the eight neighbours in rows, the cell in their middle."""
     around = sum(x) - x[4]
     return [around == 3 or x[4] and around == 2]
 
 
-def edges(n):
+def edges(n: int) -> list[tuple[int, int]]:
     return list(combinations(range(n), 2))
 
 
-def is_connected(n):
-    def values(x):
+def is_connected(n: int) -> Formula:
+    def values(x: Bits) -> Sequence[object]:
         reached = {0}
         for _ in range(n):
             reached |= {w for bit, edge in zip(x, edges(n)) if bit and reached & set(edge) for w in edge}
@@ -46,19 +49,19 @@ def is_connected(n):
     return values
 
 
-def has_triangle(n):
+def has_triangle(n: int) -> Formula:
     triangles = [[edges(n).index(edge) for edge in combinations(three, 2)] for three in combinations(range(n), 3)]
     return lambda x: [any(all(x[edge] for edge in triangle) for triangle in triangles)]
 
 
-def is_permutation(n):
+def is_permutation(n: int) -> Formula:
     """Exactly one in each row and each column of a square."""
     return lambda x: [all(sum(x[n * i:n * i + n]) == 1 for i in range(n)) and all(sum(x[i::n]) == 1 for i in range(n))]
 
 
-def is_queens(n):
+def is_queens(n: int) -> Formula:
     """n queens on a board of n rows, none in another's row, column or diagonal."""
-    def is_peaceful(board):
+    def is_peaceful(board: Sequence[int]) -> bool:
         return all(abs(board[i] - board[j]) != j - i for i, j in combinations(range(n), 2))
 
     boards = filter(is_peaceful, permutations(range(n)))
@@ -66,9 +69,9 @@ def is_queens(n):
     return lambda x: [tuple(x) in placed]
 
 
-def determinant(n):
+def determinant(n: int) -> Formula:
     """The determinant over the field of two elements."""
-    def values(x):
+    def values(x: Bits) -> Sequence[object]:
         rows, rank = [x[n * i:n * i + n] for i in range(n)], 0
         for column in range(n):
             pivot = next((i for i in range(rank, n) if rows[i][column]), None)
@@ -81,7 +84,7 @@ def determinant(n):
     return values
 
 
-def entries():
+def entries() -> Iterator[Entry]:
     family = "cellular automata"
     for rule in (30, 110):
         for steps in range(2, 8):

@@ -1,0 +1,78 @@
+"""The lines of optima.csv and league.csv."""
+from __future__ import annotations
+
+import csv
+import os
+from functools import lru_cache
+from typing import Iterator, NamedTuple, Optional
+
+HERE = os.path.dirname(os.path.abspath(__file__))
+FILE, RANDOM = "file", "random"
+
+
+class Optimum(NamedTuple):
+    """A function's proved optimum: numbers of decision nodes, orders top first, SHA-256 of the file and its certificate."""
+    family: str
+    name: str
+    aliases: tuple[str, ...]
+    what: str
+    inputs: int
+    outputs: int
+    file_order_nodes: int
+    sifted_nodes: int
+    optimum: int
+    first_optimal_order: tuple[int, ...]
+    sifted_order: tuple[int, ...]
+    level_counts: tuple[int, ...]
+    pla_sha256: str
+    certificate_sha256: str
+
+
+class Line(NamedTuple):
+    """What a method makes of a function from a start: the runs that ended late or without an order of the variables, and the
+    nodes of the others; None where all of them did."""
+    name: str
+    package: str
+    method: str
+    start: str
+    runs: int
+    late: int
+    without_an_order: int
+    least_nodes: Optional[int]
+    median_nodes: Optional[int]
+    most_nodes: Optional[int]
+    optimum_met: int
+    seconds: Optional[float]
+
+
+def _lines(name: str) -> Iterator[dict[str, str]]:
+    with open(f"{HERE}/{name}", newline="", encoding="utf-8") as file:
+        yield from csv.DictReader(file)
+
+
+def _numbers(text: str) -> tuple[int, ...]:
+    return tuple(map(int, text.split()))
+
+
+@lru_cache(maxsize=None)
+def optima() -> dict[str, Optimum]:
+    """The optima by the functions' names, family by family."""
+    return {row["name"]: Optimum(
+        row["family"], row["name"], tuple(row["aliases"].split()), row["what"], int(row["inputs"]), int(row["outputs"]),
+        int(row["file_order_nodes"]), int(row["sifted_nodes"]), int(row["optimum"]), _numbers(row["first_optimal_order"]),
+        _numbers(row["sifted_order"]), _numbers(row["level_counts"]), row["pla_sha256"], row["certificate_sha256"],
+    ) for row in _lines("optima.csv")}
+
+
+def _whole(text: str) -> Optional[int]:
+    return int(text) if text else None
+
+
+@lru_cache(maxsize=None)
+def league() -> list[Line]:
+    """What each method makes of each function, from the file's order and from random ones."""
+    return [Line(
+        row["name"], row["package"], row["method"], row["start"], int(row["runs"]), int(row["late"]),
+        int(row["without_an_order"]), _whole(row["least_nodes"]), _whole(row["median_nodes"]), _whole(row["most_nodes"]),
+        int(row["optimum_met"]), float(row["seconds"]) if row["seconds"] else None,
+    ) for row in _lines("league.csv")]
