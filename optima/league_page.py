@@ -1,17 +1,15 @@
 """The league's part of docs/OPTIMA.md, from optima/league.csv."""
 import csv
 import os
-from math import exp, log
 
 import league
+from minorder import benchmarks
+from minorder.benchmarks import CURVES, FILE, LAST, RANDOM
+from minorder._picture import curve_of
 
 SHOWN = [
     ("CUDD", "SIFT"), ("CUDD", "SIFT_CONVERGE"), ("CUDD", "GROUP_SIFT"), ("CUDD", "WINDOW4_CONV"), ("CUDD", "ANNEALING"),
     ("CUDD", "GENETIC"), ("ABC", "reo"), ("BuDDy", "WIN3ITE"), ("BuDDy", "SIFT"), ("BuDDy", "SIFTITE"), ("minorder", "sifting"),
-]
-CURVES = [
-    ("CUDD", "GENETIC"), ("CUDD", "ANNEALING"), ("BuDDy", "SIFTITE"), ("CUDD", "GROUP_SIFT"), ("minorder", "sifting"),
-    ("CUDD", "SIFT_CONVERGE"), ("CUDD", "SIFT"), ("CUDD", "WINDOW4_CONV"), ("BuDDy", "WIN3ITE"),
 ]
 FAMILIES = [
     "family", "package", "method", "functions", "with_an_order", "mean_ratio", "worst_ratio", "worst_function", "optimum_met",
@@ -19,47 +17,12 @@ FAMILIES = [
 ]
 
 
-def mean(values):
-    return exp(sum(map(log, values)) / len(values)) if values else None
-
-
-class Standing:
-    """What a method makes of some functions from the file's order: ratios of the median run, the
-    worst run, where the optimum was met."""
-
-    def __init__(self, lines, optima):
-        self.lines, self.optima = lines, optima
-        self.ended = [line for line in lines if line["median_nodes"]]
-        self.ratios = [self.ratio(line, "median_nodes") for line in self.ended]
-        self.mean = mean(self.ratios)
-        self.worst = max(self.ended, key=lambda line: self.ratio(line, "most_nodes"), default=None)
-        self.met = sum(ratio == 1 for ratio in self.ratios)
-        self.seconds = sum(float(line["seconds"]) for line in self.ended)
-        self.late = sum(int(line["late"]) > 0 for line in lines)
-
-    def ratio(self, line, column):
-        return int(line[column]) / self.optima[line["name"]]
-
-    def worst_ratio(self):
-        return self.ratio(self.worst, "most_nodes")
-
-
-def standings(lines, optima, start):
-    """By package and method."""
-    by_method = {method: [] for method in league.METHODS}
-    for line in lines:
-        method = line["package"], line["method"]
-        if line["start"] == start and method in by_method:
-            by_method[method].append(line)
-    return {method: Standing(mine, optima) for method, mine in by_method.items()}
-
-
 def of_random_starts(standing):
     """Of the runs from random orders: the mean of the functions' median ratios, the worst ratio,
     the share of runs that met the optimum."""
-    ended = sum(int(line["runs"]) - int(line["late"]) - int(line["without_an_order"]) for line in standing.lines)
-    met = sum(int(line["optimum_met"]) for line in standing.lines)
-    return [f"{standing.mean:.3f}", f"{standing.worst_ratio():.2f}", f"{100 * met / ended:.0f} %"]
+    ended = sum(line.runs - line.late - line.without_an_order for line in standing.lines)
+    met = sum(line.optimum_met for line in standing.lines)
+    return [f"{standing.mean:.3f}", f"{standing.worst_ratio:.2f}", f"{100 * met / ended:.0f} %"]
 
 
 def table(file, random):
@@ -69,57 +32,54 @@ def table(file, random):
         "Worst ratio", "Runs that met it",
     ]
     out = ["| " + " | ".join(heads) + " |", "|" + "---|" * len(heads)]
-    ranked = sorted(file, key=lambda method: (method == ("CUDD", "LINEAR"), random[method].mean))
-    for method in ranked:
+    for method in benchmarks.ranked(random):
         mine = file[method]
         name = " ".join(method) + (" (random)" if method in league.RANDOM else "")
-        worst = f"{mine.worst_ratio():.2f} ({mine.worst['name']})"
+        worst = f"{mine.worst_ratio:.2f} ({mine.worst.name})"
         met = f"{mine.met} of {len(mine.ended)}"
         cells = [name, f"{mine.mean:.3f}", worst, met, mine.late or "", f"{mine.seconds:.1f}", *of_random_starts(random[method])]
         out.append("| " + " | ".join(map(str, cells)) + " |")
     return "\n".join(out)
 
 
-def family_lines(rows, lines, optima):
+def family_lines(rows, file):
     """The lines of optima/league_families.csv."""
     for family in dict.fromkeys(row["family"] for row in rows):
-        names = {row["name"] for row in rows if row["family"] == family}
-        for method, mine in standings([line for line in lines if line["name"] in names], optima, "file").items():
+        names = [row["name"] for row in rows if row["family"] == family]
+        for method, mine in ((method, its.of(names)) for method, its in file.items()):
             counts, ratios, seconds = [len(mine.lines), len(mine.ended)], ["", "", ""], ""
             if mine.ended:
-                ratios = [f"{mine.mean:.4f}", f"{mine.worst_ratio():.4f}", mine.worst["name"]]
+                ratios = [f"{mine.mean:.4f}", f"{mine.worst_ratio:.4f}", mine.worst.name]
                 seconds = f"{mine.seconds:.2f}"
             yield dict(zip(FAMILIES, [family, *method, *counts, *ratios, mine.met, seconds]))
 
 
-def family_matrix(lines):
+def family_matrix(rows, file):
     """Mean ratios by family, of the methods that are shown."""
-    found = {(line["family"], line["package"], line["method"]): line for line in lines}
     out = ["| Family | " + " | ".join(" ".join(method) for method in SHOWN) + " |", "|---|" + "---|" * len(SHOWN)]
-    for family in dict.fromkeys(line["family"] for line in lines):
-        cells = []
+    for family in dict.fromkeys(row["family"] for row in rows):
+        cells, names = [], [row["name"] for row in rows if row["family"] == family]
         for method in SHOWN:
-            line = found[(family, *method)]
-            partly = "" if line["with_an_order"] == line["functions"] else "*"
-            cells.append(f"{float(line['mean_ratio']):.3f}{partly}" if line["mean_ratio"] else "late")
+            mine = file[method].of(names)
+            partly = "" if len(mine.ended) == len(mine.lines) else "*"
+            cells.append(f"{mine.mean:.3f}{partly}" if mine.ended else "late")
         out.append(f"| {family[0].upper()}{family[1:]} | " + " | ".join(cells) + " |")
     return "\n".join(out)
 
 
 def curves(standing, whole):
-    """The ratios of the median runs in rising order, and how many functions there are."""
-    return {" ".join(method): (sorted(standing[method].ratios), whole) for method in CURVES}
+    return {" ".join(method): curve_of(standing[method], whole) for method in CURVES}
 
 
 class League:
     """All that the page says of the league."""
 
     def __init__(self, into, rows):
-        self.optima = {row["name"]: int(row["optimum"]) for row in rows}
-        self.lines = league.read(into)
-        self.file = standings(self.lines, self.optima, "file")
-        self.random = standings(self.lines, self.optima, "random")
-        self.families = list(family_lines(rows, self.lines, self.optima))
+        self.rows, self.optima = rows, benchmarks.read_optima(f"{into}/optima/optima.csv")
+        self.lines = benchmarks.read_league(f"{into}/optima/league.csv")
+        self.file = benchmarks.standings(self.lines, self.optima, FILE)
+        self.random = benchmarks.standings(self.lines, self.optima, RANDOM)
+        self.families = list(family_lines(rows, self.file))
         with open(f"{into}/optima/league_families.csv", "w", newline="") as file:
             out = csv.DictWriter(file, FAMILIES, lineterminator="\n")
             out.writeheader()
@@ -129,7 +89,7 @@ class League:
         return table(self.file, self.random)
 
     def matrix(self):
-        return family_matrix(self.families)
+        return family_matrix(self.rows, self.file)
 
     def panels(self):
         whole, small = len(self.optima), self.small()
@@ -139,7 +99,7 @@ class League:
         }
 
     def small(self):
-        return len({line["name"] for line in self.lines if line["start"] == "random"})
+        return len({line.name for line in self.lines if line.start == RANDOM})
 
 
 def percent(part, whole):
@@ -150,18 +110,17 @@ def name_of(method):
     return f"{method[0]}'s {method[1]}" if method[0] != "minorder" else "our own pass of sifting"
 
 
-def never_met(league_lines, optima, start):
+def never_met(league_lines, start):
     """The functions whose optimum no run of any package from such a start met; what is late counts as not met."""
-    mine = [line for line in league_lines if line["start"] == start]
-    met = {line["name"] for line in mine if line["package"] != "minorder" and int(line["optimum_met"])}
-    return [name for name in dict.fromkeys(line["name"] for line in mine) if name not in met]
+    mine = [line for line in league_lines if line.start == start]
+    met = {line.name for line in mine if line.package != "minorder" and line.optimum_met}
+    return [name for name in dict.fromkeys(line.name for line in mine) if name not in met]
 
 
 def times_of(one, other):
     """The processor time of a run of one method over that of the other, on the functions where both ended."""
-    both = {line["name"] for line in one.ended} & {line["name"] for line in other.ended}
-    seconds = [sum(float(line["seconds"]) for line in standing.ended if line["name"] in both) for standing in (one, other)]
-    return seconds[0] / seconds[1]
+    both = {line.name for line in one.ended} & {line.name for line in other.ended}
+    return one.of(both).seconds / other.of(both).seconds
 
 
 def mean_of(it, method, package="CUDD"):
@@ -171,11 +130,11 @@ def mean_of(it, method, package="CUDD"):
 
 def worst_of(standing):
     """The worst ratio, with its function."""
-    return f"{standing.worst_ratio():.2f} (`{standing.worst['name']}`)"
+    return f"{standing.worst_ratio:.2f} (`{standing.worst.name}`)"
 
 
 def of_quick_methods(it):
-    without = {*league.RANDOM, ("CUDD", "EXACT"), ("CUDD", "LINEAR")}
+    without = {*league.RANDOM, ("CUDD", "EXACT"), LAST}
     by_mean = sorted((method for method in it.file if method not in without), key=lambda method: it.random[method].mean)
     first, last = by_mean[0], by_mean[-1]
     return (f"Of the quick methods (without random choices and EXACT) {name_of(first)} has the least mean from random orders, "
@@ -185,7 +144,7 @@ def of_quick_methods(it):
 def of_sift(it):
     cudd = it.file[("CUDD", "SIFT")]
     return (f"CUDD's SIFT ends at {cudd.mean:.3f} times the optimum in the mean from the file's order and meets it in {cudd.met} "
-            f"of {len(cudd.ended)} functions; its worst is {cudd.worst_ratio():.2f} times (`{cudd.worst['name']}`).")
+            f"of {len(cudd.ended)} functions; its worst is {cudd.worst_ratio:.2f} times (`{cudd.worst.name}`).")
 
 
 def of_converging(it):
@@ -197,7 +156,7 @@ def of_converging(it):
 def of_windows(it):
     two, four = it.file[("CUDD", "WINDOW2")], it.file[("CUDD", "WINDOW4_CONV")]
     return (f"Windows: WINDOW2 {two.mean:.3f} from the file's order with a worst of {worst_of(two)}, "
-            f"WINDOW4_CONV {four.mean:.3f} with {four.worst_ratio():.2f}.")
+            f"WINDOW4_CONV {four.mean:.3f} with {four.worst_ratio:.2f}.")
 
 
 def of_random_choices(it):
@@ -235,7 +194,7 @@ def of_random_starts_within(it):
 
 def of_families(it):
     by_sift = [line for line in it.families if (line["package"], line["method"]) == ("CUDD", "SIFT")]
-    worst, missed_by_all = max(by_sift, key=lambda line: float(line["mean_ratio"])), never_met(it.lines, it.optima, "file")
+    worst, missed_by_all = max(by_sift, key=lambda line: float(line["mean_ratio"])), never_met(it.lines, FILE)
     return (f"The family on which CUDD's SIFT is worst is {worst['family']}, {float(worst['mean_ratio']):.3f} in the mean. "
             f"In {len(missed_by_all)} of {len(it.optima)} functions no run of any package from the file's order met the optimum "
             f"in time.")
@@ -256,7 +215,7 @@ def part(it):
     """The league's section of the page."""
     with open(f"{os.path.dirname(os.path.abspath(__file__))}/league.md") as file:
         text = file.read()
-    linear = it.file[("CUDD", "LINEAR")]
+    linear = it.file[LAST]
     counts = {"small": it.small(), "linear": len(linear.ended), "all": len(it.optima)}
     limits = {"limit_inputs": league.SMALL, "seconds": league.LIMIT}
     return text.format(**counts, **limits, table=it.table(), findings=findings(it), matrix=it.matrix())

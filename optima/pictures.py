@@ -3,6 +3,7 @@ import os
 from collections import Counter
 
 import matplotlib
+from minorder._picture import draw_curves
 
 matplotlib.use("svg")
 matplotlib.rcParams.update({
@@ -97,11 +98,8 @@ def performance(panels, path):
     figure, both = pyplot.subplots(1, 2, figsize=(9.6, 4.2), sharey=True)
     colours = pyplot.get_cmap("tab10").colors
     for axes, (said, curves) in zip(both, panels.items()):
-        for colour, (name, (ratios, whole)) in zip(colours, curves.items()):
-            shares_within = [100 * (i + 1) / whole for i in range(len(ratios))] + [100 * len(ratios) / whole]
-            axes.step([*ratios, 10], shares_within, where="post", color=colour, linewidth=1.6, label=name)
-        axes.set(title=said, xlabel="nodes / fewest nodes, at most", xlim=(1, 2), ylim=(30, 101))
-        axes.grid(color="#dddddd")
+        draw_curves(axes, curves, colours)
+        axes.set_title(said)
     both[0].set_ylabel("share of the functions, %")
     both[1].legend(frameon=False, loc="lower right")
     figure.tight_layout()

@@ -73,7 +73,7 @@ def main(words: Optional[Sequence[str]] = None) -> int:
         "minorder-functions", description=__doc__, formatter_class=argparse.RawDescriptionHelpFormatter)
     parser.add_argument("folder", metavar="FOLDER")
     parser.add_argument("names", metavar="NAME or FAMILY", nargs="*")
-    parser.add_argument("--jobs", type=int, metavar="N", help="how many files are made at a time; as many as there are processors")
+    parser.add_argument("--jobs", type=int, metavar="N", help="files made at a time; as many as there are processors")
     given = parser.parse_args(words)
     if given.jobs is not None and given.jobs < 1:
         parser.error("--jobs: at least 1")

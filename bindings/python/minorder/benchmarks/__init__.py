@@ -7,7 +7,11 @@
 
 ``optima.csv`` and ``league.csv`` lie beside this module; optima/README.md explains their columns.
 """
-from ._rows import FILE, RANDOM, Line, Optimum, league, optima
+from ._rows import FILE, RANDOM, Line, Optimum, league, optima, read_league, read_optima
 from ._selection import UnknownName, entries, entry, selected
+from ._standing import CURVES, LAST, Method, Standing, geometric_mean, ranked, standings
 
-__all__ = ["FILE", "Line", "Optimum", "RANDOM", "UnknownName", "entries", "entry", "league", "optima", "selected"]
+__all__ = [
+    "CURVES", "FILE", "LAST", "Line", "Method", "Optimum", "RANDOM", "Standing", "UnknownName", "entries", "entry",
+    "geometric_mean", "league", "optima", "ranked", "read_league", "read_optima", "selected", "standings",
+]

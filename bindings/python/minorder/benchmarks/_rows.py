@@ -45,8 +45,8 @@ class Line(NamedTuple):
     seconds: Optional[float]
 
 
-def _lines(name: str) -> Iterator[dict[str, str]]:
-    with open(f"{HERE}/{name}", newline="", encoding="utf-8") as file:
+def _rows(path: str) -> Iterator[dict[str, str]]:
+    with open(path, newline="", encoding="utf-8") as file:
         yield from csv.DictReader(file)
 
 
@@ -54,25 +54,35 @@ def _numbers(text: str) -> tuple[int, ...]:
     return tuple(map(int, text.split()))
 
 
-@lru_cache(maxsize=None)
-def optima() -> dict[str, Optimum]:
+def read_optima(path: str) -> dict[str, Optimum]:
     """The optima by the functions' names, family by family."""
     return {row["name"]: Optimum(
         row["family"], row["name"], tuple(row["aliases"].split()), row["what"], int(row["inputs"]), int(row["outputs"]),
         int(row["file_order_nodes"]), int(row["sifted_nodes"]), int(row["optimum"]), _numbers(row["first_optimal_order"]),
         _numbers(row["sifted_order"]), _numbers(row["level_counts"]), row["pla_sha256"], row["certificate_sha256"],
-    ) for row in _lines("optima.csv")}
+    ) for row in _rows(path)}
 
 
 def _whole(text: str) -> Optional[int]:
     return int(text) if text else None
 
 
-@lru_cache(maxsize=None)
-def league() -> list[Line]:
+def read_league(path: str) -> list[Line]:
     """What each method makes of each function, from the file's order and from random ones."""
     return [Line(
         row["name"], row["package"], row["method"], row["start"], int(row["runs"]), int(row["late"]),
         int(row["without_an_order"]), _whole(row["least_nodes"]), _whole(row["median_nodes"]), _whole(row["most_nodes"]),
         int(row["optimum_met"]), float(row["seconds"]) if row["seconds"] else None,
-    ) for row in _lines("league.csv")]
+    ) for row in _rows(path)]
+
+
+@lru_cache(maxsize=None)
+def optima() -> dict[str, Optimum]:
+    """Those of the table of this package."""
+    return read_optima(f"{HERE}/optima.csv")
+
+
+@lru_cache(maxsize=None)
+def league() -> list[Line]:
+    """That of this package."""
+    return read_league(f"{HERE}/league.csv")
