@@ -60,7 +60,7 @@ manual() {
 documents() {
     local folder=share/doc/minorder crate files
     put 644 $folder "$top"/{README,CHANGES,CONTRIBUTING}.md "$top"/{CITATION.cff,crates.txt}
-    put 644 $folder/docs "$top"/docs/*.{md,svg}
+    put 644 $folder/docs "$top"/docs/*.{md,svg,html}
     put 644 $folder/examples "$top"/examples/*.{pla,report,cert,v}
     for crate in "$top"/crates/*/; do
         crate=crates/$(basename "$crate")
@@ -69,7 +69,8 @@ documents() {
         [ ! -e "$top/$crate/src/laws.rt" ] || put 644 "$folder/$crate/src" "$top/$crate/src/laws.rt"
     done
     put 644 share/minorder/optima "$top"/optima/*.{py,md,csv,c,h}
-    put 755 share/minorder/optima "$top"/optima/{functions,levels,make,permute}.py "$top/optima/league.sh"
+    put 755 share/minorder/optima "$top"/optima/{check_page,functions,levels,make,permute}.py "$top/optima/league.sh"
+    put 644 share/minorder/optima/html "$top"/optima/html/*
     put 755 $folder/examples "$top/examples/make_examples.py"
     install -d "$made/tree/$folder"/{check,draw,bindings} "$made/tree/share/minorder/bindings"
     ln -s ../python "$made/tree/share/minorder/bindings/python"

@@ -9,7 +9,7 @@ import re
 import sys
 
 TOP = os.path.dirname(os.path.dirname(os.path.abspath(__file__)))
-ENDINGS = r"\.(antt|c|cases|cert|cff|csv|h|json|md|pla|py|report|rs|rt|sh|svg|txt|v)$"
+ENDINGS = r"\.(antt|c|cases|cert|cff|csv|h|html|json|md|pla|py|report|rs|rt|sh|svg|txt|v)$"
 WORD = re.compile(r"(?<![\w/.$<>*{}-])(?:PREFIX/)?((?:[\w.*-]|\{[\w,.]+\})+/(?:[\w.*/-]|\{[\w,.]+\})*|[\w-]+\.md)(?![\w/])")
 LINK = re.compile(r"\]\(([^()#: ]+)\)")
 # folders of the prefix; those of the repository are read from it

@@ -7,10 +7,6 @@ from minorder import benchmarks
 from minorder.benchmarks import CURVES, FILE, LAST, RANDOM
 from minorder._picture import curve_of
 
-SHOWN = [
-    ("CUDD", "SIFT"), ("CUDD", "SIFT_CONVERGE"), ("CUDD", "GROUP_SIFT"), ("CUDD", "WINDOW4_CONV"), ("CUDD", "ANNEALING"),
-    ("CUDD", "GENETIC"), ("ABC", "reo"), ("BuDDy", "WIN3ITE"), ("BuDDy", "SIFT"), ("BuDDy", "SIFTITE"), ("minorder", "sifting"),
-]
 FAMILIES = [
     "family", "package", "method", "functions", "with_an_order", "mean_ratio", "worst_ratio", "worst_function", "optimum_met",
     "seconds",
@@ -25,21 +21,26 @@ def of_random_starts(standing):
     return [f"{standing.mean:.3f}", f"{standing.worst_ratio:.2f}", f"{100 * met / ended:.0f} %"]
 
 
-def table(file, random):
-    """A line for each method, those with the least mean ratio from random orders first; LINEAR, which leaves few orders, last."""
-    heads = [
-        "Method", "Mean ratio, file's order", "Worst ratio", "Optimum met", "Late", "Seconds", "Mean ratio, random orders",
-        "Worst ratio", "Runs that met it",
-    ]
-    out = ["| " + " | ".join(heads) + " |", "|" + "---|" * len(heads)]
+HEADS = [
+    "Method", "Mean ratio, file's order", "Worst ratio", "Optimum met", "Late", "Seconds", "Mean ratio, random orders",
+    "Worst ratio", "Runs that met it",
+]
+
+
+def table_cells(file, random):
+    """The cells of each method, those with the least mean ratio from random orders first; LINEAR, which leaves few orders, last."""
     for method in benchmarks.ranked(random):
         mine = file[method]
         name = " ".join(method) + (" (random)" if method in league.RANDOM else "")
         worst = f"{mine.worst_ratio:.2f} ({mine.worst.name})"
         met = f"{mine.met} of {len(mine.ended)}"
-        cells = [name, f"{mine.mean:.3f}", worst, met, mine.late or "", f"{mine.seconds:.1f}", *of_random_starts(random[method])]
-        out.append("| " + " | ".join(map(str, cells)) + " |")
-    return "\n".join(out)
+        seconds = f"{mine.seconds:.1f}"
+        yield method, [name, f"{mine.mean:.3f}", worst, met, mine.late or "", seconds, *of_random_starts(random[method])]
+
+
+def table(file, random):
+    lines = (cells for _, cells in table_cells(file, random))
+    return "\n".join("| " + " | ".join(map(str, cells)) + " |" for cells in (HEADS, ["---"] * len(HEADS), *lines))
 
 
 def family_lines(rows, file):
@@ -54,19 +55,6 @@ def family_lines(rows, file):
             yield dict(zip(FAMILIES, [family, *method, *counts, *ratios, mine.met, seconds]))
 
 
-def family_matrix(rows, file):
-    """Mean ratios by family, of the methods that are shown."""
-    out = ["| Family | " + " | ".join(" ".join(method) for method in SHOWN) + " |", "|---|" + "---|" * len(SHOWN)]
-    for family in dict.fromkeys(row["family"] for row in rows):
-        cells, names = [], [row["name"] for row in rows if row["family"] == family]
-        for method in SHOWN:
-            mine = file[method].of(names)
-            partly = "" if len(mine.ended) == len(mine.lines) else "*"
-            cells.append(f"{mine.mean:.3f}{partly}" if mine.ended else "late")
-        out.append(f"| {family[0].upper()}{family[1:]} | " + " | ".join(cells) + " |")
-    return "\n".join(out)
-
-
 def curves(standing, whole):
     return {" ".join(method): curve_of(standing[method], whole) for method in CURVES}
 
@@ -75,7 +63,7 @@ class League:
     """All that the page says of the league."""
 
     def __init__(self, into, rows):
-        self.rows, self.optima = rows, benchmarks.read_optima(f"{into}/optima/optima.csv")
+        self.optima = benchmarks.read_optima(f"{into}/optima/optima.csv")
         self.lines = benchmarks.read_league(f"{into}/optima/league.csv")
         self.file = benchmarks.standings(self.lines, self.optima, FILE)
         self.random = benchmarks.standings(self.lines, self.optima, RANDOM)
@@ -87,9 +75,6 @@ class League:
 
     def table(self):
         return table(self.file, self.random)
-
-    def matrix(self):
-        return family_matrix(self.rows, self.file)
 
     def panels(self):
         whole, small = len(self.optima), self.small()
@@ -218,4 +203,4 @@ def part(it):
     linear = it.file[LAST]
     counts = {"small": it.small(), "linear": len(linear.ended), "all": len(it.optima)}
     limits = {"limit_inputs": league.SMALL, "seconds": league.LIMIT}
-    return text.format(**counts, **limits, table=it.table(), findings=findings(it), matrix=it.matrix())
+    return text.format(**counts, **limits, table=it.table(), findings=findings(it))

@@ -1,13 +1,14 @@
 #!/usr/bin/env python3
 """make.py [PART ..] [--minorder PROGRAM] [--ordercheck PROGRAM] [--workers W] [--peers FOLDER] [--into FOLDER] [--room FOLDER]
 
-Makes the page of optima anew, by parts:
+Makes the pages of optima anew, by parts:
 
     table   optima/optima.csv, and among the worked cases that the gate carries out the small certificates with their PLA files
     all5    optima/few.csv and optima/few_classes.csv: the functions of up to five inputs
     league  optima/league.csv: what the methods of CUDD, BuDDy and ABC make of each function; wants --peers, the folder that
             bench/peers.sh and optima/league.sh have built them in, and is left out without it
-    page    docs/OPTIMA.md and its pictures, from the tables
+    page    docs/OPTIMA.md with its pictures and docs/optima.html, from the tables; the latter wants Debian's libjs-jquery,
+            libjs-jquery-datatables, libjs-d3 and graphviz, and is left out without them
 
 Without a PART it makes all of them. A part that is stopped goes on where it was: what is done lies in the room, optima/out
 if none is named. With --into it is all written into another folder; a second run, with another room, that finds the same is

@@ -1,11 +1,10 @@
-"""docs/OPTIMA.md and its pictures, from the tables."""
+"""docs/OPTIMA.md with its pictures and docs/optima.html, from the tables."""
 import os
-from math import exp, log
 
 import few
 import pictures
 import table
-from minorder.benchmarks import aliases, entry
+from minorder.benchmarks import aliases, geometric_mean
 
 HERE = os.path.dirname(os.path.abspath(__file__))
 LEAGUE_LINK = "- [The league of heuristics](#the-league): how far the methods of CUDD, BuDDy and ABC end from the optimum.\n"
@@ -14,10 +13,6 @@ LEAGUE_LINK = "- [The league of heuristics](#the-league): how far the methods of
 def text_of(name):
     with open(f"{HERE}/{name}") as file:
         return file.read()
-
-
-def geometric_mean(values):
-    return exp(sum(map(log, values)) / len(values))
 
 
 def ratio(row):
@@ -31,49 +26,9 @@ def families_of(rows):
     return found
 
 
-def titled(family):
-    return family[0].upper() + family[1:]
-
-
-def anchor(family):
-    return "".join(letter for letter in family.lower().replace(" ", "-") if letter.isalnum() or letter == "-")
-
-
-def family_table(rows):
-    """A line for each family: how far one pass of sifting is from the optimum."""
-    out = ["| Family | Functions | Inputs | Sifting meets the optimum | Mean ratio | Worst ratio |", "|---|---|---|---|---|---|"]
-    for family, mine in [*families_of(rows).items(), ("", rows)]:
-        name = f"[{titled(family)}](#{anchor(family)})" if family else "**All**"
-        inputs = sorted(int(row["inputs"]) for row in mine)
-        span = f"{inputs[0]}" if inputs[0] == inputs[-1] else f"{inputs[0]} to {inputs[-1]}"
-        worst = max(mine, key=ratio)
-        said = f"{ratio(worst):.2f} ({worst['name']})" if ratio(worst) > 1 else "1"
-        ratios = list(map(ratio, mine))
-        out.append(f"| {name} | {len(mine)} | {span} | {ratios.count(1)} | {geometric_mean(ratios):.3f} | {said} |")
-    return "\n".join(out)
-
-
 def cells_line(cells):
     """A line of a table in Markdown."""
     return "| " + " | ".join(map(str, cells)) + " |"
-
-
-def table_line(row, with_what):
-    best, sifted = int(row["optimum"]), int(row["sifted_nodes"])
-    missed = f"{100 * (sifted - best) / best:.1f} %" if sifted > best else "0"
-    what = [row["what"]] if with_what else []
-    sizes = [row["inputs"], row["outputs"], row["file_order_nodes"], sifted, f"**{best}**"]
-    return cells_line([row["name"], *what, *sizes, missed, row["first_optimal_order"]])
-
-
-def family_part(family, rows):
-    said = {row["what"] for row in rows}
-    several = len(said) > 1
-    out = [f"## {titled(family)}", ""] + ([] if several else [f"{said.pop()}.", ""])
-    heads = ["Inputs", "Outputs", "File order", "Sifted", "Optimum", "Sifting misses", "First optimal order"]
-    heads = ["Name", *(["What"] if several else []), *heads]
-    out += [cells_line(heads), "|" + "---|" * len(heads)]
-    return "\n".join(out + [table_line(row, several) for row in rows] + [""])
 
 
 def alias_table(rows):
@@ -157,23 +112,15 @@ def few_part(programs):
         rows="\n".join(lines), optima=optima, calls=calls, classes=of_classes, random=f"{few.RANDOM:,}")
 
 
-def profile_levels(rows):
-    """The level counts of the largest hidden weighted bit under three orders, by the library."""
-    minorder = few.library()
-    inputs, tables = 16, entry("hwb16").tables()
-    row = next(row for row in rows if row["name"] == "hwb16")
-    sifted, best = (list(map(int, row[column].split())) for column in ("sifted_order", "first_optimal_order"))
-    orders = {"file's order": list(range(inputs)), "sifted order": sifted, "best order": best}
-    return {name: minorder.levels(tables, order) for name, order in orders.items()}
-
-
 def league_part(programs, rows):
-    """The league's section with its picture, where it was run."""
+    """The league's section with its picture, and the page, where it was run."""
     if not os.path.exists(f"{programs.into}/optima/league.csv"):
         return []
     import league_page
+    import page_html
     it = league_page.League(programs.into, rows)
     pictures.performance(it.panels(), f"{programs.into}/docs/optima_league.svg")
+    page_html.make(it, f"{programs.into}/docs/optima.html")
     return [league_page.part(it)]
 
 
@@ -188,16 +135,11 @@ def front_part(rows, kept, link):
 def make(programs):
     rows = table.read(programs.into)
     docs = f"{programs.into}/docs"
-    pictures.profiles(profile_levels(rows), f"{docs}/optima_profiles.svg")
-    pictures.growth(rows, f"{docs}/optima_growth.svg")
-    families = families_of(rows)
-    ratios = {family: list(map(ratio, mine)) for family, mine in families.items()}
+    few.library()
+    ratios = {family: list(map(ratio, mine)) for family, mine in families_of(rows).items()}
     pictures.misses([(family, it, geometric_mean(it)) for family, it in ratios.items()], f"{docs}/optima_sifting.svg")
     kept = sum(name.endswith(".cert") for name in os.listdir(f"{programs.into}/{table.CASES}/optima"))
     league = league_part(programs, rows)
     front = front_part(rows, kept, LEAGUE_LINK if league else "")
-    overview = text_of("families.md").format(families=family_table(rows))
     named = text_of("aliases.md").format(aliases=alias_table(rows))
-    by_family = [family_part(family, mine) for family, mine in families.items()]
-    parts = [front, *league, overview, named, few_part(programs), text_of("by_hand.md"), *by_family]
-    table.write(f"{docs}/OPTIMA.md", "\n".join(parts))
+    table.write(f"{docs}/OPTIMA.md", "\n".join([front, *league, named, few_part(programs)]))

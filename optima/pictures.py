@@ -21,33 +21,6 @@ def save(figure, path, title):
     pyplot.close(figure)
 
 
-def profiles(levels_by_order, path):
-    """The level counts of hidden weighted bit under some orders."""
-    title = "Hidden weighted bit of 16 inputs: nodes on each level"
-    figure, axes = pyplot.subplots(figsize=(7.2, 4.2))
-    for colour, (name, levels) in zip(COLOURS, levels_by_order.items()):
-        axes.plot(range(1, len(levels) + 1), levels, "o-", color=colour, markersize=4, label=f"{name}, {sum(levels)} nodes")
-    axes.set(title=title, xlabel="level, from the top", ylabel="nodes on the level", xticks=range(1, 17), ylim=(0, None))
-    axes.grid(axis="y", color="#dddddd")
-    axes.legend(frameon=False)
-    save(figure, path, title)
-
-
-def growth(rows, path):
-    """The optimum by the number of inputs, on a logarithmic scale."""
-    title = "The fewest nodes of any order, by the number of inputs"
-    figure, axes = pyplot.subplots(figsize=(7.2, 4.2))
-    shown = (("multiplier, all bits", "mul"), ("hidden weighted bit", "hwb"), ("adder", "add"))
-    for colour, (name, stem) in zip(COLOURS, shown):
-        found = [row for row in rows if row["name"].startswith(stem) and row["name"][len(stem):].isdigit()]
-        inputs, optima = [int(row["inputs"]) for row in found], [int(row["optimum"]) for row in found]
-        axes.semilogy(inputs, optima, "o-", color=colour, markersize=4, label=name)
-    axes.set(title=title, xlabel="inputs", ylabel="fewest nodes, logarithmic scale", xticks=range(4, 17, 2))
-    axes.grid(axis="y", color="#dddddd")
-    axes.legend(frameon=False)
-    save(figure, path, title)
-
-
 def misses(families, path):
     """How far sifting is from the optimum: a mark for each function, and the geometric mean of each family."""
     title = "Nodes after one pass of sifting from the file's order, over the fewest nodes"

@@ -1,0 +1,58 @@
+"""What optima.html shows of the functions and the methods, as one object."""
+import re
+
+import league
+import page_diagrams
+from minorder import benchmarks, levels
+from minorder.benchmarks import FILE
+
+RANDOM_STARTS = "randomStarts"
+
+
+def sizes(standing):
+    """By function the nodes of its one run, or, of several runs or a late one: median and most nodes, how many runs were late,
+    how many there are, and how many met the optimum."""
+    found = {}
+    for line in standing.lines:
+        several = line.runs > 1 or line.median_nodes is None
+        figures = [line.median_nodes, line.most_nodes, line.late, line.runs, line.optimum_met]
+        found[line.name] = figures if several else line.median_nodes
+    return found
+
+
+def method_of(it, method):
+    return {
+        "package": method[0], "name": method[1], "random": method in league.RANDOM, "curve": method in benchmarks.CURVES,
+        FILE: sizes(it.file[method]), RANDOM_STARTS: sizes(it.random[method]),
+    }
+
+
+def stem_of(row):
+    """The name without its number, of functions that are a family by one number; None of others, as of chips."""
+    found = re.fullmatch(r"([a-z]+)\d+", row.name)
+    return found[1] if found and row.family != "74 series" else None
+
+
+def function_of(row):
+    entry = benchmarks.entry(row.name)
+    tables, inputs = entry.tables(), range(row.inputs)
+    found = {
+        "name": row.name, "family": row.family, "aliases": row.aliases, "what": row.what, "inputs": entry.inputs,
+        "outputs": row.outputs, "fileOrder": row.file_order_nodes, "sifted": row.sifted_nodes, "optimum": row.optimum,
+        "order": row.first_optimal_order, "siftedOrder": row.sifted_order, "stem": stem_of(row),
+        "levels": [row.level_counts, levels(tables, row.sifted_order), levels(tables, inputs)],
+        "sums": [row.pla_sha256, row.certificate_sha256],
+    }
+    if row.optimum <= page_diagrams.MOST:
+        found["diagram"] = page_diagrams.diagram_of(entry, row.first_optimal_order)
+    return found
+
+
+def data_of(it, by_hand, version):
+    """``it`` is the league with its optima; ``by_hand`` what is counted by hand, by the stems of names."""
+    return {
+        "version": version,
+        "methods": [method_of(it, method) for method in benchmarks.ranked(it.random)],
+        "functions": [function_of(row) for row in it.optima.values()],
+        "byHand": by_hand, "starts": [FILE, RANDOM_STARTS],
+    }

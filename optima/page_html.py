@@ -1,0 +1,152 @@
+"""docs/optima.html: the tables of optima and of the league in one file that needs no network, with the libraries of Debian's
+libjs-jquery, libjs-jquery-datatables and libjs-d3 and their licences; Graphviz lays out the diagrams."""
+import csv
+import json
+import os
+import re
+import shutil
+from html import escape
+
+import league_page
+import page_data
+from minorder import __version__, benchmarks
+
+HERE = os.path.dirname(os.path.abspath(__file__))
+SCRIPTS = ("data", "tables", "curves", "function", "results")
+SHARED = "/usr/share/javascript"
+LIBRARIES = {
+    "libjs-jquery": f"{SHARED}/jquery/jquery.min.js",
+    "libjs-jquery-datatables": f"{SHARED}/jquery-datatables/jquery.dataTables.min.js",
+    "libjs-d3": f"{SHARED}/d3/d3.min.js",
+}
+MOST_BYTES = 1_500_000
+
+
+def text_of(path):
+    with open(path, encoding="utf-8") as file:
+        return file.read()
+
+
+def part(name):
+    return text_of(f"{HERE}/html/{name}")
+
+
+def missing():
+    """Debian's packages that aren't here."""
+    graphviz = [] if shutil.which("dot") else ["graphviz"]
+    return [package for package, path in LIBRARIES.items() if not os.path.exists(path)] + graphviz
+
+
+# ---- tables that stand without scripts
+
+def row_of(cells, kind="td", attributes=""):
+    return f"<tr{attributes}>" + "".join(f"<{kind}{cell}</{kind}>" for cell in cells) + "</tr>"
+
+
+def cell(text, order=None, classes="", link=None):
+    """The attributes and the content of a cell; ``order`` is what it is sorted by where that isn't its text."""
+    said = f'<a href="#{link}">{escape(str(text))}</a>' if link else escape(str(text))
+    return (f' class="{classes}"' if classes else "") + (f' data-order="{order}"' if order is not None else "") + f">{said}"
+
+
+def heads_of(heads, classes):
+    return row_of([cell(head, classes=its) for head, its in zip(heads, classes)], "th")
+
+
+def league_rows(it):
+    """A row for each method, with the cells of the table of OPTIMA.md."""
+    rows = []
+    for method, cells in league_page.table_cells(it.file, it.random):
+        file, random = it.file[method], it.random[method]
+        worst = file.worst
+        rows.append(row_of([
+            cell(cells[0]), cell(cells[1]),
+            f' data-order="{file.worst_ratio:.4f}">{file.worst_ratio:.2f} (<a href="#{worst.name}">{worst.name}</a>)',
+            cell(cells[3], file.met / len(file.ended)), cell(cells[4], file.late), cell(cells[5]), cell(cells[6]),
+            cell(cells[7], f"{random.worst_ratio:.4f}"), cell(cells[8], cells[8].split()[0]),
+        ], attributes=f' data-method="{escape(" ".join(method))}"'))
+    return rows
+
+
+def function_row(row):
+    ratio = row.sifted_nodes / row.optimum
+    return row_of([
+        cell(row.name, link=row.name), cell(" ".join(row.aliases), classes="wide"), cell(row.family, classes="wide"), cell(row.what, classes="wide"),
+        cell(row.inputs), cell(row.outputs), cell(row.file_order_nodes, classes="wide"), cell(row.sifted_nodes),
+        cell(row.optimum, classes="best"), cell(f"{ratio:.3f}", ratio),
+        cell(" ".join(map(str, row.first_optimal_order)), classes="order"),
+    ], attributes=f' data-name="{row.name}"')
+
+
+def family_row(it, family, names, methods):
+    means = []
+    for method in methods:
+        mine = it.file[method].of(names)
+        partly = "" if len(mine.ended) == len(mine.lines) else "*"
+        means.append(cell(f"{mine.mean:.3f}{partly}", mine.mean) if mine.ended else cell("late", 1e9))
+    inputs = [it.optima[name].inputs for name in names]
+    span = f"{min(inputs)}" if min(inputs) == max(inputs) else f"{min(inputs)} to {max(inputs)}"
+    return row_of([cell(family), cell(len(names)), cell(span, max(inputs)), *means])
+
+
+def family_rows(it, methods):
+    families = {}
+    for row in it.optima.values():
+        families.setdefault(row.family, []).append(row.name)
+    return [family_row(it, family, names, methods) for family, names in families.items()]
+
+
+# ---- the page
+
+def by_hand():
+    with open(f"{HERE}/by_hand.csv", newline="", encoding="utf-8") as file:
+        return list(csv.DictReader(file))
+
+
+def by_hand_items(rows):
+    return "\n".join(
+        f"<dt>{escape(row['what'])}: {escape(row['nodes'])} nodes</dt><dd>{escape(row['why'])}</dd>" for row in rows)
+
+
+def licences():
+    """What Debian says of each library's licence."""
+    said = (f"<h3>{package}</h3>\n<pre>{escape(text_of(f'/usr/share/doc/{package}/copyright'))}</pre>" for package in LIBRARIES)
+    return "\n".join(said)
+
+
+def as_script(data):
+    """An object as JSON that a script element may hold, a line for each function and method."""
+    text = json.dumps(data, separators=(",", ":"))
+    return re.sub(r'(\{"(?:name|package)":)', r"\n\1", text).replace("</", "<\\/")
+
+
+def page(it):
+    """The text of the page of a league with its optima."""
+    methods, hand = benchmarks.ranked(it.random), by_hand()
+    by_stem = {row["stem"]: [row["what"], row["nodes"], row["why"]] for row in hand}
+    parts = {
+        "all": len(it.optima), "small": it.small(), "version": __version__, "style": part("style.css"),
+        "league_rows": "\n".join(league_rows(it)),
+        "function_rows": "\n".join(map(function_row, it.optima.values())),
+        "family_heads": "".join(f"<th>{escape(' '.join(method))}</th>" for method in methods),
+        "family_rows": "\n".join(family_rows(it, methods)),
+        "findings": "\n".join(f"<li>{escape(finding(it)).replace('`', '')}</li>" for finding in league_page.FINDINGS),
+        "by_hand": by_hand_items(hand), "licences": licences(),
+        "libraries": "\n".join(f"<script>{text_of(path)}</script>" for path in LIBRARIES.values()),
+        "data": as_script(page_data.data_of(it, by_stem, __version__)),
+        "scripts": "\n".join(f"<script>{part(f'{name}.js')}</script>" for name in SCRIPTS),
+    }
+    return re.sub(r"\{\{(\w+)\}\}", lambda found: str(parts[found[1]]), part("page.html"))
+
+
+def make(it, path):
+    """Writes the page, where Debian's libraries are here."""
+    absent = missing()
+    if absent:
+        print(f"left out: {path}, for which Debian's {', '.join(absent)} aren't here")
+        return
+    text = page(it)
+    if len(text.encode()) > MOST_BYTES:
+        raise SystemExit(f"{path}: {len(text.encode())} bytes, more than {MOST_BYTES}")
+    with open(path, "w", encoding="utf-8") as file:
+        file.write(text)
