@@ -35,7 +35,9 @@ examples() {
 cd "$made"
 cp "$prefix"/share/doc/minorder/examples/*.pla .
 "$prefix/bin/minorder" --help | grep -q "1 to 64 \[default: 4\]"
-for page in minorder.1 ordercheck.1; do
+pages=(minorder.1 ordercheck.1)
+! has python3 || pages+=(minorder-functions.1 minorder-score.1)
+for page in "${pages[@]}"; do
     examples "$here/$page" > "$page.shown"
     while read -r mark command; do
         [ "$mark" != '$' ] || { echo "\$ $command"; PATH=$prefix/bin:$PATH bash -c "$command" || true; }
