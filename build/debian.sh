@@ -32,8 +32,8 @@ lay() {
 }
 
 programs() {
-    lay minorder usr/bin bin/{minorder,ordercheck,minorder-*}
-    lay minorder usr/share/man/man1 share/man/man1/{minorder,ordercheck}.1
+    lay minorder usr/bin bin/.
+    lay minorder usr/share/man/man1 share/man/man1/.
     lay minorder usr/share share/minorder
     lay minorder usr/share/doc share/doc/minorder
 }
@@ -78,7 +78,7 @@ said="minorder finds the first variable order under which the functions of a
  Berkeley PLA file have a shared binary decision diagram of the fewest
  nodes; ordercheck judges its certificates."
 package minorder science "exact minimum BDD variable orders, proved
- $said" "Depends: libc6 (>= $(newest_libc "$made"/minorder/usr/bin/*))" "Recommends: libminorder1 (= $version), python3"
+ $said" "Depends: libc6 (>= $(newest_libc "$made"/minorder/usr/bin/{minorder,ordercheck}))" "Recommends: libminorder1 (= $version), python3"
 package libminorder1 libs "exact minimum BDD variable orders, shared library
  $said
  .

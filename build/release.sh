@@ -32,7 +32,7 @@ proof() {
 archive() {
     "$top/install.sh" "$made/$name" > /dev/null
     if command -v strip > /dev/null; then
-        strip --strip-unneeded "$made/$name"/bin/*
+        strip --strip-unneeded "$made/$name"/bin/{minorder,ordercheck}
         strip --strip-debug "$made/$name/lib/libminorder.a"
     fi
     rm "$made/$name/share/minorder/files"

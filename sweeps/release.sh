@@ -55,12 +55,27 @@ python() {
     echo "the shared library from Python, check.py and draw.py: as they are to be"
 }
 
+# A method of one's own on a family, by the commands on the path.
+own_method() {
+    has python3 || return 0
+    local name score
+    "$tree/bin/minorder-functions" "$made/own" "hidden weighted bit" > /dev/null
+    for name in "$made"/own/*.pla; do run minorder "$name" | sed -n "s/^sifted order: /$(basename "$name" .pla),/p"; done > "$made/orders"
+    score=$(sed '1s/^/name,order\n/' "$made/orders" | MINORDER_LIBRARY=$libraries/libminorder.so.1 "$tree/bin/minorder-score" -)
+    [ "$(grep '^> results ' <<< "$score" | tr -s ' ' | cut -d ' ' -f 3-8)" = "$(grep '^minorder sifting ' <<< "$score" | tr -s ' ' | cut -d ' ' -f 3-8)" ] ||
+        fail "sifting's orders have another score than the league's row"
+    [ "$(grep -c '^<tr data-name=' "$tree/share/doc/minorder/docs/optima.html")" = "$(($(wc -l < "$tree/share/minorder/optima/optima.csv") - 1))" ] ||
+        fail "optima.html has other functions than the table"
+    echo "minorder-functions, minorder-score and optima.html: sifting's orders have the league's row"
+}
+
 # try_tree TREE FOLDER: a tree, and its folder of libraries
 try_tree() {
     tree=$1 libraries=$1/$2
     programs
     c_example
     python
+    own_method
 }
 
 # Each certificate has the sum that the table says, and is judged with its file.
