@@ -5,6 +5,8 @@
 set -euo pipefail
 umask 022
 top=$(cd "$(dirname "${BASH_SOURCE[0]}")" && pwd)
+. "$top/build/tools.sh"
+instead='a release needs none: unpack it and set the variables of docs/USING.md, "Install"'
 list=share/minorder/files
 
 fail() {
@@ -17,8 +19,9 @@ usage() { sed -n '2,4s/^# //p' "${BASH_SOURCE[0]}"; }
 # ---- the tree, as it is put under the prefix
 
 programs() {
-    command -v "${compiler[0]}" > /dev/null || fail "no C compiler: ${compiler[0]} isn't there; install one or set CC"
-    local program
+    local tools=("${compiler[0]}") program
+    [ -e "$top/lib/libminorder.a" ] || tools+=(ar ld objcopy)
+    need "${tools[@]}"
     for program in minorder ordercheck; do
         "$top/$program" --help > /dev/null || fail "$program can't be built"
     done

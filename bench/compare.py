@@ -17,7 +17,8 @@ import time
 import files
 
 TOP = os.path.dirname(os.path.dirname(os.path.abspath(__file__)))
-sys.path.append(f"{TOP}/bindings/python")
+sys.path += [f"{TOP}/bindings/python", f"{TOP}/build"]
+import tools  # noqa: E402
 from minorder.files import parts_of  # noqa: E402
 
 
@@ -150,6 +151,7 @@ def main():
     given.add_argument("--workers", type=int, default=4)
     given.add_argument("names", nargs="*")
     given = given.parse_args()
+    tools.need(given.minorder, given.ordercheck)
     heads = [
         "File", "minorder, s", "processor, s", "threads", "MB", "with --cert, s", "MB", "ordercheck, s", "MB",
         "ordercheck / minorder",

@@ -8,12 +8,15 @@ The least wall time of three runs.
 import argparse
 import os
 import subprocess
+import sys
 import tempfile
 import time
 
 import files
 
 TOP = os.path.dirname(os.path.dirname(os.path.abspath(__file__)))
+sys.path.append(f"{TOP}/build")
+import tools  # noqa: E402
 
 
 def timed(words):
@@ -44,6 +47,7 @@ def main():
     given.add_argument("--ordercheck", default=f"{TOP}/crates/ordercheck/out/ordercheck")
     given.add_argument("names", nargs="*", default=["rand16_16", "mul8x8", "add8x8"])
     given = given.parse_args()
+    tools.need(given.minorder, given.ordercheck)
     print("| File | good, s | every cost 0 | s | every cost 999,999 | s | by size | s |\n|---|---|---|---|---|---|---|---|")
     with tempfile.TemporaryDirectory() as room:
         for name in given.names:

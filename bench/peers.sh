@@ -3,6 +3,9 @@
 # usage: bench/peers.sh FOLDER      wants rustc, cc, ar, and for CUDD dpkg-dev and an apt with a deb-src line; without that the baseline alone
 set -eu
 [ $# -eq 1 ] || { sed -n 3p "$0"; exit 2; }
+for tool in rustc cc ar tar xz; do
+    command -v $tool > /dev/null || { echo "peers.sh: not found: $tool" >&2; exit 127; }
+done
 here=$(cd "$(dirname "$0")" && pwd)
 mkdir -p "$1/objects"
 cd "$1"

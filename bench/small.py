@@ -10,6 +10,8 @@ import tempfile
 import time
 
 TOP = os.path.dirname(os.path.dirname(os.path.abspath(__file__)))
+sys.path.append(f"{TOP}/build")
+import tools  # noqa: E402
 
 
 def write_files(room, inputs, count):
@@ -34,15 +36,21 @@ def measured(script, files):
 
 
 def main():
+    if not 3 <= len(sys.argv) <= 4:
+        sys.exit(__doc__)
     inputs, count = int(sys.argv[1]), int(sys.argv[2])
     peers = sys.argv[3] if len(sys.argv) > 3 else None
+    compiler = os.environ.get("CC", "cc")
+    tools.need(compiler)
     for made in ([f"{TOP}/minorder", "--help"], [f"{TOP}/libminorder"]):
-        subprocess.run(made, check=True, stdout=subprocess.DEVNULL)
+        if subprocess.run(made, stdout=subprocess.DEVNULL).returncode:
+            # it has said why
+            sys.exit(1)
     program = f"{TOP}/crates/minorder/out/minorder"
     with tempfile.TemporaryDirectory() as room:
         files = write_files(room, inputs, count)
         include = ["-I", f"{TOP}/include", f"{TOP}/bench/small.c", f"{TOP}/lib/libminorder.a"]
-        subprocess.run([os.environ.get("CC", "cc"), "-O2", *include, "-o", f"{room}/small"], check=True)
+        subprocess.run([compiler, "-O2", *include, "-o", f"{room}/small"], check=True)
         ways = {
             "libminorder, one process": lambda: told([f"{room}/small", *files]),
             "minorder --workers 1, in a loop": lambda: measured(f"while read -r it; do {program} --workers 1 $it; done", files),

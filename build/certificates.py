@@ -7,10 +7,14 @@ Ends with status 1, and says what is missing, where FOLDER hasn't all of them.""
 import csv
 import hashlib
 import io
-import lzma
 import os
 import sys
 import tarfile
+
+try:
+    import lzma
+except ImportError:
+    sys.exit("certificates.py: this Python has no lzma, which writes the archive; Debian's /usr/bin/python3 has it")
 
 TOP = os.path.dirname(os.path.dirname(os.path.abspath(__file__)))
 

@@ -22,6 +22,8 @@ import sys
 import tempfile
 import time
 
+import tools
+
 TOP = os.path.dirname(os.path.dirname(os.path.abspath(__file__)))
 TICKS = os.sysconf("SC_CLK_TCK")
 KINDS = ("proof", "tests", "edits")
@@ -190,4 +192,5 @@ def main(words):
 if __name__ == "__main__":
     if {"-h", "--help"} & set(sys.argv):
         sys.exit(__doc__)
+    tools.need("rt", *["git"] * ("--beside" in sys.argv))
     main(sys.argv[1:])

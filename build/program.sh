@@ -1,5 +1,7 @@
 # Sourced by the scripts at the top of the repository, which set `here` to their own place.
 top=${here%/*}
+. "$top/build/tools.sh"
+instead='a release needs none (README.md, "Install")'
 
 # is_built NAME FILE      whether FILE of the crate's out/ was made from the sources as they are: none of the files and folders that were
 # there changed after the stamp (a new, moved or removed file changes its folder). What `find` says of a missing one counts, too.
@@ -13,7 +15,8 @@ is_built() {
 # before, so that an edit during the build is built by the next call. Where nothing may be written, prove.py compares the sources with
 # those of what was built, and says so if they are others.
 build() {
-    local out=crates/$1/out folders
+    local out=crates/$1/out folders status
+    need python3
     cd "$top" || return
     if ! mkdir -p "$out" 2> /dev/null || [ ! -w "$out" ]; then
         build/prove.py "$1" >&2 < /dev/null
@@ -23,8 +26,9 @@ build() {
     # shellcheck disable=SC2086
     find crates.txt HANDLES $folders \( -name out -o -name must-fail \) -prune -o -print0 > "$out/files.$$" \
         && build/prove.py "$1" >&2 < /dev/null && mv "$out/files.$$" "$out/files" && mv "$out/stamp.$$" "$out/stamp" && return
+    status=$?
     rm -f "$out/files.$$" "$out/stamp.$$"
-    return 1
+    return "$status"
 }
 
 # run_program NAME WORD..      runs a program with the words, in the caller's folder.

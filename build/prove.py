@@ -16,6 +16,8 @@ import tempfile
 import time
 from concurrent.futures import FIRST_COMPLETED, ThreadPoolExecutor, wait
 
+import tools
+
 TOP = os.path.dirname(os.path.dirname(os.path.abspath(__file__)))
 GIGABYTES_A_JOB = 3
 GIGABYTES_A_FURTHER_JOB = 1
@@ -25,7 +27,6 @@ CHAIN_SPEED = 1.5
 MOST_JOBS = 3
 # over more libraries than these three jobs take no less than two
 FEW_LIBRARIES = 8
-
 
 
 def listed():
@@ -293,6 +294,7 @@ def add_allocator(made):
 
 
 def build(name, made):
+    tools.need("rt", *["ar"] * is_library(name), of=name, instead='a release needs none (README.md, "Install")')
     uses = named()
     crates = needed(name, uses)
     seconds = seconds_of(crates)

@@ -7,11 +7,13 @@
 set -euo pipefail
 umask 022
 top=$(cd "$(dirname "${BASH_SOURCE[0]}")/.." && pwd)
+. "$top/build/tools.sh"
 fail() { echo "release.sh: $*" >&2; exit 1; }
 
 with_certificates=true
 [ "${1:-}" != --without-certificates ] || { with_certificates=false; shift; }
 [ $# = 1 ] || fail "usage: build/release.sh [--without-certificates] VERSION"
+need git gzip python3 tar
 version=$1
 [ "$version" = "$(< "$top/VERSION")" ] || fail "VERSION says $(< "$top/VERSION"), not $version"
 "$top/build/versions.sh" > /dev/null

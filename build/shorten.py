@@ -12,6 +12,8 @@ import subprocess
 import sys
 import tempfile
 
+import tools
+
 TOP = os.path.dirname(os.path.dirname(os.path.abspath(__file__)))
 LEAST_LINES, MOST_LEMMAS, COLUMNS = 4, 8, 150
 TOKEN = re.compile(r"--[^\n]*|\s+|[(){}\[\],;]|[^\s(){}\[\],;]+")
@@ -262,4 +264,5 @@ def main(crate, writes):
 if __name__ == "__main__":
     if not 2 <= len(sys.argv) <= 3 or sys.argv[2:] not in ([], ["--write"]):
         sys.exit(__doc__)
+    tools.need("rt")
     main(sys.argv[1], len(sys.argv) == 3)

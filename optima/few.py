@@ -31,9 +31,10 @@ def compiled(room, name, *words):
 
 
 def library():
-    """The Python module over lib/libminorder.so.1."""
-    if "MINORDER_LIBRARY" not in os.environ:
-        subprocess.run([f"{TOP}/libminorder"], stdout=subprocess.DEVNULL, check=True)
+    """The Python module over the library: that of ./libminorder, where these scripts are installed what the module finds."""
+    if "MINORDER_LIBRARY" not in os.environ and os.path.exists(f"{TOP}/libminorder"):
+        if subprocess.run([f"{TOP}/libminorder"], stdout=subprocess.DEVNULL).returncode:
+            sys.exit("make.py: the library can't be built")
         os.environ["MINORDER_LIBRARY"] = f"{TOP}/lib/libminorder.so.1"
     sys.path.insert(0, f"{TOP}/bindings/python")
     import minorder

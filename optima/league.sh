@@ -4,6 +4,8 @@
 set -eu
 [ $# -eq 1 ] || { sed -n 3p "$0"; exit 2; }
 here=$(cd "$(dirname "$0")" && pwd)
+command -v cc > /dev/null || { echo "league.sh: not found: cc (Debian: gcc)" >&2; exit 127; }
+echo '#include <bdd.h>' | cc -E - > /dev/null 2>&1 || { echo "league.sh: no bdd.h (Debian: libbdd-dev)" >&2; exit 1; }
 cd "$1"
 [ -f libcudd.a ] || { echo "league.sh: bench/peers.sh hasn't built CUDD here" >&2; exit 1; }
 mkdir -p reo

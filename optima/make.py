@@ -4,57 +4,88 @@
 Makes the pages of optima anew, by parts:
 
     table   optima/optima.csv, and among the worked cases that the gate carries out the small certificates with their PLA files
-    all5    optima/few.csv and optima/few_classes.csv: the functions of up to five inputs
+    all5    optima/few.csv and optima/few_classes.csv: the functions of up to five inputs; wants cc
     league  optima/league.csv: what the methods of CUDD, BuDDy and ABC make of each function; wants --peers, the folder that
             bench/peers.sh and optima/league.sh have built them in, and is left out without it
-    page    docs/OPTIMA.md with its pictures and docs/optima.html, from the tables; the latter wants Debian's libjs-jquery,
-            libjs-jquery-datatables, libjs-d3 and graphviz, and is left out without them
+    page    docs/OPTIMA.md with its pictures, which want matplotlib, and docs/optima.html, from the tables; the latter wants
+            Debian's libjs-jquery, libjs-jquery-datatables, libjs-d3 and graphviz, and is left out without them
 
 Without a PART it makes all of them. A part that is stopped goes on where it was: what is done lies in the room, optima/out
 if none is named. With --into it is all written into another folder; a second run, with another room, that finds the same is
 the test (`diff -r`). The programs are ./minorder and ./ordercheck of this repository where none are named, the library is
-that of ./libminorder.
+that of ./libminorder. Where these scripts are installed, the programs are those on the path, and --into must be named.
 """
 import argparse
 import os
+import shutil
 import subprocess
+import sys
 
 HERE = os.path.dirname(os.path.abspath(__file__))
 TOP = os.path.dirname(HERE)
+IS_REPOSITORY = os.path.exists(f"{TOP}/crates.txt")
 PARTS = ("table", "all5", "league", "page")
 
 
-def main():
+def fail(message):
+    sys.exit(f"make.py: {message}")
+
+
+def begun(programs):
+    """Has each program say its help: what is built first tells of itself."""
+    for program in programs:
+        if not shutil.which(program):
+            fail(f"{program} isn't there: name it by --{os.path.basename(program)}")
+        if subprocess.run([program, "--help"], stdout=subprocess.DEVNULL).returncode:
+            fail(f"{program} doesn't run")
+
+
+def words():
     given = argparse.ArgumentParser(description=__doc__, formatter_class=argparse.RawDescriptionHelpFormatter)
     given.add_argument("parts", nargs="*", metavar="PART", help=", ".join(PARTS))
-    given.add_argument("--minorder", default=f"{TOP}/minorder")
-    given.add_argument("--ordercheck", default=f"{TOP}/ordercheck")
+    for program in ("minorder", "ordercheck"):
+        given.add_argument(f"--{program}", default=f"{TOP}/{program}" if IS_REPOSITORY else program)
     given.add_argument("--workers", type=int, default=4)
-    given.add_argument("--into", default=TOP)
+    given.add_argument("--into", default=TOP if IS_REPOSITORY else None)
     given.add_argument("--peers")
-    given.add_argument("--room", default=f"{HERE}/out")
+    given.add_argument("--room")
     programs = given.parse_args()
     for part in programs.parts:
         if part not in PARTS:
             given.error(f"{part}: the parts are {', '.join(PARTS)}")
+    if not programs.into:
+        given.error("--into FOLDER is missing: where these scripts are installed they don't write")
+    programs.room = programs.room or f"{HERE if IS_REPOSITORY else programs.into}/out"
+    return programs
+
+
+def make(part, programs):
+    if part == "table":
+        import table
+        begun((programs.minorder, programs.ordercheck))
+        table.make(programs)
+    elif part == "all5":
+        import few
+        if not shutil.which("cc"):
+            fail("not found: cc (Debian: gcc), which the classes of five inputs want")
+        few.make(programs)
+    elif part == "league":
+        if programs.peers:
+            import league
+            league.make(programs)
+    else:
+        try:
+            import page
+        except ModuleNotFoundError as error:
+            fail(f"no {error.name}: the page's pictures want it (Debian: python3-{error.name}, for /usr/bin/python3)")
+        page.make(programs)
+
+
+def main():
+    programs = words()
     os.makedirs(programs.room, exist_ok=True)
     for part in programs.parts or PARTS:
-        if part == "table":
-            import table
-            for program in (programs.minorder, programs.ordercheck):
-                # what is built first tells of itself
-                subprocess.run([program, "--help"], stdout=subprocess.DEVNULL, check=True)
-            table.make(programs)
-        elif part == "all5":
-            import few
-            few.make(programs)
-        elif part == "league":
-            if programs.peers:
-                import league
-                league.make(programs)
-        else:
-            import page
-            page.make(programs)
+        make(part, programs)
 
 
 if __name__ == "__main__":

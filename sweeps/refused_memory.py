@@ -13,6 +13,9 @@ import tempfile
 
 HERE = os.path.dirname(os.path.abspath(__file__))
 TOP = os.path.dirname(HERE)
+sys.path.append(f"{TOP}/build")
+import tools  # noqa: E402
+
 MOST = 100_000
 STREAMS = {"stdin": subprocess.DEVNULL, "stdout": subprocess.PIPE, "stderr": subprocess.PIPE}
 FILES = {"multiplexer": f"{TOP}/examples/mux2.pla", "hidden weighted bit": f"{TOP}/examples/hwb8.pla"}
@@ -66,6 +69,7 @@ def main():
     given.add_argument("--minorder", default=f"{TOP}/crates/minorder/out/minorder")
     given.add_argument("--ordercheck", default=f"{TOP}/crates/ordercheck/out/ordercheck")
     programs = given.parse_args()
+    tools.need("cc", programs.minorder, programs.ordercheck)
     with tempfile.TemporaryDirectory() as room:
         library, cert = f"{room}/refuse.so", f"{room}/out.cert"
         subprocess.run(["cc", "-O2", "-fPIC", "-shared", "-o", library, f"{HERE}/refuse.c"], check=True)

@@ -5,13 +5,16 @@
 set -euo pipefail
 here=$(cd "$(dirname "${BASH_SOURCE[0]}")" && pwd)
 top=$here/../..
+. "$top/build/tools.sh"
+read -ra compiler <<< "${CC:-clang}"
+need "${compiler[0]}" nm python3
 "$top/libminorder"
 ! nm -g --defined-only "$top/lib/libminorder.a" | awk 'NF == 3 { print $3 }' | grep -v '^minorder_' ||
     { echo "bindings/c/test.sh: lib/libminorder.a exports these names besides" >&2; exit 1; }
 made=$(mktemp -d)
 trap 'rm -rf "$made"' EXIT
 flags=(-std=c11 -D_GNU_SOURCE -O2 -Wall -Wextra -Wno-unused-function -I "$top/include" -Wl,--wrap=malloc,--wrap=realloc,--wrap=free)
-build() { "${CC:-clang}" "${flags[@]}" "${@:2}" "$here/test.c" "$top/lib/libminorder.a" -lpthread -o "$1"; }
+build() { "${compiler[@]}" "${flags[@]}" "${@:2}" "$here/test.c" "$top/lib/libminorder.a" -lpthread -o "$1"; }
 build "$made/test"
 "$made/test"
 for sanitizer in address,undefined thread; do

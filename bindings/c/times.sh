@@ -2,10 +2,13 @@
 # Prints, by inputs, how long each call of the library takes on one thread.
 set -euo pipefail
 here=$(cd "$(dirname "${BASH_SOURCE[0]}")" && pwd)
+. "$here/../../build/tools.sh"
+read -ra compiler <<< "${CC:-clang}"
+need "${compiler[0]}"
 "$here/../../libminorder" > /dev/null
 made=$(mktemp -d)
 trap 'rm -rf "$made"' EXIT
-"${CC:-clang}" -O2 -I "$here/../../include" "$here/times.c" "$here/../../lib/libminorder.a" -o "$made/times"
+"${compiler[@]}" -O2 -I "$here/../../include" "$here/times.c" "$here/../../lib/libminorder.a" -o "$made/times"
 echo "| Inputs | Outputs | Exact, ms | Calls a second | Level counts, ms | Sifting, ms | Calls a second | Fewest nodes | Sifted |"
 echo "|---|---|---|---|---|---|---|---|---|"
 for outputs in 1 16; do
