@@ -12,6 +12,10 @@ for file in "$here"/../examples/*.pla; do
     ! sed 's/^levels: ./levels: 9/; s/^nodes: .*/nodes: 9/' "$made/report" | "$here/draw.py" "$file" > "$made/wrong" 2>&1 ||
         { echo "draw.py takes a wrong report of $file" >&2; exit 1; }
 done
+# a pipe that holds no report is refused, as where minorder has refused its file
+! { "$1" "$made/no.pla" 2> "$made/errors" || true; } | "$here/draw.py" --both "$file" > "$made/dot" 2> "$made/errors" ||
+    { echo "draw.py draws without a report" >&2; exit 1; }
+grep -q '^draw.py: standard input holds no report' "$made/errors"
 # what is too large is refused soon
 printf '.i 16\n.o 16\n' > "$made/large.pla"
 python3 -c 'import random; [print(f"{random.getrandbits(16):016b} {random.getrandbits(16):016b}") for _ in range(3000)]' >> "$made/large.pla"

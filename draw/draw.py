@@ -2,9 +2,9 @@
 """draw.py [--svg OUT] [--both] FILE [ORDER..]     the reduced shared diagram of a PLA file's functions, as DOT
 
 ORDER is the variables, top first, by number or by name. Without it, it is that of a report of minorder on standard
-input, if one is piped there, else the file's own. A report's level counts are compared with the diagram's. --both draws
-the file's order and the other one side by side. --svg has Graphviz make a picture of it. A diagram of more than 1,500
-nodes is refused, with status 2.
+input, if a pipe or a file is there, else the file's own. What is there and holds no report is refused, with status 1. A
+report's level counts are compared with the diagram's. --both draws the file's order and the other one side by side. --svg has
+Graphviz make a picture of it. A diagram of more than 1,500 nodes is refused, with status 2.
 
 The diagram comes from the truth tables by the definitions: the nodes of a level are the distinct functions, got by
 fixing the variables above, that depend on the level's variable. Of minorder only the Python package's readers of files
@@ -12,6 +12,7 @@ and reports take part.
 """
 import os
 import signal
+import stat
 import subprocess
 import sys
 import tempfile
@@ -147,19 +148,17 @@ def order_of(words, inputs):
 
 
 def report_of(stream, inputs):
-    """The order and the level counts of a report of minorder, if one is piped there."""
-    if stream.isatty():
+    """The order and the level counts of the report of minorder on a stream; nothing if it is closed, a terminal or a device."""
+    if stream is None or stat.S_ISCHR(os.fstat(stream.fileno()).st_mode):
         return None, None
-    lines = parts_of(stream.read())
-    if "order" not in lines:
-        return None, None
+    lines = parts_of(stream.buffer.read().decode(errors="replace"))
     try:
-        counts = [int(word) for word in lines["levels"].split()]
+        order, counts = lines["order"], [int(word) for word in lines["levels"].split()]
         if sum(counts) != int(lines["nodes"]):
             raise ValueError
     except (KeyError, ValueError):
-        fail("standard input is no report of minorder")
-    return order_of([lines["order"]], inputs), counts
+        fail("standard input holds no report of minorder: name an ORDER, or add < /dev/null for the file's own")
+    return order_of([order], inputs), counts
 
 
 def write_svg(text, path, title):
