@@ -1,9 +1,12 @@
 #!/usr/bin/env python3
-"""Writes the PLA files of this folder that are made by rule, and gives the worked cases copies of all files,
-reports and certificates here.
-usage: make_examples.py [--reports | --check]
-With --reports it writes the reports and certificates that lie here anew, too, by the program at the top. With --check it
-writes nothing: the program and the copies are to give what lies here."""
+"""make_examples.py FOLDER       writes the PLA files of this folder that are made by rule into another folder
+
+In the repository:
+make_examples.py              writes them here, and gives the worked cases copies of all files, reports and certificates here
+make_examples.py --reports    the same, after the reports and certificates here are made anew by the program at the top
+make_examples.py --check      writes nothing: the rules, the program and the copies are to give what lies here
+
+Status 1 if a check fails, 2 if the words are refused or a file can't be written."""
 import filecmp
 import os
 import shutil
@@ -12,15 +15,18 @@ import sys
 import tempfile
 from itertools import product
 
+HERE = os.path.dirname(os.path.abspath(__file__))
 COPIES = "../crates/worked_cases/data/examples"
 
 
-def write(name, about, inputs, outputs, terms):
-    with open(name, "w") as f:
-        f.write(f"# {about}\n.i {len(inputs)}\n.o {len(outputs)}\n")
-        f.write(f".ilb {' '.join(inputs)}\n.ob {' '.join(outputs)}\n.p {len(terms)}\n")
-        f.writelines(f"{term}\n" for term in terms)
-        f.write(".e\n")
+def refuse(message):
+    print(f"make_examples.py: {message}", file=sys.stderr)
+    sys.exit(2)
+
+
+def content(about, inputs, outputs, terms):
+    head = [f"# {about}", f".i {len(inputs)}", f".o {len(outputs)}", f".ilb {' '.join(inputs)}", f".ob {' '.join(outputs)}"]
+    return "\n".join([*head, f".p {len(terms)}", *terms, ".e", ""])
 
 
 def minterms(count, outputs_of):
@@ -44,36 +50,38 @@ def adder(count):
     def outs(bits):
         total = number(bits[:count]) + number(bits[count:])
         return [total >> i & 1 for i in range(count + 1)]
-    write(f"adder{count}.pla", f"The sum of two {count}-bit numbers; a{count - 1} and b{count - 1} are the highest bits.",
-          pairs("ab", count), [f"s{i}" for i in range(count + 1)], list(minterms(2 * count, outs)))
+    about = f"The sum of two {count}-bit numbers; a{count - 1} and b{count - 1} are the highest bits."
+    outputs = [f"s{i}" for i in range(count + 1)]
+    return f"adder{count}", content(about, pairs("ab", count), outputs, list(minterms(2 * count, outs)))
 
 
 def comparator(count):
     def outs(bits):
         a, b = number(bits[:count]), number(bits[count:])
         return [a < b, a == b]
-    write(f"comparator{count}.pla", f"Whether a {count}-bit number is below another one, and whether they are equal.",
-          pairs("ab", count), ["less", "equal"], list(minterms(2 * count, outs)))
+    about = f"Whether a {count}-bit number is below another one, and whether they are equal."
+    return f"comparator{count}", content(about, pairs("ab", count), ["less", "equal"], list(minterms(2 * count, outs)))
 
 
 def majority(count):
-    write(f"majority{count}.pla", f"Whether more than half of {count} inputs are 1.",
-          [f"x{i}" for i in range(count)], ["maj"], list(minterms(count, lambda bits: [2 * sum(bits) > count])))
+    about, inputs = f"Whether more than half of {count} inputs are 1.", [f"x{i}" for i in range(count)]
+    return f"majority{count}", content(about, inputs, ["maj"], list(minterms(count, lambda bits: [2 * sum(bits) > count])))
 
 
 def hidden_weighted_bit(count):
     def outs(bits):
         weight = sum(bits)
         return [weight > 0 and bits[weight - 1]]
-    write(f"hwb{count}.pla", f"Hidden weighted bit: input number w, where w inputs are 1 (Bryant 1991).",
-          [f"x{i}" for i in range(1, count + 1)], ["hwb"], list(minterms(count, outs)))
+    about = "Hidden weighted bit: input number w, where w inputs are 1 (Bryant 1991)."
+    inputs = [f"x{i}" for i in range(1, count + 1)]
+    return f"hwb{count}", content(about, inputs, ["hwb"], list(minterms(count, outs)))
 
 
 def seven_segments():
     digits = ["1111110", "0110000", "1101101", "1111001", "0110011", "1011011", "1011111", "1110000", "1111111", "1111011"]
     terms = [f"{d >> 3 & 1}{d >> 2 & 1}{d >> 1 & 1}{d & 1} {segments}" for d, segments in enumerate(digits)]
-    write("bcd7seg.pla", "A decimal digit as the seven segments a to g of a display; the codes 10 to 15 are dark.",
-          ["d3", "d2", "d1", "d0"], list("abcdefg"), terms)
+    about = "A decimal digit as the seven segments a to g of a display; the codes 10 to 15 are dark."
+    return "bcd7seg", content(about, ["d3", "d2", "d1", "d0"], list("abcdefg"), terms)
 
 
 def multiplexer(select):
@@ -82,18 +90,37 @@ def multiplexer(select):
     for which in range(1 << select):
         data = "".join("1" if i == which else "-" for i in range(1 << select))
         terms.append(data + "".join(str(which >> i & 1) for i in range(select)) + " 1")
-    write(f"mux{1 << select}.pla", f"A multiplexer: data input number s of {1 << select}.", inputs, ["out"], terms)
+    return f"mux{1 << select}", content(f"A multiplexer: data input number s of {1 << select}.", inputs, ["out"], terms)
 
 
 def products(count):
     terms = ["".join("1" if i % count == k else "-" for i in range(2 * count)) + " 1" for k in range(count)]
     about = f"a0 b0 + a1 b1 + ..: {count} products, whose best order is interleaved and whose file order is the worst."
-    write(f"products{count}.pla", about, pairs("ab", count), ["f"], terms)
+    return f"products{count}", content(about, pairs("ab", count), ["f"], terms)
 
 
 def parity(count):
-    write(f"parity{count}.pla", f"The exclusive or of {count} inputs: every order is as good as any other.",
-          [f"x{i}" for i in range(count)], ["odd"], list(minterms(count, lambda bits: [sum(bits) % 2])))
+    about = f"The exclusive or of {count} inputs: every order is as good as any other."
+    inputs = [f"x{i}" for i in range(count)]
+    return f"parity{count}", content(about, inputs, ["odd"], list(minterms(count, lambda bits: [sum(bits) % 2])))
+
+
+def files_by_rule():
+    """The names and the contents of the files that are made by rule."""
+    return [
+        adder(4), comparator(4), majority(7), hidden_weighted_bit(8), seven_segments(), multiplexer(2), products(3), products(8),
+        parity(6),
+    ]
+
+
+def write_files(folder):
+    try:
+        os.makedirs(folder, exist_ok=True)
+        for name, text in files_by_rule():
+            with open(f"{folder}/{name}.pla", "w") as file:
+                file.write(text)
+    except OSError as error:
+        refuse(f"{error.filename}: {error.strerror}")
 
 
 def write_reports(folder):
@@ -101,7 +128,9 @@ def write_reports(folder):
     for name in sorted(it.removesuffix(".pla") for it in os.listdir() if it.endswith(".pla")):
         certificate = ["--cert", f"{folder}/{name}.cert"] if os.path.exists(f"{name}.cert") else []
         with open(f"{folder}/{name}.report", "w") as report:
-            subprocess.run(["../minorder", *certificate, f"{name}.pla"], check=True, stdout=report)
+            status = subprocess.run(["../minorder", *certificate, f"{name}.pla"], stdout=report).returncode
+        if status:
+            sys.exit(f"make_examples.py: minorder ends with status {status} on {name}.pla")
 
 
 def copied():
@@ -119,8 +148,9 @@ def is_same(one, other):
 
 
 def check():
-    """The first file that differs from what the program writes, or from its copy."""
+    """The first file that differs from what its rule or the program writes, or from its copy."""
     with tempfile.TemporaryDirectory() as made:
+        write_files(made)
         write_reports(made)
         for folder in (made, COPIES):
             others = copied() if folder == COPIES else sorted(os.listdir(made))
@@ -129,21 +159,29 @@ def check():
                 sys.exit(f"{wrong[0]} is another in {folder}")
 
 
-if __name__ == "__main__":
-    os.chdir(os.path.dirname(os.path.abspath(__file__)))
-    if sys.argv[1:] not in ([], ["--reports"], ["--check"]):
-        sys.exit(__doc__)
-    if sys.argv[1:] == ["--check"]:
-        sys.exit(check())
-    adder(4)
-    comparator(4)
-    majority(7)
-    hidden_weighted_bit(8)
-    seven_segments()
-    multiplexer(2)
-    products(3)
-    products(8)
-    parity(6)
-    if sys.argv[1:]:
+def in_repository(words):
+    os.chdir(HERE)
+    if not os.path.isdir(COPIES):
+        refuse("which FOLDER? Without one it writes in the repository alone")
+    if words == ["--check"]:
+        check()
+        return
+    write_files(".")
+    if words:
         write_reports(".")
     copy_to_worked_cases()
+
+
+def main(words):
+    if words in (["-h"], ["--help"]):
+        print(__doc__)
+    elif words in ([], ["--reports"], ["--check"]):
+        in_repository(words)
+    elif len(words) == 1 and not words[0].startswith("-"):
+        write_files(words[0])
+    else:
+        refuse(f"{' '.join(words)}: no such words; --help says which there are")
+
+
+if __name__ == "__main__":
+    main(sys.argv[1:])
