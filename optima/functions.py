@@ -16,15 +16,25 @@ sys.path.insert(0, f"{os.path.dirname(os.path.abspath(__file__))}/../bindings/py
 from minorder.benchmarks import UnknownName, entries, entry  # noqa: E402
 
 
+def refuse(message):
+    print(f"functions.py: {message}", file=sys.stderr)
+    sys.exit(2)
+
+
 def main(words):
+    if {"-h", "--help"} & set(words):
+        print(__doc__, end="")
+        return
     if not words:
         for it in entries():
             print(f"{it.name}\t{len(it.inputs)}\t{it.outputs}\t{it.family}: {it.words}")
         return
+    if len(words) > 1:
+        refuse(f"{' '.join(words)}: one NAME; --help says more")
     try:
         sys.stdout.write(entry(words[0]).pla())
     except UnknownName as error:
-        sys.exit(f"functions.py: {error}")
+        refuse(error)
 
 
 if __name__ == "__main__":

@@ -44,8 +44,11 @@ def permuted(content, cover, order):
 
 def main():
     words = " ".join(sys.argv[1:]).replace(",", " ").split()
+    if {"-h", "--help"} & set(words):
+        print(__doc__)
+        return
     if not words:
-        sys.exit(__doc__)
+        refuse("which ORDER? --help says how it is written")
     content = sys.stdin.buffer.read()
     try:
         cover = cover_of(content)
