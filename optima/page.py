@@ -7,6 +7,8 @@ import table
 from minorder.benchmarks import aliases, geometric_mean
 
 HERE = os.path.dirname(os.path.abspath(__file__))
+# the function that is cited as an example
+SHOWN = "hwb16"
 LEAGUE_LINK = "- [The league of heuristics](#the-league): how far the methods of CUDD, BuDDy and ABC end from the optimum.\n"
 
 
@@ -77,7 +79,12 @@ def few_line(n, counts, classes, share):
     cells = [n, f"{functions_in_all:,}", f"{classes_in_all:,}", f"{mean(share[0]):.3f}", said_of_most(best)]
     for column in ("file_order_nodes", "sifted_nodes"):
         cells += [f"{100 * met(column):.1f} %", f"{100 * missed(column):.2f} %"]
-    return cells_line([*cells, f"{worst['sifted_nodes']} for {worst['optimum']}"])
+    return cells_line([*cells, said_of_worst(worst)])
+
+
+def said_of_worst(row):
+    """The sifted nodes and the fewest of the function that sifting misses most; nothing if it misses none."""
+    return f"{row['sifted_nodes']} nodes where {row['optimum']} suffice" if row["sifted_nodes"] != row["optimum"] else ""
 
 
 def functions_of(rows):
@@ -112,6 +119,13 @@ def few_part(programs):
         rows="\n".join(lines), optima=optima, calls=calls, classes=of_classes, random=f"{few.RANDOM:,}")
 
 
+def citing_part(minorder, rows):
+    """How to cite a row, shown by one."""
+    row = next(row for row in rows if row["name"] == SHOWN)
+    sums = {"pla": row["pla_sha256"], "certificate": row["certificate_sha256"]}
+    return text_of("citing.md").format(version=minorder.__version__, name=row["name"], optimum=row["optimum"], **sums)
+
+
 def league_part(programs, rows):
     """The league's section with its picture, and the page, where it was run."""
     if not os.path.exists(f"{programs.into}/optima/league.csv"):
@@ -133,13 +147,13 @@ def front_part(rows, kept, link):
 
 
 def make(programs):
-    rows = table.read(programs.into)
+    minorder, rows = few.library(), table.read(programs.into)
     docs = f"{programs.into}/docs"
-    few.library()
     ratios = {family: list(map(ratio, mine)) for family, mine in families_of(rows).items()}
     pictures.misses([(family, it, geometric_mean(it)) for family, it in ratios.items()], f"{docs}/optima_sifting.svg")
     kept = sum(name.endswith(".cert") for name in os.listdir(f"{programs.into}/{table.CASES}/optima"))
     league = league_part(programs, rows)
     front = front_part(rows, kept, LEAGUE_LINK if league else "")
     named = text_of("aliases.md").format(aliases=alias_table(rows))
-    table.write(f"{docs}/OPTIMA.md", "\n".join([front, *league, named, few_part(programs)]))
+    parts = [front, *league, named, few_part(programs), citing_part(minorder, rows), text_of("works.md")]
+    table.write(f"{docs}/OPTIMA.md", "\n".join(parts))

@@ -111,6 +111,12 @@ class Others(unittest.TestCase):
         self.assertEqual(number(digits.from_decimal(bits_of(0x42, 8))), 42)
         self.assertEqual(number(circuits.rotated(bits_of(0x81, 8) + bits_of(1, 3))), 0x03)
         self.assertEqual(circuits.leading_zeros(bits_of(1, 8)), 7)
+        for x in points(5):
+            n1, n2, n3, n6, n7 = x
+            not_both = 1 - (n3 & n6)
+            wanted = [n1 & n3 | n2 & not_both, (n2 | n7) & not_both]
+            self.assertEqual([int(bit) for bit in circuits.six_gates(x)], wanted)
+            self.assertEqual(number([int(bit) for bit in circuits.one_line(x)]), x[4] << number(x[:4]))
         self.assertEqual(number(circuits.median(4)(bits_of(9, 4) + bits_of(2, 4) + bits_of(5, 4))), 5)
         # one black cell under rule 30: after two steps 11001, after three 1101111
         self.assertEqual(automata.stepped(30, automata.stepped(30, [0, 0, 0, 0, 1, 0, 0, 0, 0])), [1, 1, 0, 0, 1])

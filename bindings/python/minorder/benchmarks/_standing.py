@@ -11,8 +11,8 @@ Method = tuple[str, str]
 
 # the methods whose curves are drawn where no others are chosen
 CURVES: tuple[Method, ...] = (
-    ("CUDD", "GENETIC"), ("CUDD", "ANNEALING"), ("BuDDy", "SIFTITE"), ("CUDD", "GROUP_SIFT"), ("minorder", "sifting"),
-    ("CUDD", "SIFT_CONVERGE"), ("CUDD", "SIFT"), ("CUDD", "WINDOW4_CONV"), ("BuDDy", "WIN3ITE"),
+    ("CUDD", "EXACT"), ("CUDD", "GENETIC"), ("CUDD", "ANNEALING"), ("CUDD", "SYMM_SIFT_CONV"), ("BuDDy", "SIFTITE"),
+    ("minorder", "sifting"), ("CUDD", "SIFT_CONVERGE"), ("CUDD", "SIFT"), ("CUDD", "WINDOW4_CONV"), ("BuDDy", "WIN3ITE"),
 )
 # leaves an order of the variables in some functions alone, so it stands behind all others
 LAST: Method = ("CUDD", "LINEAR")

@@ -29,6 +29,23 @@ def first_request(x: Bits) -> Sequence[object]:
     return [x[i] and not any(x[:i]) for i in range(len(x))]
 
 
+def one_line(x: Bits) -> Sequence[object]:
+    """Line i is 1 where the enabling input is and the four bits are i."""
+    return [x[4] and i == number(x[:4]) for i in range(16)]
+
+
+def nand(*bits: object) -> bool:
+    return not all(bits)
+
+
+def six_gates(x: Bits) -> Sequence[object]:
+    """The netlist c17, whose inputs are the nodes 1, 2, 3, 6 and 7, and whose outputs are 22 and 23."""
+    n1, n2, n3, n6, n7 = x
+    n11 = nand(n3, n6)
+    n16 = nand(n2, n11)
+    return [nand(nand(n1, n3), n16), nand(n16, nand(n11, n7))]
+
+
 def round_robin(n: int) -> Formula:
     """The first request from a pointer on, round the ring, is granted."""
     def values(x: Bits) -> Sequence[object]:
@@ -96,6 +113,10 @@ def of_words() -> Iterator[Entry]:
     for n, bits in ((4, 2), (8, 3)):
         yield Entry(family, f"roundrobin{n}", named("r", n) + named("p", bits), n,
                     "the first request from p on, round the ring, is granted", round_robin(n))
+    yield Entry(family, "decoder4", named("x", 4) + ["enable"], 16, "one of 16 lines by four bits, where enable is 1", one_line)
+    yield Entry(family, "c17", [f"n{i}" for i in (1, 2, 3, 6, 7)], 2,
+                "nand(nand(n1, n3), u) and nand(u, nand(v, n7)), u being nand(n2, v) and v nand(n3, n6) (Brglez and Fujiwara 1985)",
+                six_gates)
     for k in (2, 4):
         said = f"{k} bits: a + b, a - b, and, or, exclusive or, not a, a < b without and with a sign; the carry"
         inputs = named("a", k) + named("b", k) + named("op", 3)

@@ -64,7 +64,7 @@ def of_numbers() -> Iterator[Entry]:
     family = "more arithmetic"
     yield Entry(family, "affine7", named("x", 7), 10, "5 x + 1, all bits", lambda x: bits_of(5 * number(x) + 1, 10))
     yield Entry(family, "affine8", named("x", 8), 8, "5 x + 1 modulo 256", lambda x: bits_of(5 * number(x) + 1, 8))
-    for k in (3, 5, 7):
+    for k in (2, 3, 5, 7):
         inputs, of = two_words(k)
         yield Entry(family, f"addc{k}", inputs + ["carry"], k + 1, "a + b + carry, a before b",
                     lambda x, k=k: bits_of(number(x[:k]) + number(x[k:2 * k]) + x[2 * k], k + 1))

@@ -101,14 +101,16 @@ def others() -> Iterator[Entry]:
     for n in (8, 12, 16):
         yield Entry("symmetric", f"parity{n}", named("x", n), 1, "an odd number of ones", lambda x: [sum(x) % 2])
     for k, w in ((1, 2), (2, 2), (2, 3), (3, 3)):
-        words = f"{k} bits choose a word of {w} bits of a memory of {1 << w} bits (words wrap), which chooses a bit of it"
+        chooses = f"{k} bits choose" if k > 1 else "one bit chooses"
+        words = f"{chooses} a word of {w} bits of a memory of {1 << w} bits (words wrap), which chooses a bit of it"
         yield Entry("indirect storage access", f"isa{k}_{w}", named("s", k) + named("m", 1 << w), 1, words, storage(k, w))
     for k in range(2, 9):
         yield Entry("products of pairs", f"achilles{k}", named("x", k) + named("y", k), 1,
                     "x0 y0 + x1 y1 + .., all x before all y (Achilles' heel)", achilles(k))
     for n in (8, 10, 12, 14, 16):
         for m in (1, 4, 16):
-            words = f"{m} random functions of {n} inputs, by the SHA-256 stream that functions.py states"
+            said = f"{m} random functions" if m > 1 else "a random function"
+            words = f"{said} of {n} inputs, by the SHA-256 stream that textbook.py states"
             yield Entry("random", f"random{n}_{m}", named("x", n), m, words, random_values(n, m))
 
 
