@@ -72,7 +72,7 @@ documents() {
         [ ! -e "$top/$crate/src/laws.rt" ] || put 644 "$folder/$crate/src" "$top/$crate/src/laws.rt"
     done
     put 644 share/minorder/optima "$top"/optima/*.{py,md,csv,c,h}
-    put 755 share/minorder/optima "$top"/optima/{check_page,functions,levels,make,permute}.py "$top/optima/league.sh"
+    put 755 share/minorder/optima "$top"/optima/{check_page,functions,make,permute}.py "$top/optima/league.sh"
     put 644 share/minorder/optima/html "$top"/optima/html/*
     put 755 $folder/examples "$top/examples/make_examples.py"
     install -d "$made/tree/$folder"/{check,draw,bindings} "$made/tree/share/minorder/bindings"

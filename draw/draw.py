@@ -7,8 +7,8 @@ report's level counts are compared with the diagram's. --both draws the file's o
 Graphviz make a picture of it. A diagram of more than 1,500 nodes is refused, with status 2.
 
 The diagram comes from the truth tables by the definitions: the nodes of a level are the distinct functions, got by
-fixing the variables above, that depend on the level's variable. Of minorder only the Python package's readers of files
-and reports take part.
+fixing the variables above, that depend on the level's variable. Of minorder only the Python package's readers of files,
+reports and orders take part.
 """
 import os
 import signal
@@ -22,6 +22,7 @@ HERE = os.path.dirname(os.path.realpath(__file__))
 # where it is installed, the package lies beside this script
 sys.path[:0] = [f"{HERE}/python", f"{HERE}/../bindings/python"]
 sys.dont_write_bytecode = True
+from minorder._orders import fault_of, numbered  # noqa: E402
 from minorder.files import BadPla, parts_of, read_pla  # noqa: E402
 
 # Graphviz takes 2 s of processor time for 1,200 nodes, 6 to 9 s for 2,300, and over two minutes for 10,000
@@ -141,10 +142,10 @@ def dot(parts, title):
 def order_of(words, inputs):
     """The variables that words say, by number or name."""
     given = " ".join(words).replace(",", " ").split()
-    order = [inputs.index(word) if word in inputs else int(word) if word.isdigit() else -1 for word in given]
-    if sorted(order) != list(range(len(inputs))):
+    order = numbered(given, inputs)
+    if fault_of(order, len(inputs)):
         fail(f"{' '.join(given)}: an order has each of the {len(inputs)} inputs once, by number or by name")
-    return order
+    return [int(word) for word in order]
 
 
 def report_of(stream, inputs):

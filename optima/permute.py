@@ -9,25 +9,13 @@ import signal
 import sys
 
 sys.path.insert(0, f"{os.path.dirname(os.path.abspath(__file__))}/../bindings/python")
+from minorder._orders import fault_of  # noqa: E402
 from minorder.files import BadPla, cover_of  # noqa: E402
 
 
 def refuse(message):
     print(f"permute.py: {message}", file=sys.stderr)
     sys.exit(2)
-
-
-def fault_of(words, inputs):
-    """Why the words aren't an order of so many inputs; None if they are one."""
-    seen = set()
-    for word in words:
-        if not word.isascii() or not word.isdigit() or int(word) >= inputs:
-            return f"{word} is out of range: the file's inputs are 0 to {inputs - 1}"
-        if int(word) in seen:
-            return f"{int(word)} is repeated"
-        seen.add(int(word))
-    missing = [str(x) for x in range(inputs) if x not in seen]
-    return f"{', '.join(missing)} {'is' if len(missing) == 1 else 'are'} missing" if missing else None
 
 
 def permuted(content, cover, order):

@@ -1,4 +1,4 @@
-"""Tests of permute.py: python3 -m unittest discover -s optima"""
+"""Tests of permute.py and functions.py as programs: python3 -m unittest discover -s optima"""
 import os
 import subprocess
 import sys
@@ -32,8 +32,8 @@ class Permute(unittest.TestCase):
             (("0", "0", "1"), "0 is repeated"),
             (("0", "1", "2", "2"), "2 is repeated"),
             (("1", "2", "3"), "3 is out of range: the file's inputs are 0 to 2"),
-            (("0", "1", "-1"), "-1 is out of range: the file's inputs are 0 to 2"),
-            (("0", "x", "1"), "x is out of range: the file's inputs are 0 to 2"),
+            (("0", "1", "-1"), "-1 is no input of the file"),
+            (("0", "x", "1"), "x is no input of the file"),
             (("0", "1"), "2 is missing"),
             (("2",), "0, 1 are missing"),
         ]
@@ -42,6 +42,13 @@ class Permute(unittest.TestCase):
 
     def test_a_file_that_minorder_refuses_is_refused(self):
         self.assertEqual(permuted("0", file=".o 1\n"), (2, "", "permute.py: the file: line 1: MissingHead\n"))
+
+
+class Functions(unittest.TestCase):
+    def test_a_reader_that_takes_no_more_ends_the_list(self):
+        listing = f"{sys.executable} {HERE}/functions.py | head -n 1"
+        found = subprocess.run(listing, shell=True, capture_output=True, text=True)
+        self.assertEqual((found.stdout.split()[0], found.stderr), ("hwb4", ""))
 
 
 if __name__ == "__main__":

@@ -1,0 +1,36 @@
+"""Orders as words: by number, as a report's line ``order``, or by name, as its line ``names``."""
+from __future__ import annotations
+
+from typing import Optional, Sequence
+
+
+def fault_of(words: Sequence[str], inputs: int) -> Optional[str]:
+    """Why the words aren't an order of so many inputs, by number; None if they are one."""
+    seen: set[int] = set()
+    for word in words:
+        if not word.isascii() or not word.isdigit():
+            return f"{word} is no input of the file"
+        if int(word) >= inputs:
+            return f"{word} is out of range: the file's inputs are 0 to {inputs - 1}"
+        if int(word) in seen:
+            return f"{int(word)} is repeated"
+        seen.add(int(word))
+    missing = [str(x) for x in range(inputs) if x not in seen]
+    return f"{', '.join(missing)} {'is' if len(missing) == 1 else 'are'} missing" if missing else None
+
+
+def numbered(words: Sequence[str], names: Sequence[str]) -> list[str]:
+    """An order with numbers in the place of names. Words that are an order by number are left as they are, also if
+    inputs have such names; of equal names each stands for the next input that has it."""
+    if fault_of(words, len(names)) is None:
+        return list(words)
+    left = {name: [str(x) for x in range(len(names)) if names[x] == name] for name in names}
+    return [left[word].pop(0) if left.get(word) else word for word in words]
+
+
+def orders_of(words: Sequence[str], inputs: int) -> list[list[str]]:
+    """The orders that arguments spell: one each, its words parted by commas or spaces; several arguments of one word
+    each are one order."""
+    orders = [word.replace(",", " ").split() for word in words]
+    is_alone = inputs > 1 and all(len(order) == 1 for order in orders)
+    return [[word for order in orders for word in order]] if is_alone else orders
