@@ -1,6 +1,6 @@
 #!/usr/bin/env python3
-"""score_cudd.py PEERS [RESULTS]     CUDD's SIFT on all functions of the table of optima, by the harness that bench/peers.sh built in
-                                   PEERS; minorder-score has to give it the row that the league has
+"""score_cudd.py PEERS [RESULTS]     CUDD's SIFT on all functions of the table of optima, by the harness that bench/peers.sh
+                                  built in PEERS; minorder-score has to give it the row that the league has
 
 MINORDER_LIBRARY names the library. A run ends as late after the league's limit of processor time, building left in. With
 RESULTS the results are also written there, as minorder-score reads them."""
@@ -57,8 +57,9 @@ def main():
     other = [it.name for it, its in zip(mine.lines, theirs.lines) if it.median_nodes != its.median_nodes]
     if other or len(league.ended) - len(ended) > 1:
         sys.exit(f"score_cudd.py: another size for {' '.join(other)}; {len(ended)} of {len(league.ended)} ended")
-    print(f"CUDD's SIFT by the harness and minorder-score: mean ratio {mine.mean:.3f}, worst {mine.worst_ratio:.2f} ({mine.worst.name}), "
-          f"optimum met in {mine.met} of {len(ended)}: the row of the league")
+    worst = f"{mine.worst_ratio:.2f} ({mine.worst.name})"
+    print(f"CUDD's SIFT by the harness and minorder-score: mean ratio {mine.mean:.3f}, worst {worst}, optimum met in {mine.met} "
+          f"of {len(ended)}: the row of the league")
 
 
 if __name__ == "__main__":

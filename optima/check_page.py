@@ -1,11 +1,9 @@
 #!/usr/bin/env python3
-"""check_page.py [PAGE]     opens docs/optima.html, or PAGE, in a headless Chromium: its tables, filters, views and curves, a file of
-                         results, the page without scripts, on wide and narrow screens; its figures are those of the tables
+"""check_page.py [PAGE]     opens docs/optima.html, or PAGE, in a headless Chromium: its tables, filters, views and curves, a file
+                         of results, the page without scripts, a narrow screen
 
 Wants Debian's chromium, chromium-driver and python3-selenium (so /usr/bin/python3), and is left out without them."""
-import json
 import os
-import re
 import shutil
 import sys
 import tempfile
@@ -74,7 +72,8 @@ class Opened(unittest.TestCase):
 
     def names(self):
         """The functions in the table, from the top."""
-        return self.driver.execute_script("return [...document.querySelectorAll('#functions-table tbody tr')].map(it => it.dataset.name)")
+        rows = "[...document.querySelectorAll('#functions-table tbody tr')]"
+        return self.driver.execute_script(f"return {rows}.map(it => it.dataset.name)")
 
     def until(self, what):
         end = time.monotonic() + SECONDS
@@ -122,30 +121,20 @@ class Tables(Opened):
     def test_the_sizes_of_another_method_are_shown(self):
         next(it for it in self.all("#method option") if it.text == "CUDD SIFT").click()
         sizes = {line.name: line.median_nodes for line in FILE[SIFT].lines}
-        rows = self.driver.execute_script(
-            "return [...document.querySelectorAll('#functions-table tbody tr')].map(it => [it.dataset.name, it.cells[7].textContent])")
+        rows = "[...document.querySelectorAll('#functions-table tbody tr')]"
+        rows = self.driver.execute_script(f"return {rows}.map(it => [it.dataset.name, it.cells[7].textContent])")
         self.assertEqual({name: int(text) if text else None for name, text in rows}, sizes)
         self.one("#functions-table thead th:nth-child(8)").click()
         found = [sizes[name] for name in self.names() if sizes[name] is not None]
         self.assertEqual(found, sorted(found))
 
-    def test_nothing_is_loaded_and_the_figures_are_the_tables(self):
+    def test_nothing_is_loaded_and_the_means_are_the_leagues(self):
         self.assertEqual(self.driver.execute_script("return performance.getEntriesByType('resource').length"), 0)
-        data = json.loads(self.driver.execute_script("return document.getElementById('data').textContent"))
-        self.assertEqual([it["name"] for it in data["functions"]], list(OPTIMA))
-        for it in data["functions"]:
-            row = OPTIMA[it["name"]]
-            self.assertEqual((it["optimum"], it["order"], it["sums"]),
-                             (row.optimum, list(row.first_optimal_order), [row.pla_sha256, row.certificate_sha256]))
-            self.assertEqual([sum(counts) for counts in it["levels"]], [row.optimum, row.sifted_nodes, row.file_order_nodes])
-            self.assertEqual("diagram" in it, row.optimum <= 40)
         found = self.driver.execute_script(
             "return page.methods.map(it => [it.package, it.name, standing(it, 'file').mean, standing(it, 'randomStarts').mean])")
         for package, name, mean, random in found:
             self.assertAlmostEqual(mean, FILE[package, name].mean, 12)
             self.assertAlmostEqual(random, RANDOM[package, name].mean, 12)
-        rows = {row[0].replace(" (random)", ""): row[1] for row in zip(*(self.texts(f"#league-table td:nth-child({i})") for i in (1, 2)))}
-        self.assertEqual(rows, {" ".join(method): f"{its.mean:.3f}" for method, its in FILE.items()})
 
 
 class Views(Opened):
@@ -156,8 +145,9 @@ class Views(Opened):
             self.assertEqual(self.one("#function h2").text, row.name)
             self.assertFalse(self.one("#overview").is_displayed())
             text = self.one("#function").text
-            for said in (f"@misc{{minorder-{row.name},", f"minorder-functions . {row.name}", f"# valid {row.optimum}", row.pla_sha256,
-                         row.certificate_sha256, " ".join(map(str, row.first_optimal_order)), row.what):
+            order = " ".join(map(str, row.first_optimal_order))
+            commands = (f"minorder-functions . {row.name}", f"# valid {row.optimum}", f"@misc{{minorder-{row.name},")
+            for said in (*commands, row.pla_sha256, row.certificate_sha256, order, row.what):
                 self.assertIn(said, text)
             self.assertEqual(len(self.all("#function .diagram circle")), row.optimum if row.optimum <= 40 else 0)
             self.assertEqual(len(self.all("#function table tbody tr")), len(FILE))
@@ -213,7 +203,7 @@ class Results(Opened):
         # a file of the same name takes its place
         self.give("mine.csv", '\ufeffname,nodes,start\n"hwb8",50,file\nhwb8,44,\nz4ml,26,file\nhwb8,45,2\n')
         self.until(lambda: "over 2 of" in self.one("#said").text)
-        self.assertEqual([row.find_elements("css selector", "td")[1].text for row in self.all("#league-table tr.yours")], ["1.000"])
+        self.assertEqual(self.texts("#league-table tr.yours td:nth-child(2)"), ["1.000"])
         self.assertIn("random orders: mean ratio 1.023", self.one("#said").text)
 
     def test_what_is_refused(self):
@@ -253,10 +243,6 @@ def main():
     absent = [program for program in ("chromium", "chromedriver") if not shutil.which(program)]
     if absent:
         return " and ".join(absent)
-    with open(PAGE, encoding="utf-8") as file:
-        text = file.read()
-    if re.search(r"<(?:script|link|img)[^>]*(?:src|href)=", text):
-        sys.exit(f"{PAGE}: it loads a file")
     unittest.main(argv=[sys.argv[0]])
 
 

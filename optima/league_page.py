@@ -28,7 +28,7 @@ HEADS = [
 
 
 def table_cells(file, random):
-    """The cells of each method, those with the least mean ratio from random orders first; LINEAR, which leaves few orders, last."""
+    """The cells of each method, by the mean ratio from random orders; LINEAR, which leaves few orders, last."""
     for method in benchmarks.ranked(random):
         mine = file[method]
         name = " ".join(method) + (" (random)" if method in league.RANDOM else "")

@@ -71,7 +71,7 @@ def league_rows(it):
 def function_row(row):
     ratio = row.sifted_nodes / row.optimum
     return row_of([
-        cell(row.name, link=row.name), cell(" ".join(row.aliases), classes="wide"), cell(row.family, classes="wide"), cell(row.what, classes="wide"),
+        cell(row.name, link=row.name), *(cell(text, classes="wide") for text in (" ".join(row.aliases), row.family, row.what)),
         cell(row.inputs), cell(row.outputs), cell(row.file_order_nodes, classes="wide"), cell(row.sifted_nodes),
         cell(row.optimum, classes="best"), cell(f"{ratio:.3f}", ratio),
         cell(" ".join(map(str, row.first_optimal_order)), classes="order"),

@@ -13,7 +13,8 @@ const axisOf = (scale, orient) => d3.svg.axis().scale(scale).orient(orient).oute
 /** An empty picture with what its axes are called. */
 function picture(id, below, besides) {
   const {height, left, right, top} = SIZE, width = widthOf(id);
-  const svg = d3.select(`#${id}`).html("").append("svg").attr("viewBox", `0 0 ${width} ${height}`).attr("role", "img");
+  const svg = d3.select(`#${id}`).html("").append("svg").attr("viewBox", `0 0 ${width} ${height}`)
+    .attr("role", "img").attr("aria-label", `${besides}, by ${below}`);
   svg.append("text").attr("x", width - right).attr("y", height - 6).attr("text-anchor", "end").text(below);
   svg.append("text").attr("x", left + 6).attr("y", top + 12).text(besides);
   return svg;

@@ -83,7 +83,7 @@ function diagram(it) {
   if (!it.diagram) return null;
   const {size: [width, height], marks, paths} = it.diagram;
   const made = document.createElementNS("http://www.w3.org/2000/svg", "svg"), svg = d3.select(made);
-  svg.attr({viewBox: `-4 -4 ${width + 8} ${height + 8}`, width: width + 8, height: height + 8, role: "img"});
+  svg.attr({viewBox: `-4 -4 ${width + 8} ${height + 8}`, width: width + 8, height: height + 8, role: "img", "aria-label": `The diagram of ${it.name}`});
   svg.append("path").attr("d", paths["1"]);
   svg.append("path").attr("class", "zero").attr("d", paths["0"]);
   svg.append("path").attr("d", paths.f);

@@ -53,7 +53,7 @@ class Reading(unittest.TestCase):
     def test_refusals_name_the_line_and_what_is_wrong(self):
         refused = [
             ("", "it names no columns"), ("hwb8,44\n", "it names no columns"), ("name,nodes\n", "there are no results"),
-            ("name,nodes\nhwb8,43\n", "line 2: hwb8: 43 nodes, and no order has fewer than 44: most likely counted with complement"),
+            ("name,nodes\nhwb8,43\n", "line 2: hwb8: 43 nodes, and no order has fewer than 44: most likely counted with"),
             ("name,nodes\nhwb8,3\n", "line 2: hwb8: 3 nodes, and no order has fewer than 44: most likely another function"),
             ("name,nodes\n\nhwx8,44\n", "line 3: no function or family is named hwx8; is it hwb8"),
             ("name,nodes\nhwb8,4e1\n", "line 2: hwb8: nodes 4e1: no number of nodes"),
@@ -97,8 +97,9 @@ class Scores(unittest.TestCase):
     def test_the_report(self):
         status, out, errors = scored("name,nodes\nhwb8,55\nlife,26\nz4ml,33\n", "--name", "my method")
         self.assertEqual((status, errors), (0, ""))
-        for line in ("method: my method", "start: the file's order", "mean ratio: 1.166", "worst ratio: 1.27 (addc3)",
-                     f"functions: 3 of {len(OPTIMA)}, 0 by their orders, 3 by sizes that are only claimed", "optimum met: 1 of 3"):
+        claimed = f"functions: 3 of {len(OPTIMA)}, 0 by their orders, 3 by sizes that are only claimed"
+        for line in ("method: my method", "start: the file's order", claimed, "mean ratio: 1.166", "worst ratio: 1.27 (addc3)",
+                     "optimum met: 1 of 3"):
             self.assertIn(f"{line}\n", out)
         self.assertRegex(out, r"\n> my method +1\.166 +1\.27 \(addc3\) +1 of 3")
         self.assertRegex(out, r"\ncostliest functions:\n +addc3 +33 nodes +fewest 26 +1\.269\n +hwb8 +55 nodes")

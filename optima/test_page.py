@@ -1,0 +1,89 @@
+"""Tests of docs/optima.html without a browser, and of what is counted by hand: python3 -m unittest discover -s optima
+
+optima/check_page.py opens the page in one."""
+import csv
+import json
+import os
+import re
+import sys
+import unittest
+
+HERE = os.path.dirname(os.path.abspath(__file__))
+sys.path.insert(0, f"{HERE}/../bindings/python")
+from minorder import benchmarks  # noqa: E402
+
+PAGE = f"{HERE}/../docs/optima.html"
+OPTIMA = benchmarks.optima()
+MOST_BYTES = 1_500_000
+# what by_hand.csv says, by the stems of names
+COUNTED = {
+    "add": lambda k: 9 * k - 7, "less": lambda k: 3 * k - 1, "mux": lambda n: 2 * n - 1, "parity": lambda n: 2 * n - 1,
+    "majority": lambda n: ((n + 1) // 2) ** 2, "achilles": lambda k: 2 * k,
+}
+
+
+class Page(unittest.TestCase):
+    @classmethod
+    def setUpClass(cls):
+        with open(PAGE, encoding="utf-8") as file:
+            cls.text = file.read()
+        found = re.search(r'<script type="application/json" id="data">(.*?)</script>', cls.text, re.S)
+        cls.data = json.loads(found[1])
+
+    def test_it_is_one_file(self):
+        self.assertLessEqual(len(self.text.encode()), MOST_BYTES)
+        self.assertEqual(re.findall(r"<(?:script|link|img|iframe)[^>]*\s(?:src|href)=", self.text), [])
+        self.assertEqual(re.findall(r"@import|url\(", re.search("<style>.*?</style>", self.text, re.S)[0]), [])
+        for library in ("libjs-jquery", "libjs-jquery-datatables", "libjs-d3"):
+            self.assertIn(f"<h3>{library}</h3>", self.text)
+
+    def test_its_functions_are_those_of_the_table(self):
+        self.assertEqual(re.findall(r'<tr data-name="([^"]*)">', self.text), list(OPTIMA))
+        for it, row in zip(self.data["functions"], OPTIMA.values()):
+            said = (it["name"], it["family"], tuple(it["aliases"]), it["what"], len(it["inputs"]), it["outputs"], *it["sums"])
+            self.assertEqual(said, (row.name, row.family, row.aliases, row.what, row.inputs, row.outputs,
+                                    row.pla_sha256, row.certificate_sha256))
+            orders = (tuple(it["order"]), tuple(it["siftedOrder"]), tuple(it["levels"][0]))
+            self.assertEqual(orders, (row.first_optimal_order, row.sifted_order, row.level_counts))
+            sizes = (row.optimum, row.sifted_nodes, row.file_order_nodes)
+            self.assertEqual((it["optimum"], it["sifted"], it["fileOrder"]), sizes)
+            self.assertEqual(tuple(map(sum, it["levels"])), sizes)
+            self.assertEqual("diagram" in it, row.optimum <= 40)
+            if "diagram" in it:
+                marks = [mark[0] for mark in it["diagram"]["marks"]]
+                self.assertEqual((marks.count("node"), marks.count("name")), (row.optimum, row.outputs))
+
+    def test_its_sizes_are_those_of_the_league(self):
+        for start, key in ((benchmarks.FILE, "file"), (benchmarks.RANDOM, "randomStarts")):
+            league = benchmarks.standings(benchmarks.league(), OPTIMA, start)
+            self.assertEqual({(it["package"], it["name"]) for it in self.data["methods"]}, set(league))
+            for it in self.data["methods"]:
+                lines = league[it["package"], it["name"]].lines
+                self.assertEqual(list(it[key]), [line.name for line in lines])
+                for line in lines:
+                    sizes = it[key][line.name]
+                    wanted = [line.median_nodes, line.most_nodes, line.late, line.runs, line.optimum_met]
+                    one = [sizes, sizes, 0, 1, int(sizes == OPTIMA[line.name].optimum)]
+                    self.assertEqual(sizes if isinstance(sizes, list) else one, wanted)
+
+    def test_its_league_is_that_of_the_pages(self):
+        with open(f"{HERE}/../docs/OPTIMA.md", encoding="utf-8") as file:
+            rows = [line.strip("| \n").split(" | ") for line in file if re.match(r"\| (CUDD|BuDDy|ABC|minorder) ", line)]
+        found = re.findall(r"<tr data-method=.*?</tr>", self.text)
+        shown = [[re.sub("<[^>]*>", "", cell) for cell in re.findall(r"<td[^>]*>(.*?)</td>", row)] for row in found]
+        self.assertEqual(shown, [[cell.strip() for cell in row] for row in rows])
+
+
+class ByHand(unittest.TestCase):
+    def test_what_is_counted_is_the_optimum(self):
+        with open(f"{HERE}/by_hand.csv", newline="", encoding="utf-8") as file:
+            self.assertEqual({row["stem"] for row in csv.DictReader(file)}, set(COUNTED))
+        for stem, nodes in COUNTED.items():
+            found = [it for it in OPTIMA.values() if re.fullmatch(rf"{stem}\d+", it.name)]
+            self.assertGreater(len(found), 2)
+            for it in found:
+                self.assertEqual(it.optimum, nodes(int(it.name[len(stem):])), it.name)
+
+
+if __name__ == "__main__":
+    unittest.main()
