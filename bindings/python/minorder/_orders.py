@@ -4,18 +4,22 @@ from __future__ import annotations
 from typing import Optional, Sequence
 
 
-def fault_of(words: Sequence[str], inputs: int) -> Optional[str]:
-    """Why the words aren't an order of so many inputs, by number; None if they are one."""
+def fault_of(words: Sequence[str], inputs: int, names: Optional[Sequence[str]] = None) -> Optional[str]:
+    """Why the words aren't an order of so many inputs, by number; None if they are one. It calls an input by its name if
+    names are given, else by its number."""
+    if not words:
+        return "an order is empty"
     seen: set[int] = set()
+    called = names or [str(x) for x in range(inputs)]
     for word in words:
         if not word.isascii() or not word.isdigit():
             return f"{word} is no input of the file"
         if int(word) >= inputs:
             return f"{word} is out of range: the file's inputs are 0 to {inputs - 1}"
         if int(word) in seen:
-            return f"{int(word)} is repeated"
+            return f"{called[int(word)]} is repeated"
         seen.add(int(word))
-    missing = [str(x) for x in range(inputs) if x not in seen]
+    missing = [called[x] for x in range(inputs) if x not in seen]
     return f"{', '.join(missing)} {'is' if len(missing) == 1 else 'are'} missing" if missing else None
 
 

@@ -2,11 +2,12 @@
 
 An ORDER has the file's inputs, top first, by number as the line `order` of a report, or by name as its line `names`:
 2,0,1 or "2 0 1"; one ORDER alone may also be several words: 2 0 1.
-Exit status: 0; 1 if there is no library, 2 if the words are refused, 3 if FILE is, 4 out of memory, 5 if FILE can't be read.
+Exit status: 0; 1 if there is no library, 2 if the words are refused, 3 if FILE is, 4 out of memory, 5 if a read or write failed.
 """
 from __future__ import annotations
 
 import argparse
+import os
 import signal
 import sys
 from typing import NoReturn, Optional, Sequence
@@ -33,14 +34,23 @@ def read(path: str) -> Pla:
         refuse(f"{path}: {error.strerror}", 5)
 
 
+def checked(words: Sequence[str], names: Sequence[str]) -> list[str]:
+    """The order that the words spell, by number."""
+    order = numbered(words, names)
+    fault = fault_of(order, len(names), names if order != words else None)
+    if fault:
+        refuse(f"{' '.join(words)}: {fault}" if words else fault, 2)
+    return order
+
+
 def show(file: Pla, orders: Sequence[Sequence[str]]) -> None:
-    """Prints a report of each order, whose words are numbers."""
+    """Prints a report of each order, by number."""
     for order in orders:
         counts = levels(file.tables, [int(word) for word in order])
         print("order:", *order)
         print("names:", *(file.inputs[int(word)] for word in order))
         print("levels:", *counts)
-        print("nodes:", sum(counts))
+        print("nodes:", sum(counts), flush=True)
 
 
 def main(words: Optional[Sequence[str]] = None) -> int:
@@ -51,17 +61,17 @@ def main(words: Optional[Sequence[str]] = None) -> int:
     parser.add_argument("orders", metavar="ORDER", nargs="+")
     given = parser.parse_args(words)
     file = read(given.file)
-    orders = [numbered(order, file.inputs) for order in orders_of(given.orders, len(file.inputs))]
-    for order in orders:
-        fault = fault_of(order, len(file.inputs))
-        if fault:
-            refuse(f"{' '.join(order)}: {fault}", 2)
+    orders = [checked(words, file.inputs) for words in orders_of(given.orders, len(file.inputs))]
     try:
         show(file, orders)
     except NoLibrary as error:
         refuse(error, 1)
     except MemoryError:
         refuse("OutOfMemory", 4)
+    except OSError as error:
+        # what is left unwritten goes nowhere, else the interpreter tries again at its end
+        os.dup2(os.open(os.devnull, os.O_WRONLY), sys.stdout.fileno())
+        refuse(f"standard output: {error.strerror}", 5)
     return 0
 
 

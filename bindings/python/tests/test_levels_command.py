@@ -37,6 +37,9 @@ class Orders(unittest.TestCase):
         for words, fault in (("0 0 1", "0 is repeated"), ("0 1", "2 is missing"), ("0 1 x", "x is no input of the file"),
                              ("2", "0, 1 are missing"), ("0 1 2", None)):
             self.assertEqual(fault_of(words.split(), 3), fault)
+        self.assertEqual(fault_of([], 3), "an order is empty")
+        self.assertEqual(fault_of(["2", "0"], 3, ["a", "b", "s"]), "b is missing")
+        self.assertEqual(fault_of(["2", "2"], 3, ["a", "b", "s"]), "s is repeated")
 
 
 class Command(unittest.TestCase):
@@ -55,6 +58,8 @@ class Command(unittest.TestCase):
                     (("/no/file", "0"), 5, "/no/file: No such file or directory"),
                     ((file.name, "0"), 3, f"{file.name}: line 1: MissingHead"),
                     ((MULTIPLEXER, "2", "0"), 2, "2 0: 1 is missing"),
+                    ((MULTIPLEXER, "s,a"), 2, "s a: b is missing"),
+                    ((MULTIPLEXER, ""), 2, "an order is empty"),
                     ((MULTIPLEXER, "2,0,1", "0,1,3"), 2, "0 1 3: 3 is out of range: the file's inputs are 0 to 2")):
                 self.assertEqual(ran(*words), (status, "", f"minorder-levels: {message}\n"))
         status, output, errors = ran(MULTIPLEXER, "2", "0", "1", MINORDER_LIBRARY="/there/is/none.so")
