@@ -38,6 +38,10 @@ def library():
         os.environ["MINORDER_LIBRARY"] = f"{TOP}/lib/libminorder.so.1"
     sys.path.insert(0, f"{TOP}/bindings/python")
     import minorder
+    try:
+        minorder.levels(0, [0])
+    except minorder.NoLibrary as error:
+        sys.exit(f"make.py: {error}")
     return minorder
 
 

@@ -59,7 +59,16 @@ def words():
     return programs
 
 
+def has(path, maker):
+    if not os.path.exists(path):
+        fail(f"{path} isn't there: {maker} makes it")
+
+
 def make(part, programs):
+    if part in ("league", "page"):
+        has(f"{programs.into}/optima/optima.csv", "the part table")
+    if part == "page":
+        has(f"{programs.into}/optima/few.csv", "the part all5")
     if part == "table":
         import table
         begun((programs.minorder, programs.ordercheck))
@@ -71,6 +80,7 @@ def make(part, programs):
         few.make(programs)
     elif part == "league":
         if programs.peers:
+            has(f"{programs.peers}/league_cudd", "optima/league.sh")
             import league
             league.make(programs)
     else:
