@@ -113,9 +113,11 @@ def of_words() -> Iterator[Entry]:
     for n, bits in ((4, 2), (8, 3)):
         yield Entry(family, f"roundrobin{n}", named("r", n) + named("p", bits), n,
                     "the first request from p on, round the ring, is granted", round_robin(n))
-    yield Entry(family, "decoder4", named("x", 4) + ["enable"], 16, "one of 16 lines by four bits, where enable is 1", one_line)
+    yield Entry(family, "decoder4", named("x", 4) + ["enable"], 16, "one of 16 lines by four bits, where enable is 1",
+                one_line)
     yield Entry(family, "c17", [f"n{i}" for i in (1, 2, 3, 6, 7)], 2,
-                "nand(nand(n1, n3), u) and nand(u, nand(v, n7)), u being nand(n2, v) and v nand(n3, n6) (Brglez and Fujiwara 1985)",
+                "nand(nand(n1, n3), u) and nand(u, nand(v, n7)), u being nand(n2, v) and v nand(n3, n6) "
+                "(Brglez and Fujiwara 1985)",
                 six_gates)
     for k in (2, 4):
         said = f"{k} bits: a + b, a - b, and, or, exclusive or, not a, a < b without and with a sign; the carry"
