@@ -1,6 +1,6 @@
 #!/bin/sh
 # Builds the native baseline, and CUDD out of the source of Debian's berkeley-abc with its harness, into a folder.
-# usage: bench/peers.sh FOLDER      wants rustc, cc, ar, and for CUDD dpkg-dev and an apt with a deb-src line; without that the baseline alone
+# usage: bench/peers.sh FOLDER      wants rustc, cc, ar, tar, xz, and for CUDD dpkg-dev and an apt with a deb-src line; without that the baseline alone
 set -eu
 [ $# -eq 1 ] || { sed -n 3p "$0"; exit 2; }
 for tool in rustc cc ar tar xz; do
