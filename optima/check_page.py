@@ -12,9 +12,10 @@ import unittest
 
 HERE = os.path.dirname(os.path.abspath(__file__))
 sys.path.insert(0, f"{HERE}/../bindings/python")
+import test_page  # noqa: E402
 from minorder import benchmarks  # noqa: E402
 
-PAGE = os.path.abspath(sys.argv[1] if len(sys.argv) > 1 else f"{HERE}/../docs/optima.html")
+PAGE = os.path.abspath(sys.argv[1] if len(sys.argv) > 1 else test_page.PAGE)
 OPTIMA = benchmarks.optima()
 FILE = benchmarks.standings(benchmarks.league(), OPTIMA, benchmarks.FILE)
 RANDOM = benchmarks.standings(benchmarks.league(), OPTIMA, benchmarks.RANDOM)

@@ -12,7 +12,9 @@ HERE = os.path.dirname(os.path.abspath(__file__))
 sys.path.insert(0, f"{HERE}/../bindings/python")
 from minorder import benchmarks  # noqa: E402
 
-PAGE = f"{HERE}/../docs/optima.html"
+# in the repository, and where it is installed
+DOCS = next(it for it in (f"{HERE}/../docs", f"{HERE}/../../doc/minorder/docs") if os.path.exists(it))
+PAGE = f"{DOCS}/optima.html"
 OPTIMA = benchmarks.optima()
 MOST_BYTES = 1_500_000
 # what by_hand.csv says, by the stems of names
@@ -67,7 +69,7 @@ class Page(unittest.TestCase):
                     self.assertEqual(sizes if isinstance(sizes, list) else one, wanted)
 
     def test_its_league_is_that_of_the_pages(self):
-        with open(f"{HERE}/../docs/OPTIMA.md", encoding="utf-8") as file:
+        with open(f"{DOCS}/OPTIMA.md", encoding="utf-8") as file:
             rows = [line.strip("| \n").split(" | ") for line in file if re.match(r"\| (CUDD|BuDDy|ABC|minorder) ", line)]
         found = re.findall(r"<tr data-method=.*?</tr>", self.text)
         shown = [[re.sub("<[^>]*>", "", cell) for cell in re.findall(r"<td[^>]*>(.*?)</td>", row)] for row in found]

@@ -15,7 +15,7 @@ import time
 from concurrent.futures import ProcessPoolExecutor
 from typing import NamedTuple, Optional, Sequence
 
-from . import benchmarks
+from . import _output, benchmarks
 
 LIST = "functions.csv"
 COLUMNS = ("name", "inputs", "outputs", "sha256")
@@ -85,8 +85,10 @@ def main(words: Optional[Sequence[str]] = None) -> int:
     except OSError as error:
         print(f"minorder-functions: {error.filename or given.folder}: {error.strerror}", file=sys.stderr)
         return 5
-    print(f"{len(rows)} files in {given.folder}, listed in {LIST}: {time.monotonic() - start:.1f} s")
-    return 0
+    fault = _output.write(f"{len(rows)} files in {given.folder}, listed in {LIST}: {time.monotonic() - start:.1f} s\n")
+    if fault:
+        print(f"minorder-functions: {fault}", file=sys.stderr)
+    return 5 if fault else 0
 
 
 if __name__ == "__main__":

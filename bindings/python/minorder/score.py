@@ -5,7 +5,7 @@ Its columns are name (a function's, or the field's name for it) and order (top f
 and nodes (a size alone, which is a claim); besides them seconds, and start: file, the order of the file, if it is left out,
 or random. The word late in place of an order is a run that didn't end. Several lines of a function are several runs, of
 which the median counts. Orders are counted by the library, without complement edges. Exit status: 0; 1 if there is no
-library, 2 if the words are refused, 3 if the results are, 5 if a file can't be read or written.
+library, 2 if the words are refused, 3 if the results are, 4 if memory is out, 5 if a file can't be read or written.
 """
 from __future__ import annotations
 
@@ -14,7 +14,7 @@ import os
 import sys
 from typing import Optional, Sequence
 
-from . import _picture, _scores, _score_texts
+from . import _output, _picture, _scores, _score_texts
 from ._errors import NoLibrary
 from ._results import BadResults, Run, read_results
 
@@ -76,15 +76,13 @@ def main(words: Optional[Sequence[str]] = None) -> int:
         return fail(3, "the results are no text (UTF-8)")
     except NoLibrary as error:
         return fail(1, error)
+    except MemoryError:
+        return fail(4, "OutOfMemory")
     except OSError as error:
         return fail(5, f"{error.filename or given.results}: {error.strerror}")
     form = _score_texts.json_text if given.json else _score_texts.csv_text if given.csv else _score_texts.report
-    try:
-        sys.stdout.write(form(scores))
-        sys.stdout.flush()
-    except BrokenPipeError:
-        sys.stdout = None  # type: ignore[assignment]
-    return 0
+    fault = _output.write(form(scores))
+    return fail(5, fault) if fault else 0
 
 
 if __name__ == "__main__":
