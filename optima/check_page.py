@@ -208,10 +208,13 @@ class Results(Opened):
         self.assertIn("random orders: mean ratio 1.023", self.one("#said").text)
 
     def test_what_is_refused(self):
-        said = self.give("bad.csv", "name,nodes\nhwb8,43\nhwx8,44\nhwb8,\nhwb8,4x\n")
+        said = self.give("bad.csv", "name,nodes\nhwb8,43\nhwx8,44\nhwb8,\nhwb8,4x\nparity8,17\n")
         for text in ("line 2: hwb8: 43 nodes, and no order has fewer than 44", "line 3: no function is named hwx8",
-                     "line 4: hwb8: nothing is no number", "line 5: hwb8: 4x is no number"):
+                     "line 4: hwb8: nothing is no number", "line 5: hwb8: 4x is no number",
+                     "line 6: parity8: 17 nodes, and each order has 15"):
             self.assertIn(text, said)
+        self.give("orders.csv", "name,order\nhwb4,0 1 2 3\n")
+        self.until(lambda: "it has orders" in self.one("#said").text)
         self.assertEqual(self.all(".yours td"), [])
 
 

@@ -25,6 +25,8 @@ function faultOf({name, nodes, start}) {
   if (!/^(late|\d{1,9})$/.test(nodes)) return `${name}: ${nodes || "nothing"} is no number of nodes`;
   if (nodes !== "late" && Number(nodes) < it.optimum)
     return `${name}: ${nodes} nodes, and no order has fewer than ${it.optimum}: counted with complement edges?`;
+  if (nodes !== "late" && Number(nodes) > it.optimum && it.family === "symmetric")
+    return `${name}: ${nodes} nodes, and each order has ${it.optimum}: constants counted?`;
   return null;
 }
 
@@ -44,6 +46,8 @@ function read(text) {
     if (fault) faults.push(`line ${number + 1}: ${fault}`);
     else results.push({name: byName.get(row.name).name, nodes: row.nodes === "late" ? null : Number(row.nodes), start: startOf(row.start)});
   });
+  if (heads && heads.includes("order") && !heads.includes("nodes"))
+    return {results, faults: ["it has orders; minorder-score RESULTS --csv counts them and writes a file that this page takes"]};
   if (!results.length && !faults.length) faults.push("there are no results");
   return {results, faults};
 }

@@ -12,6 +12,9 @@ from . import benchmarks
 from ._errors import MinorderError
 
 LATE = "late"
+# the family whose functions have the same size under every order
+SYMMETRIC = "symmetric"
+HERE = "an order is counted here"
 STARTS = {benchmarks.FILE: benchmarks.FILE, **{word: benchmarks.RANDOM for word in (benchmarks.RANDOM, *map(str, range(1, 11)))}}
 COLUMNS = "name and order, or name and nodes; besides these seconds and start"
 
@@ -156,12 +159,15 @@ def order_of(name: str, given: object, inputs: Sequence[str]) -> tuple[int, ...]
 
 
 def claim_of(name: str, given: object) -> int:
-    """A number of nodes, which isn't below the proved optimum."""
+    """A number of nodes that some order may have: not below the proved optimum, and of a symmetric function no other."""
     text = str(given).strip()
     if isinstance(given, bool) or not (text.isascii() and text.isdigit() and len(text) < 10):
         raise Fault(f"{name}: nodes {text}: no number of nodes")
-    nodes, fewest = int(text), benchmarks.optima()[benchmarks.entry(name.strip()).name].optimum
+    nodes, row = int(text), benchmarks.optima()[benchmarks.entry(name.strip()).name]
+    fewest = row.optimum
+    if nodes > fewest and row.family == SYMMETRIC:
+        raise Fault(f"{name}: {nodes} nodes, and each order has {fewest}: most likely the constants counted; {HERE}")
     if nodes < fewest:
         why = "counted with complement edges" if 2 * nodes >= fewest - 1 else "another function, or fewer outputs"
-        raise Fault(f"{name}: {nodes} nodes, and no order has fewer than {fewest}: most likely {why}; an order is counted here")
+        raise Fault(f"{name}: {nodes} nodes, and no order has fewer than {fewest}: most likely {why}; {HERE}")
     return nodes

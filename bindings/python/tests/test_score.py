@@ -54,6 +54,7 @@ class Reading(unittest.TestCase):
         refused = [
             ("", "it names no columns"), ("hwb8,44\n", "it names no columns"), ("name,nodes\n", "there are no results"),
             ("name,nodes\nhwb8,43\n", "line 2: hwb8: 43 nodes, and no order has fewer than 44: most likely counted with"),
+            ("name,nodes\nparity8,17\n", "line 2: parity8: 17 nodes, and each order has 15: most likely the constants counted"),
             ("name,nodes\nhwb8,3\n", "line 2: hwb8: 3 nodes, and no order has fewer than 44: most likely another function"),
             ("name,nodes\n\nhwx8,44\n", "line 3: no function or family is named hwx8; is it hwb8"),
             ("name,nodes\nhwb8,4e1\n", "line 2: hwb8: nodes 4e1: no number of nodes"),
