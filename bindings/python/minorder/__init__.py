@@ -8,16 +8,18 @@ The functions of a diagram are given as ``tables``: one truth table or a sequenc
 
 * an integer: bit p is the value at the point p, and bit i of p is the value of variable i;
 * bytes: bit p % 8 of byte p // 8 is the value at the point p, as in ``integer.to_bytes(length, "little")``;
-* a function of ``inputs`` booleans, variable 0 first, which is called once for each point.
+* a function of ``inputs`` booleans, variable 0 first, which is called once for each point and gives a bool, 0 or 1.
 
-``from_values`` makes a table of a list of values, and ``read_pla`` reads those of a PLA file; both know their number
-of variables:
+``from_values`` makes a table of a list of values, ``variables`` those of the variables, and ``read_pla`` reads those of a
+PLA file; all know their number of variables:
 
     >>> minorder.exact(minorder.from_values([0, 1, 1, 0, 1, 0, 0, 1])).total
     5
-    >>> tables, inputs, outputs = minorder.read_pla("examples/mux2.pla")
-    >>> minorder.exact(tables).order
+    >>> a, b, s = minorder.variables(3)
+    >>> minorder.exact(s & b | ~s & a).order
     (2, 0, 1)
+    >>> minorder.exact(minorder.read_pla("examples/mux2.pla")).total
+    3
 
 A list of values that isn't put into ``from_values`` is refused where it can be told from a list of tables: 2^n
 entries, each 0 or 1.
@@ -31,12 +33,12 @@ prefix that it lies in, else what the loader finds.
 """
 from ._calls import Result, Verdict, certify, check, exact, levels, sift
 from ._errors import BadArgument, BadCertificate, BadOrder, BadPairs, BadPla, BadShape, BadText, MinorderError, NoLibrary
-from ._tables import Table, Tables, TruthTable, from_values
-from .files import Pla, read_pla
+from ._tables import Pla, Table, Tables, TruthTable, from_values, variables
+from .files import read_pla
 
 __version__ = "1.0.0"
 __all__ = [
     "BadArgument", "BadCertificate", "BadOrder", "BadPairs", "BadPla", "BadShape", "BadText", "MinorderError", "NoLibrary",
     "Pla", "Result", "Table", "Tables", "TruthTable", "Verdict", "certify", "check", "exact", "from_values", "levels",
-    "read_pla", "sift",
+    "read_pla", "sift", "variables",
 ]

@@ -2,12 +2,12 @@
 from array import array
 from itertools import product
 from operator import index
-from typing import Callable, Iterable, List, Mapping, Optional, Sequence, SupportsIndex, Tuple, Union
+from typing import Callable, Iterable, List, Mapping, NamedTuple, Optional, Sequence, SupportsIndex, Tuple, Union, overload
 
 from ._errors import BadArgument, BadShape
 
 Table = Union[SupportsIndex, bytes, bytearray, memoryview, "array[int]", Callable[..., object]]
-Tables = Union[Table, Sequence[Table]]
+Tables = Union[Table, Sequence[Table], "Pla"]
 
 MOST = 16
 SEVERAL = (
@@ -16,7 +16,8 @@ SEVERAL = (
 
 
 class TruthTable(int):
-    """A table that knows of how many variables it is: an integer whose bit p is the value at the point p."""
+    """A table that knows of how many variables it is: an integer whose bit p is the value at the point p. ``&``, ``|``,
+    ``^`` of two tables and ``~`` of one are tables of the same variables."""
     inputs: int
 
     def __new__(cls, number: int, inputs: int) -> "TruthTable":
@@ -31,6 +32,52 @@ class TruthTable(int):
 
     def __repr__(self) -> str:
         return f"TruthTable({int(self):#x}, inputs={self.inputs})"
+
+    def _beside(self, other: int, number: int) -> int:
+        """What an operation gives: a table if both sides are tables."""
+        if not isinstance(other, TruthTable):
+            return number
+        if other.inputs != self.inputs:
+            raise BadShape(f"tables: a table of {self.inputs} variables beside one of {other.inputs}")
+        return TruthTable(number, self.inputs)
+
+    @overload
+    def __and__(self, other: "TruthTable") -> "TruthTable": ...
+
+    @overload
+    def __and__(self, other: int) -> int: ...
+
+    def __and__(self, other: int) -> int:
+        return self._beside(other, int(self) & other)
+
+    @overload
+    def __or__(self, other: "TruthTable") -> "TruthTable": ...
+
+    @overload
+    def __or__(self, other: int) -> int: ...
+
+    def __or__(self, other: int) -> int:
+        return self._beside(other, int(self) | other)
+
+    @overload
+    def __xor__(self, other: "TruthTable") -> "TruthTable": ...
+
+    @overload
+    def __xor__(self, other: int) -> int: ...
+
+    def __xor__(self, other: int) -> int:
+        return self._beside(other, int(self) ^ other)
+
+    def __invert__(self) -> "TruthTable":
+        return TruthTable(int(self) ^ ((1 << (1 << self.inputs)) - 1), self.inputs)
+
+
+class Pla(NamedTuple):
+    """A PLA file: the truth tables of its outputs, and the names of its inputs and outputs, x0, x1, .. and f0, f1, ..
+    if it has none."""
+    tables: Tuple[TruthTable, ...]
+    inputs: Tuple[str, ...]
+    outputs: Tuple[str, ...]
 
 
 def shown(value: object) -> str:
@@ -69,13 +116,26 @@ def from_values(values: Iterable[object]) -> TruthTable:
     if isinstance(values, (str, bytes, bytearray, set, frozenset, Mapping)) or not hasattr(values, "__iter__"):
         raise BadArgument(f"values: {shown(values)} is no sequence of values")
     listed = [_native(value) for value in _native(values)]  # type: ignore[attr-defined]
-    for place, value in enumerate(listed):
-        if not isinstance(value, int) or value not in (0, 1):
-            raise BadShape(f"values: {shown(value)} at the point {place}: a value is 0 or 1, or a bool")
+    for point, value in enumerate(listed):
+        if not _is_value(value):
+            raise BadShape(f"values: {shown(value)} at the point {point}: a value is 0 or 1, or a bool")
     inputs = len(listed).bit_length() - 1
     if not 1 <= inputs <= MOST or len(listed) != 1 << inputs:
         raise BadShape(f"values: {len(listed)} values: a table of n variables has 2^n, and n is 1 to {MOST}")
     return TruthTable(int("".join("1" if value else "0" for value in reversed(listed)), 2), inputs)
+
+
+def variables(inputs: int) -> Tuple[TruthTable, ...]:
+    """The tables of variables 0, 1, .. of so many, from which ``&``, ``|``, ``^`` and ``~`` make those of functions.
+
+        >>> a, b, s = minorder.variables(3)
+        >>> minorder.exact(s & b | ~s & a).order
+        (2, 0, 1)
+    """
+    inputs = checked_inputs(inputs)
+    ones = (1 << (1 << inputs)) - 1
+    # 2^i points with variable i at 0 and as many at 1, again and again
+    return tuple(TruthTable(ones // ((1 << (1 << i)) + 1) << (1 << i), inputs) for i in range(inputs))
 
 
 def _native(it: object) -> object:
@@ -100,10 +160,20 @@ def _bytes_of(table: object) -> Optional[bytes]:
     return view.tobytes()
 
 
+def _hint(value: object) -> str:
+    """What is meant by a value of a function that is none."""
+    return "; the complement of a bool is `not` or `^ 1`, where `~` gives -1 or -2" if value in (-1, -2) else ""
+
+
 def _values_of(function: Callable[..., object], inputs: int) -> int:
     """The truth table of a function of booleans. The last factor of a product runs fastest, so the points are turned round."""
-    points = product((False, True), repeat=inputs)
-    return sum(1 << number for number, point in enumerate(points) if function(*reversed(point)))
+    digits = []
+    for number, point in enumerate(product((False, True), repeat=inputs)):
+        value = function(*reversed(point))
+        if value is not True and value is not False and not _is_value(value):
+            raise BadShape(f"tables: the function gives {shown(value)} at the point {number}: a value is 0 or 1, or a bool{_hint(value)}")
+        digits.append("1" if value else "0")
+    return int("".join(reversed(digits)), 2)
 
 
 def _number_of(table: Table, inputs: int) -> int:
@@ -137,6 +207,8 @@ def listed(tables: Tables) -> List[Table]:
     """The tables, one by one."""
     if _bytes_of(tables) is not None or callable(tables) or hasattr(tables, "__index__"):
         return [tables]  # type: ignore[list-item]
+    if isinstance(tables, Pla):
+        return list(tables.tables)
     if isinstance(tables, str) or not isinstance(tables, Sequence):
         raise BadArgument(f"tables: {shown(tables)} is no table and no sequence of tables: {SEVERAL}")
     if len(tables) > MOST and all(map(_is_value, tables)):

@@ -3,21 +3,13 @@ import os
 from typing import Dict, List, NamedTuple, NoReturn, Optional, Sequence, Tuple, Union
 
 from ._errors import BadArgument, BadPla
-from ._tables import MOST, TruthTable, shown
+from ._tables import MOST, Pla, TruthTable, shown
 
 LIMIT = 16_777_216
 BLANKS = b" \t\r"
 SPACED = bytes.maketrans(b"\t\r", b"  ")
 # a product with so few variables left free is put into the tables point by point
 FEW = 5
-
-
-class Pla(NamedTuple):
-    """A PLA file: the truth tables of its outputs, and the names of its inputs and outputs, x0, x1, .. and f0, f1, ..
-    if it has none."""
-    tables: Tuple[TruthTable, ...]
-    inputs: Tuple[str, ...]
-    outputs: Tuple[str, ...]
 
 
 class Term(NamedTuple):

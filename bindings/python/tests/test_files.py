@@ -106,6 +106,19 @@ class Values(unittest.TestCase):
         for again in (copy.deepcopy(parity), pickle.loads(pickle.dumps(parity))):
             self.assertEqual((again, again.inputs), (0x96, 3))
 
+    def test_tables_keep_their_variables(self):
+        a, b, s = minorder.variables(3)
+        for found, number in ((a & b, 0x88), (a | b, 0xEE), (a ^ b, 0x66), (~a, 0x55), (s & b | ~s & a, 0xCA)):
+            self.assertEqual((found, found.inputs), (number, 3))
+            self.assertIsInstance(found, minorder.TruthTable)
+        self.assertEqual([type(it) for it in (a & 1, 1 | a, a ^ 1)], [int] * 3)
+        self.assertRaises(minorder.BadShape, lambda: a & minorder.variables(2)[0])
+        for inputs in (1, 7, 16):
+            wanted = [sum(1 << p for p in range(1 << inputs) if p >> i & 1) for i in range(inputs)]
+            self.assertEqual(list(minorder.variables(inputs)), wanted)
+        for inputs in (0, 17):
+            self.assertRaises(minorder.BadShape, minorder.variables, inputs)
+
     def test_what_is_refused(self):
         for values in ([], [1], [0, 1, 1], [0, 2], [0, "1"], [0.5, 1], [[0, 1], [1, 0]], [0] * (1 << 17)):
             self.assertRaises(minorder.BadShape, minorder.from_values, values)

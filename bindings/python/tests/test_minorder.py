@@ -117,6 +117,10 @@ class WorkedCases(Folder):
         tables, inputs, outputs = minorder.read_pla(f"{TOP}/examples/mux2.pla")
         found = minorder.exact(tables)
         self.assertEqual([inputs[x] for x in found.order], ["s", "a", "b"])
+        pla = minorder.read_pla(f"{TOP}/examples/mux2.pla")
+        self.assertEqual(minorder.exact(pla), found)
+        self.assertEqual(minorder.levels(pla, found.order), found.levels)
+        self.assertTrue(minorder.check(pla, minorder.certify(pla)))
         with open(f"{TOP}/examples/mux2.cert") as file:
             self.assertTrue(minorder.check(tables, file.read()))
 
@@ -192,6 +196,14 @@ class Refusals(unittest.TestCase):
         words = array.array("Q", [1])
         for tables in (words, [words], array.array("i", values), memoryview(bytes(64)).cast("B", (8, 8))):
             self.refused(minorder.BadShape, "tables", minorder.exact, tables, 6)
+
+    def test_values_of_functions(self):
+        for value in (None, "0", 2, 1.0, [], -1, -2):
+            said = self.refused(minorder.BadShape, "tables", minorder.exact, lambda a, b: value if a and not b else 0, 2)
+            self.assertIn(f"gives {value!r} at the point 1", str(said))
+            self.assertEqual("`not` or `^ 1`" in str(said), value in (-1, -2))
+        self.refused(minorder.BadShape, "tables", minorder.exact, lambda a, b: ~(a & b), 2)
+        self.assertEqual(minorder.exact([lambda a, b: a & b ^ 1, lambda a, b: int(a)], 2).total, 3)
 
     def test_tables_of_other_inputs(self):
         table = minorder.from_values([0, 1, 1, 0])
