@@ -1,6 +1,7 @@
 """The texts that minorder reads and writes: PLA files and reports. It needs no library."""
 import os
-from typing import Dict, List, NamedTuple, NoReturn, Optional, Sequence, Tuple, Union
+from itertools import groupby
+from typing import Dict, Iterator, List, NamedTuple, NoReturn, Optional, Sequence, Tuple, Union
 
 from ._errors import BadArgument, BadPla
 from ._tables import MOST, Pla, TruthTable, shown
@@ -8,8 +9,10 @@ from ._tables import MOST, Pla, TruthTable, shown
 LIMIT = 16_777_216
 BLANKS = b" \t\r"
 SPACED = bytes.maketrans(b"\t\r", b"  ")
-# a product with so few variables left free is put into the tables point by point
-FEW = 5
+# terms are read in blocks of so many lines, as long as these hold nothing else
+BLOCK = 4096
+# products that together have so few points are put into the tables point by point
+FEW = 64
 
 
 class Term(NamedTuple):
@@ -19,12 +22,17 @@ class Term(NamedTuple):
 
 
 class Cover(NamedTuple):
-    """What a PLA file says, line by line: ``type`` is f or fd."""
+    """What a PLA file says: of each term the number of its line and its characters."""
     inputs: int
     outputs: int
     input_names: Optional[Tuple[str, ...]]
     output_names: Optional[Tuple[str, ...]]
-    terms: Tuple[Term, ...]
+    lines: Sequence[int]
+    characters: Sequence[bytes]
+
+    @property
+    def terms(self) -> Iterator[Term]:
+        return map(Term, self.lines, self.characters)
 
 
 def read_pla(path: Union[str, "os.PathLike[str]"]) -> Pla:
@@ -62,7 +70,8 @@ class _Reader:
         self.counts: Dict[bytes, int] = {}
         self.names: Dict[bytes, Tuple[str, ...]] = {}
         self.type: Optional[bytes] = None
-        self.terms: List[Term] = []
+        self.lines: List[int] = []
+        self.characters: List[bytes] = []
         self.line = 0
 
     def fault(self, kind: str) -> NoReturn:
@@ -83,13 +92,20 @@ class _Reader:
         self.directive(words[0], words[1:])
         return True
 
+    def read_all(self, lines: Sequence[bytes]) -> None:
+        """Reads the lines up to the last one."""
+        while self.line < len(lines):
+            block = lines[self.line:self.line + BLOCK]
+            if not self.block(block) and not all(map(self.read, block)):
+                return
+
     def directive(self, name: bytes, words: Sequence[bytes]) -> None:
         if name == b".p":
             self.number(words)
         elif name == b".type":
             if self.type is not None:
                 self.fault("RepeatedHead")
-            if list(words) not in ([b"f"], [b"fd"]) or self.terms:
+            if list(words) not in ([b"f"], [b"fd"]) or self.lines:
                 self.fault("UnsupportedType")
             self.type = words[0]
         elif name in (b".i", b".o"):
@@ -120,15 +136,42 @@ class _Reader:
             self.fault("BadName")
         self.names[name] = tuple(word.decode() for word in words)
 
+    def allowed(self) -> bytes:
+        """The characters of outputs."""
+        return b"01~-2" if self.type == b"f" else b"01~"
+
+    def block(self, lines: Sequence[bytes]) -> bool:
+        """Reads lines at once if each is a term without a fault, or blank; whether they are that."""
+        if len(self.counts) < 2:
+            return False
+        text = b"\n".join(lines)
+        if b"#" in text or b"." in text:
+            return False
+        inputs, width = self.counts[b".i"], self.counts[b".i"] + self.counts[b".o"]
+        each = text.translate(None, BLANKS).split(b"\n")
+        if b"|" in text:
+            each = [line.replace(b"|", b"") or line for line in each]
+        if not set(map(len, each)) <= {0, width}:
+            return False
+        found = b"".join(each)
+        columns = (found[i::width].translate(None, b"01-2" if i < inputs else self.allowed()) for i in range(width))
+        if any(columns):
+            return False
+        self.lines += [number for number, line in enumerate(each, self.line + 1) if line]
+        self.characters += filter(None, each)
+        self.line += len(each)
+        return True
+
     def term(self, characters: bytes) -> None:
         if len(self.counts) < 2:
             self.fault("MissingHead")
         inputs, outputs = self.counts[b".i"], self.counts[b".o"]
         left, right = characters[:inputs], characters[inputs:]
-        allowed = b"01~-2" if self.type == b"f" else b"01~"
+        allowed = self.allowed()
         if len(characters) != inputs + outputs or left.translate(None, b"01-2") or right.translate(None, allowed):
             self.bad_term(left, right, outputs, allowed)
-        self.terms.append(Term(self.line, characters))
+        self.lines.append(self.line)
+        self.characters.append(characters)
 
     def bad_term(self, left: bytes, right: bytes, outputs: int, allowed: bytes) -> NoReturn:
         """The first fault of a term, from left to right."""
@@ -148,13 +191,11 @@ def cover_of(content: bytes) -> Cover:
     if not lines[-1]:
         lines.pop()
     reader = _Reader()
-    for line in lines:
-        if not reader.read(line):
-            break
+    reader.read_all(lines)
     if len(reader.counts) < 2:
         reader.fault("MissingHead")
     inputs, outputs = reader.counts[b".i"], reader.counts[b".o"]
-    return Cover(inputs, outputs, reader.names.get(b".ilb"), reader.names.get(b".ob"), tuple(reader.terms))
+    return Cover(inputs, outputs, reader.names.get(b".ilb"), reader.names.get(b".ob"), reader.lines, reader.characters)
 
 
 # ---- truth tables
@@ -162,29 +203,56 @@ def cover_of(content: bytes) -> Cover:
 ONES, FREE = bytes.maketrans(b"~-2", b"000"), bytes.maketrans(b"01-2", b"0011")
 
 
-def _number(characters: bytes, digits: bytes) -> int:
-    """The characters as digits of a number, the first the lowest."""
-    return int(characters[::-1].translate(digits), 2)
+def _number(digits: bytes) -> int:
+    """The digits as a number, the first the lowest."""
+    return int(digits[::-1], 2)
+
+
+def _products_of(cover: Cover) -> Iterator[Tuple[bytes, bytes, List[int]]]:
+    """The products that the terms have, by the inputs that they leave free and by their outputs, both as digits; of each
+    its lowest point."""
+    inputs, width = cover.inputs, cover.inputs + cover.outputs
+    text = b"".join(set(cover.characters))
+    free, ones = text.translate(FREE), text.translate(ONES)
+    each = sorted(free[i:i + inputs] + ones[i + inputs:i + width] + ones[i:i + inputs] for i in range(0, len(text), width))
+    for key, group in groupby(each, lambda it: it[:width]):
+        yield key[:inputs], key[inputs:], [_number(it[width:]) for it in group]
+
+
+def _table_with(points: Sequence[int], inputs: int) -> int:
+    """The table that is 1 at these points."""
+    bits = bytearray(max(1, (1 << inputs) // 8))
+    for point in points:
+        bits[point >> 3] |= 1 << (point & 7)
+    return int.from_bytes(bits, "little")
+
+
+def _spread(table: int, steps: Sequence[int]) -> int:
+    """The table that is 1 also where the variables of these steps have the other value."""
+    for step in steps:
+        table |= table << step
+    return table
 
 
 def tables_of(cover: Cover) -> Tuple[TruthTable, ...]:
     """The truth table of each output: 1 at a point if a term with `1` for the output holds there."""
     tables, rows = [0] * cover.outputs, [0] * (1 << cover.inputs)
-    for term in cover.terms:
-        left, right = term.characters[:cover.inputs], term.characters[cover.inputs:]
-        outputs, free = _number(right, ONES), _number(left, FREE)
-        steps = [1 << x for x in range(cover.inputs) if free >> x & 1]
-        if len(steps) <= FEW:
-            points = [_number(left, ONES)]
+    for free, right, points in _products_of(cover):
+        outputs = _number(right)
+        steps = [1 << x for x in range(cover.inputs) if free[x] == ord("1")]
+        if not steps or len(points) << len(steps) <= FEW:
             for step in steps:
                 points += [point + step for point in points]
             for point in points:
                 rows[point] |= outputs
+            continue
+        if len(points) <= len(steps):
+            product, table = _spread(1, steps), 0
+            for point in points:
+                table |= product << point
         else:
-            product = 1 << _number(left, ONES)
-            for step in steps:
-                product |= product << step
-            tables = [table | product if outputs >> j & 1 else table for j, table in enumerate(tables)]
+            table = _spread(_table_with(points, cover.inputs), steps)
+        tables = [it | table if outputs >> j & 1 else it for j, it in enumerate(tables)]
     rows.reverse()
     found = [int("".join(["1" if row >> j & 1 else "0" for row in rows]), 2) for j in range(cover.outputs)]
     return tuple(TruthTable(table | more, cover.inputs) for table, more in zip(tables, found))

@@ -66,6 +66,17 @@ class Pla(unittest.TestCase):
         wanted = sum(1 << p for p in range(1 << 16) if p & 1 or p >> 15 or not p or p >> 9 == 0b1010101)
         self.assertEqual((first, second), (wanted, (1 << (1 << 16)) - 1))
 
+    def test_long_files(self):
+        head, terms = ".i 3\n.o 2\n", "".join(f"0-1 1~ \n\n\t1{i % 2}|0|01\r\n" for i in range(10_000))
+        tables, _, _ = files.pla_of((head + terms).encode())
+        self.assertEqual(tables, (0b1010000, 0b1010))
+        for fault, kind in (("0-1 1\n", "ShortTerm"), ("0-1 111\n", "LongTerm"), ("0x1 11\n", "BadInputChar"), ("0-1 1-\n", "DontCare"), ("|\n", "ShortTerm")):
+            with self.assertRaises(minorder.BadPla) as caught:
+                files.pla_of((head + terms + fault + terms).encode())
+            self.assertEqual((caught.exception.line, caught.exception.kind), (30_003, kind))
+        cover = files.cover_of((head + "# a comment\n" + terms).encode())
+        self.assertEqual([*cover.terms][-1], files.Term(30_003, b"11001"))
+
     def test_random_files_and_certificates(self):
         source = random_texts.Files(random.Random(5))
         for _ in range(1000):
