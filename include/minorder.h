@@ -9,10 +9,12 @@
    output, no complement edges, terminals not counted.
 
    Each call runs on the calling thread and keeps nothing: threads may call at the same time, each with its own data. Pointers
-   are never null, also where a length is 0 (but for `pairs` of minorder_exact_above), and what a call writes overlaps nothing
-   else that it is given. Memory comes from malloc and realloc and goes back to free before the call returns: the three are those
+   are never null, also where a length is 0 (but where a call says so), and what a call writes overlaps nothing else that it is
+   given. Memory comes from malloc and realloc and goes back to free before the call returns: the three are those
    of one allocator, and its blocks are aligned to 16 bytes. Don't call from a signal handler, nor in a child that a process with
-   several threads has forked. */
+   several threads has forked.
+
+   The library has each function that is inline here as a symbol, too, for callers in other languages. */
 #ifndef MINORDER_H
 #define MINORDER_H
 
@@ -21,6 +23,11 @@
 
 #ifdef __cplusplus
 extern "C" {
+#endif
+
+/* How the functions below are defined. The library defines it as nothing, once, which makes them its symbols. */
+#ifndef MINORDER_INLINE
+#define MINORDER_INLINE static inline
 #endif
 
 /* The version of the library that this header belongs to. */
@@ -46,7 +53,7 @@ enum {
 };
 
 /* The words of a status. */
-static inline const char *minorder_status_text(uint32_t status) {
+MINORDER_INLINE const char *minorder_status_text(uint32_t status) {
     switch (status) {
     case MINORDER_DONE: return "done";
     case MINORDER_BAD_SHAPE: return "the number of inputs or outputs isn't 1 to 16, or a length isn't what these ask for";
@@ -60,7 +67,7 @@ static inline const char *minorder_status_text(uint32_t status) {
 }
 
 /* How many words the truth table of a function takes; 0 above 16 inputs, of which there are no such functions. */
-static inline size_t minorder_words(uint32_t inputs) { return inputs < 6 ? 1 : inputs <= 16 ? (size_t)1 << (inputs - 6) : 0; }
+MINORDER_INLINE size_t minorder_words(uint32_t inputs) { return inputs < 6 ? 1 : inputs <= 16 ? (size_t)1 << (inputs - 6) : 0; }
 
 /* Pairs of variables: `above` has to stand above `below`. */
 typedef struct {
@@ -77,6 +84,9 @@ uint32_t minorder_certify_with_pairs(const uint64_t *tables, size_t words, uint3
                                      const minorder_pair *pairs, size_t count, uint8_t *text, size_t room, size_t *length);
 uint32_t minorder_levels_with_lengths(const uint64_t *tables, size_t words, uint32_t inputs, uint32_t outputs,
                                       const uint8_t *order, size_t order_length, uint32_t *levels, size_t levels_length);
+uint32_t minorder_exact_many_with_lengths(const uint64_t *tables, size_t words, uint32_t inputs, uint32_t outputs,
+                                          uint8_t *orders, size_t orders_length, uint32_t *levels, size_t levels_length,
+                                          uint32_t *totals, size_t count);
 uint32_t minorder_sift_with_lengths(const uint64_t *tables, size_t words, uint32_t inputs, uint32_t outputs,
                                     uint8_t *order, size_t order_length, uint32_t *levels, size_t levels_length, uint32_t *total);
 
@@ -84,14 +94,14 @@ uint32_t minorder_sift_with_lengths(const uint64_t *tables, size_t words, uint32
 static inline size_t minorder_places(uint32_t inputs) { return inputs <= 16 ? inputs : 0; }
 
 /* Writes the first order of the fewest nodes, its level counts and its size. `order` and `levels` have `inputs` entries. */
-static inline uint32_t minorder_exact(const uint64_t *tables, size_t words, uint32_t inputs, uint32_t outputs,
+MINORDER_INLINE uint32_t minorder_exact(const uint64_t *tables, size_t words, uint32_t inputs, uint32_t outputs,
                                       uint8_t *order, uint32_t *levels, uint32_t *total) {
     size_t places = minorder_places(inputs);
     return minorder_exact_with_lengths(tables, words, inputs, outputs, order, places, levels, places, total);
 }
 
 /* The same among the orders that keep `count` pairs. A pair may be given twice; without pairs `pairs` may be null. */
-static inline uint32_t minorder_exact_above(const uint64_t *tables, size_t words, uint32_t inputs, uint32_t outputs,
+MINORDER_INLINE uint32_t minorder_exact_above(const uint64_t *tables, size_t words, uint32_t inputs, uint32_t outputs,
                                             const minorder_pair *pairs, size_t count,
                                             uint8_t *order, uint32_t *levels, uint32_t *total) {
     size_t places = minorder_places(inputs);
@@ -101,11 +111,25 @@ static inline uint32_t minorder_exact_above(const uint64_t *tables, size_t words
     return minorder_exact_above_with_lengths(tables, words, inputs, outputs, pairs, count, order, places, levels, places, total);
 }
 
+/* The same as minorder_exact for each of `count` problems that have as many inputs and outputs. Their tables stand one behind the
+   other, and so do the answers: `orders` and `levels` have `inputs` entries for each, `totals` has one. `words` is the number of all
+   words. Where `count` is 0 pointers may be null. */
+MINORDER_INLINE uint32_t minorder_exact_many(const uint64_t *tables, size_t words, uint32_t inputs, uint32_t outputs, size_t count,
+                                             uint8_t *orders, uint32_t *levels, uint32_t *totals) {
+    size_t places = count * minorder_places(inputs);
+    uint64_t no_table = 0;
+    uint8_t no_order = 0;
+    uint32_t no_level = 0, no_total = 0;
+    if (count == 0)
+        tables = &no_table, orders = &no_order, levels = &no_level, totals = &no_total;
+    return minorder_exact_many_with_lengths(tables, words, inputs, outputs, orders, places, levels, places, totals, count);
+}
+
 /* Writes the text of the certificate of the first order of the fewest nodes among those that keep `count` pairs, and its length: what
    `minorder --cert` writes, in format 2, which minorder_check accepts. `text` has `room` bytes; if the text is longer, only the
    length is written and the call returns MINORDER_SHORT_TEXT. No terminating 0 is written. Without pairs `pairs` may be null, and
    without room `text`. It takes as long as a run with --cert, longer than minorder_exact. */
-static inline uint32_t minorder_certify(const uint64_t *tables, size_t words, uint32_t inputs, uint32_t outputs,
+MINORDER_INLINE uint32_t minorder_certify(const uint64_t *tables, size_t words, uint32_t inputs, uint32_t outputs,
                                         const minorder_pair *pairs, size_t count, char *text, size_t room, size_t *length) {
     const minorder_pair no_pair = {0, 0};
     uint8_t no_text = 0;
@@ -114,7 +138,7 @@ static inline uint32_t minorder_certify(const uint64_t *tables, size_t words, ui
 }
 
 /* Writes the level counts under an order. `order` and `levels` have `inputs` entries. */
-static inline uint32_t minorder_levels(const uint64_t *tables, size_t words, uint32_t inputs, uint32_t outputs,
+MINORDER_INLINE uint32_t minorder_levels(const uint64_t *tables, size_t words, uint32_t inputs, uint32_t outputs,
                                        const uint8_t *order, uint32_t *levels) {
     size_t places = minorder_places(inputs);
     return minorder_levels_with_lengths(tables, words, inputs, outputs, order, places, levels, places);
@@ -122,7 +146,7 @@ static inline uint32_t minorder_levels(const uint64_t *tables, size_t words, uin
 
 /* Puts in the place of an order what one pass of sifting makes of it, and writes its level counts and its size. `order` and
    `levels` have `inputs` entries. */
-static inline uint32_t minorder_sift(const uint64_t *tables, size_t words, uint32_t inputs, uint32_t outputs,
+MINORDER_INLINE uint32_t minorder_sift(const uint64_t *tables, size_t words, uint32_t inputs, uint32_t outputs,
                                      uint8_t *order, uint32_t *levels, uint32_t *total) {
     size_t places = minorder_places(inputs);
     return minorder_sift_with_lengths(tables, words, inputs, outputs, order, places, levels, places, total);
@@ -142,7 +166,7 @@ enum {
 };
 
 /* The word of a reason, as ordercheck prints it. */
-static inline const char *minorder_reason_text(uint32_t reason) {
+MINORDER_INLINE const char *minorder_reason_text(uint32_t reason) {
     static const char *const words[] = {"Valid", "Shape", "Order", "Pairs", "Levels", "Total", "Start", "CellTooBig", "Edge"};
     return reason <= MINORDER_EDGE ? words[reason] : "no reason of this library";
 }
@@ -155,6 +179,24 @@ typedef struct {
 /* Writes the verdict on a certificate's text of so many bytes. */
 uint32_t minorder_check(const uint64_t *tables, size_t words, uint32_t inputs, uint32_t outputs,
                         const uint8_t *certificate, size_t length, minorder_verdict *verdict);
+
+/* As many pairs as a certificate has at most. */
+enum { MINORDER_MOST_PAIRS = 240 };
+
+uint32_t minorder_check_total_with_pairs(const uint64_t *tables, size_t words, uint32_t inputs, uint32_t outputs,
+                                         const uint8_t *certificate, size_t length, minorder_verdict *verdict, uint32_t *total,
+                                         minorder_pair *pairs, size_t room, size_t *count);
+
+/* The same, and what the certificate states: its total, and how many pairs it has. If it is valid, its order has `total` nodes and
+   no order that keeps its pairs has fewer; only if `count` is 0 are that all orders. `pairs` has `room` entries and gets the
+   certificate's pairs, the first ones if it has more. Without room it may be null. */
+MINORDER_INLINE uint32_t minorder_check_total(const uint64_t *tables, size_t words, uint32_t inputs, uint32_t outputs,
+                                              const uint8_t *certificate, size_t length, minorder_verdict *verdict, uint32_t *total,
+                                              minorder_pair *pairs, size_t room, size_t *count) {
+    minorder_pair no_pair = {0, 0};
+    return minorder_check_total_with_pairs(tables, words, inputs, outputs, certificate, length, verdict, total,
+                                           room == 0 ? &no_pair : pairs, room, count);
+}
 
 #ifdef __cplusplus
 }

@@ -116,6 +116,37 @@ static void worked_cases(void) {
     EXPECT(memcmp(best, (uint8_t[]){3, 7, 2, 6, 1, 5, 0, 4}, 8) == 0);
 }
 
+/* many problems by one call: the answers are those of a call for each */
+static void many_problems(void) {
+    enum { COUNT = 40, OUTPUTS = 2 };
+    for (uint32_t inputs = 1; inputs <= 8; inputs++) {
+        uint64_t tables[COUNT * OUTPUTS * 4], seed = inputs;
+        uint8_t orders[COUNT * 8], order[8];
+        uint32_t levels[COUNT * 8], totals[COUNT], counts[8], total;
+        size_t each = OUTPUTS * minorder_words(inputs), words = COUNT * each;
+        for (size_t i = 0; i < words; i++) {
+            seed = seed * 6364136223846793005u + 1442695040888963407u;
+            tables[i] = seed & seed >> 29;
+        }
+        EXPECT(minorder_exact_many(tables, words, inputs, OUTPUTS, COUNT, orders, levels, totals) == MINORDER_DONE);
+        for (size_t i = 0; i < COUNT; i++) {
+            EXPECT(minorder_exact(tables + i * each, each, inputs, OUTPUTS, order, counts, &total) == MINORDER_DONE && total == totals[i]);
+            EXPECT(memcmp(order, orders + i * inputs, inputs) == 0 && memcmp(counts, levels + i * inputs, inputs * sizeof *counts) == 0);
+        }
+        totals[0] = 77;
+        EXPECT(minorder_exact_many(tables, words - 1, inputs, OUTPUTS, COUNT, orders, levels, totals) == MINORDER_BAD_SHAPE);
+        EXPECT(minorder_exact_many(tables, words, inputs, OUTPUTS, COUNT - 1, orders, levels, totals) == MINORDER_BAD_SHAPE && totals[0] == 77);
+        EXPECT(minorder_exact_many(NULL, 0, inputs, OUTPUTS, 0, NULL, NULL, NULL) == MINORDER_DONE);
+    }
+    EXPECT(minorder_exact_many(NULL, 0, 17, 1, 0, NULL, NULL, NULL) == MINORDER_BAD_SHAPE);
+    EXPECT(minorder_exact_many(NULL, 0, 1, 0, 0, NULL, NULL, NULL) == MINORDER_BAD_SHAPE);
+    uint64_t table = 2;
+    uint8_t order = 0;
+    uint32_t level = 0, total = 0;
+    EXPECT(minorder_exact_many_with_lengths(&table, 1, 1, 1, &order, 0, &level, 1, &total, 1) == MINORDER_BAD_SHAPE);
+    EXPECT(minorder_exact_many_with_lengths(&table, 1, 1, 1, &order, 1, &level, 0, &total, 1) == MINORDER_BAD_SHAPE);
+}
+
 static const char good[] = "bddorder-certificate 1\ninputs 1\noutputs 1\norder 0\nlevels 1\ntotal 1\ncells 1\n0000 0\nend\n";
 
 static uint32_t checked(const char *text, minorder_verdict *verdict) {
@@ -137,6 +168,23 @@ static void certificates(void) {
     EXPECT(verdict.reason == MINORDER_START);
 }
 
+/* what a certificate with the pair (3, 0), or with none, states */
+static void totals_and_pairs(const uint64_t *table, const char *text, size_t length, size_t pairs) {
+    for (size_t room = 0; room < 3; room++) {
+        minorder_pair found[2] = {{66, 66}, {66, 66}};
+        minorder_verdict verdict = {99, 99, 99};
+        uint32_t total = 0;
+        size_t count = 99;
+        EXPECT(minorder_check_total(table, 1, 6, 1, (const uint8_t *)text, length, &verdict, &total, room == 0 ? NULL : found, room, &count) == MINORDER_DONE);
+        EXPECT(verdict.reason == MINORDER_VALID && total == 6 && count == pairs);
+        int told = pairs != 0 && room != 0;
+        EXPECT(found[0].above == (told ? 3 : 66) && found[0].below == (told ? 0 : 66) && found[1].above == 66);
+        EXPECT(minorder_check_total(table, 1, 6, 1, (const uint8_t *)text, length - 1, &verdict, &total, found, room, &count) == MINORDER_BAD_CERTIFICATE);
+        EXPECT(minorder_check_total(table, 2, 6, 1, (const uint8_t *)text, length, &verdict, &total, found, room, &count) == MINORDER_BAD_SHAPE);
+        EXPECT(verdict.reason == MINORDER_VALID && total == 6 && count == pairs);
+    }
+}
+
 /* a certificate is written as far as there is room, is judged to be valid, and keeps its pairs */
 static void written_certificates(void) {
     uint64_t table = pairs_of_three();
@@ -154,6 +202,7 @@ static void written_certificates(void) {
         EXPECT(length == needed && text[length] == '?' && memcmp(text, "bddorder-certificate 2\n", 23) == 0);
         EXPECT(minorder_check(&table, 1, 6, 1, (const uint8_t *)text, length, &verdict) == MINORDER_DONE);
         EXPECT(verdict.reason == MINORDER_VALID && strcmp(minorder_reason_text(verdict.reason), "Valid") == 0);
+        totals_and_pairs(&table, text, length, count);
     }
     EXPECT(minorder_certify(&table, 1, 6, 1, NULL, 0, text, sizeof text, &length) == MINORDER_DONE && length < sizeof text);
     const minorder_pair circle[] = {{1, 2}, {2, 1}};
@@ -230,6 +279,8 @@ static uint64_t refused_tables[3];
 static uint8_t given_order[4], answered_order[4];
 static uint32_t answered_levels[4], answered_total;
 static minorder_verdict answered_verdict;
+static uint8_t many_orders[12];
+static uint32_t many_levels[12], many_totals[3];
 
 static uint32_t exact_call(void) { return minorder_exact_with_lengths(refused_tables, 3, 4, 3, answered_order, 4, answered_levels, 4, &answered_total); }
 static uint32_t above_call(void) {
@@ -239,6 +290,13 @@ static uint32_t above_call(void) {
 static uint32_t levels_call(void) { return minorder_levels_with_lengths(refused_tables, 3, 4, 3, given_order, 4, answered_levels, 4); }
 static uint32_t sift_call(void) { return minorder_sift_with_lengths(refused_tables, 3, 4, 3, answered_order, 4, answered_levels, 4, &answered_total); }
 static uint32_t check_call(void) { return checked(good, &answered_verdict); }
+static uint32_t many_call(void) { return minorder_exact_many(refused_tables, 3, 4, 1, 3, many_orders, many_levels, many_totals); }
+static uint32_t check_total_call(void) {
+    uint64_t itself = 2;
+    minorder_pair pair;
+    size_t count;
+    return minorder_check_total(&itself, 1, 1, 1, (const uint8_t *)good, strlen(good), &answered_verdict, &answered_total, &pair, 1, &count);
+}
 static uint32_t certify_call(void) {
     char text[1024];
     size_t length;
@@ -250,6 +308,9 @@ static void clear_answers(void) {
     memset(answered_levels, 0, sizeof answered_levels);
     answered_total = 0;
     answered_verdict = (minorder_verdict){99, 99, 99};
+    memset(many_orders, 0, sizeof many_orders);
+    memset(many_levels, 0, sizeof many_levels);
+    memset(many_totals, 0, sizeof many_totals);
 }
 
 static void refuse_each(const char *name, uint32_t (*call)(void)) {
@@ -270,6 +331,8 @@ static void refuse_each(const char *name, uint32_t (*call)(void)) {
         EXPECT(status == MINORDER_OUT_OF_MEMORY);
         EXPECT(memcmp(answered_order, given_order, sizeof given_order) == 0 && memcmp(answered_levels, none, sizeof none) == 0);
         EXPECT(answered_total == 0 && answered_verdict.reason == 99);
+        for (int i = 0; i < 12; i++)
+            EXPECT(many_orders[i] == 0 && many_levels[i] == 0 && many_totals[i / 4] == 0);
     }
 }
 
@@ -283,6 +346,8 @@ static void refusals(void) {
     refuse_each("minorder_sift", sift_call);
     refuse_each("minorder_check", check_call);
     refuse_each("minorder_certify", certify_call);
+    refuse_each("minorder_exact_many", many_call);
+    refuse_each("minorder_check_total", check_total_call);
 }
 
 /* ---- several threads, each with its own data */
@@ -352,6 +417,7 @@ int main(int count, char **words) {
     if (count == 3)
         return report((unsigned)atoi(words[1]), (unsigned)atoi(words[2]));
     worked_cases();
+    many_problems();
     certificates();
     written_certificates();
     versions();

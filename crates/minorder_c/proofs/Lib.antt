@@ -1,3 +1,5 @@
 mod Counts
+mod Parts
+mod Places
 mod Refusals
 pub mod Certificates

@@ -33,7 +33,7 @@ fn plain(reason: u32) -> ToldVerdict
 }
 
 /// A verdict, as C is told it.
-fn verdict_for_c(verdict: Verdict) -> ToldVerdict
+pub(crate) fn verdict_for_c(verdict: Verdict) -> ToldVerdict
     ensures { result ≡ told_verdict verdict }
 {
     match verdict {
@@ -54,7 +54,7 @@ fn verdict_for_c(verdict: Verdict) -> ToldVerdict
 }
 
 /// The certificate that a text spells.
-fn certificate_of(alloc: Global, text: &[u8]) -> Result<Certificate, Refusal>
+pub(crate) fn certificate_of(alloc: Global, text: &[u8]) -> Result<Certificate, Refusal>
     ensures spelled { IfOk result (λ cert. text.now ≡ spelling cert) }
     ensures refused { IfErr result (RefusesText (Unit {0}) text.now) }
 {

@@ -1,0 +1,152 @@
+//! The orders of the fewest nodes of many problems by one call.
+
+ghost use Rattle.std.specs.Prelude.{◌≡◌, ◌≢◌, ◌*◌, ◌↔◌, ◌++◌, ◌∷◌, [], length, IsTrue, IfOk, IfErr, OnOk};
+ghost use Rattle.order_solve.specs.Solutions.{IsFirstFewest};
+ghost use Rattle.minorder_c.specs.Answers.{AreTables, functions_in};
+ghost use Rattle.minorder_c.specs.Many.{AreFirstFewest, HasManyShape};
+ghost use Rattle.minorder_c.specs.Statuses.{IsPlainStatus, RefusesShape, TellsShape};
+ghost use Rattle.minorder_c.specs.declared.status.Refusal.TheVariants.{OutOfMemory};
+
+use crate::arguments::tables_of;
+use crate::sifting_from::bound_of;
+use crate::status::Refusal;
+use order_model::Pairs;
+use order_model::packed::{block, words_per_table};
+use order_solve::{Optimum, find_optimum_alone};
+use std::alloc::{AllocError, Global};
+
+/// The first order of the fewest nodes of one problem.
+fn optimum_of(alloc: Global, words: &[u64], inputs: u32, outputs: u32) -> Result<Optimum, Refusal>
+    ensures optimum { IfOk result
+        (λ s. IsFirstFewest inputs (functions_in inputs outputs words.now) [] s.order s.levels.items
+        s.total) }
+    ensures long { IfOk result (λ s. length s.order ≡ inputs) }
+    ensures counts { IfOk result (λ s. length s.levels.items ≡ inputs) }
+    ensures refused { IfErr result (RefusesShape (AreTables inputs outputs words.now)) }
+{
+    let tables = tables_of(alloc, words, inputs, outputs)?;
+    let bound = bound_of(alloc, &tables, Pairs::none(inputs as u8))?;
+    let optimum = find_optimum_alone(alloc, tables.problem(), bound)?;
+    Ok(optimum)
+}
+
+/// The answers of many problems, one behind the other.
+#[derive(Drop)]
+struct Answers {
+    orders: Vec<u8>,
+    levels: Vec<u32>,
+    totals: Vec<u32>,
+}
+
+/// Whether a length is that of so many pieces of a size.
+fn is_length(length: usize, many: usize, size: usize) -> bool
+    ensures { IsTrue result ↔ (length ≡ many * size) }
+{
+    match many.checked_mul(size) {
+        Some(wanted) => length == wanted,
+        None => false,
+    }
+}
+
+/// Whether these lengths are what so many problems ask for.
+fn is_shape(
+    words: &[u64],
+    inputs: u32,
+    outputs: u32,
+    places: usize,
+    counts: usize,
+    many: usize,
+) -> bool
+    ensures { IsTrue result ↔ HasManyShape inputs outputs words.now places counts many }
+{
+    if inputs < 1 || 16 < inputs || outputs < 1 || 16 < outputs {
+        return false;
+    }
+    let size = outputs as usize * words_per_table(inputs as u8);
+    is_length(words.len(), many, size)
+        && is_length(places, many, inputs as usize)
+        && is_length(counts, many, inputs as usize)
+}
+
+/// Puts one problem's answers behind the others.
+fn put(answers: &mut Answers, best: &Optimum) -> Result<(), AllocError>
+    ensures orders { OnOk result (answers.new.orders.items ≡ answers.old.orders.items ++ best.now.order) }
+    ensures levels { OnOk result
+        (answers.new.levels.items ≡ answers.old.levels.items ++ best.now.levels.items) }
+    ensures totals { OnOk result
+        (answers.new.totals.items ≡ answers.old.totals.items ++ best.now.total ∷ []) }
+{
+    answers.orders.extend_from_slice(best.order.variables())?;
+    answers.levels.extend_from_slice(&best.levels)?;
+    answers.totals.push(best.total)?;
+    Ok(())
+}
+
+/// The first order of the fewest nodes of each of many problems, whose words have their shape.
+fn optima_of(
+    alloc: Global,
+    words: &[u64],
+    inputs: u32,
+    outputs: u32,
+    many: usize,
+) -> Result<Answers, Refusal>
+    requires { HasManyShape inputs outputs words.now (many * inputs) (many * inputs) many }
+    ensures optima { IfOk result
+        (λ a. AreFirstFewest inputs outputs words.now many a.orders.items a.levels.items
+        a.totals.items) }
+    ensures orders { IfOk result (λ a. length a.orders.items ≡ many * inputs) }
+    ensures levels { IfOk result (λ a. length a.levels.items ≡ many * inputs) }
+    ensures totals { IfOk result (λ a. length a.totals.items ≡ many) }
+    ensures refused { IfErr result (λ r. r ≡ OutOfMemory) }
+{
+    let size = outputs as usize * words_per_table(inputs as u8);
+    let mut answers = Answers {
+        orders: Vec::new(alloc),
+        levels: Vec::new(alloc),
+        totals: Vec::new(alloc),
+    };
+    for i in 0..many {
+        let best = optimum_of(alloc, block(words, size, i), inputs, outputs)?;
+        put(&mut answers, &best)?;
+    }
+    Ok(answers)
+}
+
+/// The first order of the fewest nodes of each of many problems, their level counts and their
+/// sizes. The words of the problems stand one behind the other, and so do their answers. A call
+/// that is refused writes nothing.
+#[unsafe(no_mangle)]
+pub extern "C" fn minorder_exact_many_with_lengths(
+    alloc: Global,
+    tables: &[u64],
+    inputs: u32,
+    outputs: u32,
+    orders: &mut [u8],
+    levels: &mut [u32],
+    totals: &mut [u32],
+) -> u32
+    ensures status { IsPlainStatus result }
+    ensures shape { TellsShape
+        (HasManyShape inputs outputs tables.now (length orders.old) (length levels.old)
+        (length totals.old)) result }
+    ensures optima { result ≡ 0 →
+        AreFirstFewest inputs outputs tables.now (length totals.old) orders.new levels.new
+        totals.new }
+    ensures orders { result ≢ 0 → orders.new ≡ orders.old }
+    ensures levels { result ≢ 0 → levels.new ≡ levels.old }
+    ensures totals { result ≢ 0 → totals.new ≡ totals.old }
+{
+    let many = totals.len();
+    if !is_shape(tables, inputs, outputs, orders.len(), levels.len(), many) {
+        return Refusal::Shape.status();
+    }
+    match optima_of(alloc, tables, inputs, outputs, many) {
+        Ok(found) => {
+            orders.copy_from_slice(&found.orders);
+            levels.copy_from_slice(&found.levels);
+            totals.copy_from_slice(&found.totals);
+            0
+        }
+        Err(refusal) => refusal.status(),
+    }
+}
