@@ -11,6 +11,11 @@ need "${compiler[0]}" nm python3
 "$top/libminorder"
 ! nm -g --defined-only "$top/lib/libminorder.a" | awk 'NF == 3 { print $3 }' | grep -v '^minorder_' ||
     { echo "bindings/c/test.sh: lib/libminorder.a exports these names besides" >&2; exit 1; }
+# what the header has inline, other languages find in both libraries
+for name in $(sed -n 's/^MINORDER_INLINE .*\(minorder_[a-z_]*\)(.*/\1/p' "$top/include/minorder.h"); do
+    { nm -g --defined-only "$top/lib/libminorder.a" && nm -D --defined-only "$top/lib/libminorder.so.1"; } |
+        awk -v name="$name" '$3 == name { found++ } END { exit found != 2 }' || { echo "bindings/c/test.sh: $name isn't in both libraries" >&2; exit 1; }
+done
 made=$(mktemp -d)
 trap 'rm -rf "$made"' EXIT
 flags=(-std=c11 -D_GNU_SOURCE -O2 -Wall -Wextra -Wno-unused-function -I "$top/include" -Wl,--wrap=malloc,--wrap=realloc,--wrap=free)
