@@ -33,12 +33,14 @@ prefix that it lies in, else what the loader finds.
 """
 from ._calls import Result, Verdict, certify, check, exact, levels, sift
 from ._errors import BadArgument, BadCertificate, BadOrder, BadPairs, BadPla, BadShape, BadText, MinorderError, NoLibrary
+from ._many import exact_many
 from ._tables import Pla, Table, Tables, TruthTable, from_values, variables
+from .batch import FileReport, Report, Status, report_files
 from .files import read_pla
 
 __version__ = "1.0.0"
 __all__ = [
     "BadArgument", "BadCertificate", "BadOrder", "BadPairs", "BadPla", "BadShape", "BadText", "MinorderError", "NoLibrary",
-    "Pla", "Result", "Table", "Tables", "TruthTable", "Verdict", "certify", "check", "exact", "from_values", "levels",
-    "read_pla", "sift", "variables",
+    "FileReport", "Pla", "Report", "Result", "Status", "Table", "Tables", "TruthTable", "Verdict",
+    "certify", "check", "exact", "exact_many", "from_values", "levels", "read_pla", "report_files", "sift", "variables",
 ]

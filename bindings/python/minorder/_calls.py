@@ -6,9 +6,12 @@ from ._certificates import check_text, inputs_of
 from ._errors import BadArgument, BadOrder, BadPairs, BadShape, MinorderError
 from ._library import Judged, Pair, library
 from ._tables import Table, Tables, checked_inputs, inputs_said, listed, shown, whole, words_of
+from ._threads import aside
 
 NO_CERTIFICATE = 3
 SHORT_TEXT = 7
+# a certificate has no more
+MOST_PAIRS = 240
 REFUSALS: Mapping[int, Tuple[Type[Exception], str]] = {
     2: (BadShape, "tables: a shape that the library refuses"),
     NO_CERTIFICATE: (MinorderError, "certificate: the library refuses the text"),
@@ -28,16 +31,20 @@ class Result(NamedTuple):
 
 class Verdict(NamedTuple):
     """Why a certificate isn't good: ``Valid`` if it is, else the word that ``ordercheck`` prints. ``mask`` and
-    ``variable`` are those of ``Edge``, else 0. A verdict counts as true if it is ``Valid``."""
+    ``variable`` are those of ``Edge``, else 0. ``total`` and ``pairs`` are the certificate's: if it is ``Valid``, no order
+    that keeps the pairs has fewer nodes than ``total``. A verdict counts as true if it is ``Valid``."""
     reason: str
     mask: int
     variable: int
+    total: int
+    pairs: Tuple[Tuple[int, int], ...]
 
     def __bool__(self) -> bool:
         return self.reason == "Valid"
 
 
-def _done(status: int) -> None:
+def done(status: int) -> None:
+    """Raises what a status other than 0 stands for."""
     if status:
         error, text = REFUSALS.get(status, (MinorderError, f"the library ended with status {status}"))
         raise error(text)
@@ -105,9 +112,9 @@ def exact(tables: Tables, inputs: Optional[int] = None, above: Iterable[Tuple[in
     order, levels, total = (c_uint8 * inputs)(), (c_uint32 * inputs)(), c_uint32()
     given, places = _given(each, inputs), (order, inputs, levels, inputs, byref(total))
     if len(pairs):
-        _done(library().minorder_exact_above_with_lengths(*given, pairs, len(pairs), *places))
+        done(aside(inputs, library().minorder_exact_above_with_lengths, *given, pairs, len(pairs), *places))
     else:
-        _done(library().minorder_exact_with_lengths(*given, *places))
+        done(aside(inputs, library().minorder_exact_with_lengths, *given, *places))
     return Result(tuple(order), tuple(levels), total.value)
 
 
@@ -122,9 +129,9 @@ def certify(tables: Tables, inputs: Optional[int] = None, above: Iterable[Tuple[
     room, length = 1 << 16, c_size_t()
     while True:
         text = (c_uint8 * room)()
-        status = library().minorder_certify_with_pairs(*given, text, room, byref(length))
+        status = aside(inputs, library().minorder_certify_with_pairs, *given, text, room, byref(length))
         if status != SHORT_TEXT:
-            _done(status)
+            done(status)
             return bytes(text[:length.value]).decode("ascii")
         room = length.value
 
@@ -134,7 +141,7 @@ def levels(tables: Tables, order: Sequence[int]) -> Tuple[int, ...]:
     variables = _order_of(order)
     inputs = len(variables)
     counts, given = (c_uint32 * inputs)(), _given(listed(tables), inputs)
-    _done(library().minorder_levels_with_lengths(*given, (c_uint8 * inputs)(*variables), inputs, counts, inputs))
+    done(library().minorder_levels_with_lengths(*given, (c_uint8 * inputs)(*variables), inputs, counts, inputs))
     return tuple(counts)
 
 
@@ -144,7 +151,7 @@ def sift(tables: Tables, order: Sequence[int]) -> Result:
     inputs = len(variables)
     sifted, counts, total = (c_uint8 * inputs)(*variables), (c_uint32 * inputs)(), c_uint32()
     given = _given(listed(tables), inputs)
-    _done(library().minorder_sift_with_lengths(*given, sifted, inputs, counts, inputs, byref(total)))
+    done(library().minorder_sift_with_lengths(*given, sifted, inputs, counts, inputs, byref(total)))
     return Result(tuple(sifted), tuple(counts), total.value)
 
 
@@ -161,12 +168,15 @@ def check(tables: Tables, certificate: Union[str, bytes], inputs: Optional[int] 
     each = listed(tables)
     if inputs is None and (inputs := inputs_said(each)) is None:
         inputs = inputs_of(text)
-    judged = Judged()
+    judged, total, pairs, count = Judged(), c_uint32(), (Pair * MOST_PAIRS)(), c_size_t()
     given = _given(each, checked_inputs(inputs))
     # an empty text also is given an address
     spelled = (c_uint8 * max(1, len(text))).from_buffer_copy(text or b"\0")
-    status = library().minorder_check(*given, spelled, len(text), byref(judged))
+    status = aside(
+        checked_inputs(inputs), library().minorder_check_total_with_pairs, *given, spelled, len(text), byref(judged),
+        byref(total), pairs, MOST_PAIRS, byref(count))
     if status == NO_CERTIFICATE:
         check_text(text)
-    _done(status)
-    return Verdict(REASONS[judged.reason], judged.mask, judged.variable)
+    done(status)
+    kept = tuple((pair.above, pair.below) for pair in pairs[:count.value])
+    return Verdict(REASONS[judged.reason], judged.mask, judged.variable, total.value, kept)

@@ -30,7 +30,9 @@ CALLS = {
     "minorder_certify_with_pairs": [*TABLES, POINTER(Pair), c_size_t, POINTER(c_uint8), c_size_t, POINTER(c_size_t)],
     "minorder_levels_with_lengths": [*TABLES, *ORDER, *LEVELS],
     "minorder_sift_with_lengths": [*TABLES, *ORDER, *LEVELS, *TOTAL],
-    "minorder_check": [*TABLES, POINTER(c_uint8), c_size_t, POINTER(Judged)],
+    "minorder_exact_many_with_lengths": [*TABLES, *ORDER, *LEVELS, *LEVELS],
+    "minorder_check_total_with_pairs": [
+        *TABLES, POINTER(c_uint8), c_size_t, POINTER(Judged), *TOTAL, POINTER(Pair), c_size_t, POINTER(c_size_t)],
 }
 
 _lock = Lock()
@@ -67,7 +69,9 @@ def _load() -> CDLL:
             why = why or str(error)
         except AttributeError as error:
             raise NoLibrary(f"{path} is no {NAME} that this package can call: {error}") from error
-    raise NoLibrary(f"{why}; install minorder, or set MINORDER_LIBRARY to the file {NAME}")
+    raise NoLibrary(
+        f"the C library that this package calls isn't found: {why}; minorder's Debian package libminorder1 has {NAME}, as has "
+        f"its release in lib/, and `./install.sh` of its repository installs it; MINORDER_LIBRARY may name the file")
 
 
 def library() -> CDLL:

@@ -115,7 +115,7 @@ def from_values(values: Iterable[object]) -> TruthTable:
     """
     if isinstance(values, (str, bytes, bytearray, set, frozenset, Mapping)) or not hasattr(values, "__iter__"):
         raise BadArgument(f"values: {shown(values)} is no sequence of values")
-    listed = [_native(value) for value in _native(values)]  # type: ignore[attr-defined]
+    listed = [native(value) for value in native(values)]  # type: ignore[attr-defined]
     for point, value in enumerate(listed):
         if not _is_value(value):
             raise BadShape(f"values: {shown(value)} at the point {point}: a value is 0 or 1, or a bool")
@@ -138,7 +138,7 @@ def variables(inputs: int) -> Tuple[TruthTable, ...]:
     return tuple(TruthTable(ones // ((1 << (1 << i)) + 1) << (1 << i), inputs) for i in range(inputs))
 
 
-def _native(it: object) -> object:
+def native(it: object) -> object:
     """What an array or an item of one is without its package."""
     return it.tolist() if hasattr(it, "tolist") else it
 
@@ -171,7 +171,8 @@ def _values_of(function: Callable[..., object], inputs: int) -> int:
     for number, point in enumerate(product((False, True), repeat=inputs)):
         value = function(*reversed(point))
         if value is not True and value is not False and not _is_value(value):
-            raise BadShape(f"tables: the function gives {shown(value)} at the point {number}: a value is 0 or 1, or a bool{_hint(value)}")
+            raise BadShape(
+                f"tables: the function gives {shown(value)} at the point {number}: a value is 0 or 1, or a bool{_hint(value)}")
         digits.append("1" if value else "0")
     return int("".join(reversed(digits)), 2)
 
@@ -188,7 +189,7 @@ def _number_of(table: Table, inputs: int) -> int:
         number = int.from_bytes(data, "little")
     elif callable(table):
         return _values_of(table, inputs)
-    elif isinstance(_native(table), bool) or not hasattr(table, "__index__"):
+    elif isinstance(native(table), bool) or not hasattr(table, "__index__"):
         raise BadArgument(f"tables: {shown(table)} is no table: {SEVERAL}")
     else:
         number = whole(table, "tables")
@@ -199,7 +200,7 @@ def _number_of(table: Table, inputs: int) -> int:
 
 def _is_value(it: object) -> bool:
     """Whether an entry may be meant as one value of a table."""
-    value = _native(it)
+    value = native(it)
     return isinstance(value, int) and not isinstance(value, TruthTable) and value in (0, 1)
 
 

@@ -70,9 +70,10 @@ class Pla(unittest.TestCase):
         head, terms = ".i 3\n.o 2\n", "".join(f"0-1 1~ \n\n\t1{i % 2}|0|01\r\n" for i in range(10_000))
         tables, _, _ = files.pla_of((head + terms).encode())
         self.assertEqual(tables, (0b1010000, 0b1010))
-        for fault, kind in (("0-1 1\n", "ShortTerm"), ("0-1 111\n", "LongTerm"), ("0x1 11\n", "BadInputChar"), ("0-1 1-\n", "DontCare"), ("|\n", "ShortTerm")):
+        faults = {"0-1 1": "ShortTerm", "0-1 111": "LongTerm", "0x1 11": "BadInputChar", "0-1 1-": "DontCare", "|": "ShortTerm"}
+        for fault, kind in faults.items():
             with self.assertRaises(minorder.BadPla) as caught:
-                files.pla_of((head + terms + fault + terms).encode())
+                files.pla_of((head + terms + fault + "\n" + terms).encode())
             self.assertEqual((caught.exception.line, caught.exception.kind), (30_003, kind))
         cover = files.cover_of((head + "# a comment\n" + terms).encode())
         self.assertEqual([*cover.terms][-1], files.Term(30_003, b"11001"))

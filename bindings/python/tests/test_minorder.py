@@ -146,10 +146,14 @@ class WorkedCases(Folder):
             text = file.read()
         good = minorder.check(multiplexer, text)
         self.assertTrue(good)
-        self.assertEqual(good, ("Valid", 0, 0))
+        self.assertEqual(good, ("Valid", 0, 0, 3, ()))
         self.assertEqual(minorder.check(multiplexer, text.encode(), inputs=3), good)
         self.assertEqual(minorder.certify(multiplexer, 3), text)
         self.assertIn("pairs 1\n0 2\n", minorder.certify(multiplexer, 3, above=[(0, 2)]))
+        under = minorder.check(multiplexer, minorder.certify(multiplexer, 3, above=[(1, 2), (0, 1)]))
+        self.assertTrue(under)
+        self.assertEqual((under.total, under.pairs), (5, ((0, 1), (1, 2))))
+        self.assertNotEqual(under, good)
         bad = minorder.check(multiplexer, text.replace("total 3", "total 2"))
         self.assertFalse(bad)
         self.assertEqual(bad.reason, "Total")
@@ -243,9 +247,9 @@ class Refusals(unittest.TestCase):
         refusals = ((2, minorder.BadShape), (5, minorder.BadOrder), (8, minorder.BadPairs), *others)
         for status, error in refusals:
             with self.assertRaises(error):
-                _calls._done(status)
+                _calls.done(status)
         with self.assertRaises(MemoryError):
-            _calls._done(4)
+            _calls.done(4)
 
     def test_types(self):
         for tables, inputs in ((1.5, 3), (1, "3"), (1, 3.0), (1, True)):

@@ -1,0 +1,109 @@
+"""Work on threads that the interpreter needn't wait for, and by executors of other packages."""
+import os
+from collections import deque
+from concurrent.futures import BrokenExecutor, CancelledError, Executor, Future
+from queue import SimpleQueue
+from threading import Thread, current_thread, main_thread
+from typing import Any, Callable, Deque, Iterable, Iterator, Optional, Tuple, TypeVar
+
+from ._errors import BadShape
+from ._tables import whole
+
+T = TypeVar("T")
+# calls with so many inputs may take longer than a few milliseconds
+LASTING = 12
+# how many tasks an executor is given before the first one's outcome is waited for
+AHEAD = 256
+
+
+def aside(inputs: int, call: Callable[..., T], *arguments: object) -> T:
+    """What a call gives. If it may last, Ctrl-C leaves it: the main thread waits for another one that makes it."""
+    if inputs < LASTING or current_thread() is not main_thread():
+        return call(*arguments)
+    try:
+        one = Threads(1)
+    except RuntimeError:
+        # there is no room for a thread
+        return call(*arguments)
+    try:
+        return one.submit(call, *arguments).result()
+    finally:
+        one.shutdown()
+
+
+class Threads(Executor):
+    """Threads that end with the interpreter, also in the midst of a call, and so let it end."""
+
+    def __init__(self, workers: int) -> None:
+        self._workers = workers
+        self._tasks: "SimpleQueue[Optional[Tuple[Future[Any], Callable[[], Any]]]]" = SimpleQueue()
+        for _ in range(workers):
+            Thread(target=self._work, daemon=True).start()
+
+    def _work(self) -> None:
+        while (task := self._tasks.get()) is not None:
+            future, call = task
+            if future.set_running_or_notify_cancel():
+                try:
+                    future.set_result(call())
+                except BaseException as error:
+                    future.set_exception(error)
+
+    def submit(self, fn: Callable[..., T], /, *args: Any, **kwargs: Any) -> "Future[T]":
+        future: "Future[T]" = Future()
+        self._tasks.put((future, lambda: fn(*args, **kwargs)))
+        return future
+
+    def shutdown(self, wait: bool = False, *, cancel_futures: bool = False) -> None:
+        """Lets each thread end behind what it was given."""
+        for _ in range(self._workers):
+            self._tasks.put(None)
+
+
+def workers_of(workers: Optional[int]) -> int:
+    """A number of threads, as many as there are processors if it is left out."""
+    if workers is None:
+        return len(os.sched_getaffinity(0))
+    number = whole(workers, "workers")
+    if number < 1:
+        raise BadShape(f"workers: {number}: there is one at least")
+    return number
+
+
+def in_order(
+        work: Callable[[bytes], bytes], tasks: Iterable[bytes], workers: Optional[int], executor: Optional[Executor],
+) -> Iterator[bytes]:
+    """What the work gives for each task, in the tasks' order. The executor takes the place of threads. A task that it
+    loses, as one that ends with a worker does, is done here."""
+    count = workers_of(workers)
+    pool = Threads(count) if executor is None else executor
+    ahead = 4 * count if executor is None else AHEAD
+    waiting: Deque[Tuple[bytes, "Future[bytes]"]] = deque()
+    try:
+        for task in tasks:
+            waiting.append((task, _submitted(pool, work, task)))
+            if len(waiting) > ahead:
+                yield _outcome(work, *waiting.popleft())
+        while waiting:
+            yield _outcome(work, *waiting.popleft())
+    finally:
+        for _, future in waiting:
+            future.cancel()
+        if executor is None:
+            pool.shutdown(wait=False)
+
+
+def _submitted(pool: Executor, work: Callable[[bytes], bytes], task: bytes) -> "Future[bytes]":
+    try:
+        return pool.submit(work, task)
+    except BrokenExecutor as error:
+        lost: "Future[bytes]" = Future()
+        lost.set_exception(error)
+        return lost
+
+
+def _outcome(work: Callable[[bytes], bytes], task: bytes, future: "Future[bytes]") -> bytes:
+    try:
+        return future.result()
+    except (BrokenExecutor, CancelledError):
+        return aside(LASTING, work, task)
