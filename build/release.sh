@@ -51,7 +51,7 @@ packages() {
     fi
     local packages
     mapfile -t packages < <(SOURCE_DATE_EPOCH=$seconds "$top/build/debian.sh" "$made/$name" "$made")
-    ((${#packages[@]} == 3)) || fail "the Debian packages can't be made"
+    ((${#packages[@]} == 4)) || fail "the Debian packages can't be made"
     files+=("${packages[@]}")
 }
 

@@ -31,7 +31,7 @@ programs() {
 # The C program that USING.md shows, with the shared library and with the archive.
 c_example() {
     if ! has pkg-config || ! has "${CC:-cc}"; then return; fi
-    sed -n '/^```c$/,/^```$/{/^```/d;p}' "$tree/share/doc/minorder/docs/USING.md" > "$made/example.c"
+    sed -n '/^```c$/,/^```$/{/^```$/q;/^```c/d;p}' "$tree/share/doc/minorder/docs/USING.md" > "$made/example.c"
     local flags
     read -ra flags < <(PKG_CONFIG_PATH=$libraries/pkgconfig pkg-config --cflags --libs minorder)
     "${CC:-cc}" "$made/example.c" "${flags[@]}" -o "$made/example"
@@ -44,7 +44,7 @@ c_example() {
 python() {
     has python3 || return 0
     local script='import minorder; print(minorder.exact(lambda a, b, s: b if s else a, 3))'
-    [ "$(PYTHONDONTWRITEBYTECODE=1 PYTHONPATH=$tree/share/minorder/python MINORDER_LIBRARY=$libraries/libminorder.so.1 python3 -c "$script")" = \
+    [ "$(PYTHONDONTWRITEBYTECODE=1 PYTHONPATH=$modules MINORDER_LIBRARY=$libraries/libminorder.so.1 python3 -c "$script")" = \
         "Result(order=(2, 0, 1), levels=(1, 1, 1), total=3)" ] || fail "Python prints something else"
     local file
     for file in "$tree"/share/doc/minorder/examples/*.cert; do
@@ -53,6 +53,7 @@ python() {
         "$tree/share/minorder/draw.py" "${file%.cert}.pla" < "${file%.cert}.report" > "$made/dot" || fail "$file: it isn't drawn"
     done
     echo "the shared library from Python, check.py and draw.py: as they are to be"
+    batch
 }
 
 # A method of one's own on a family, by the commands on the path.
@@ -69,9 +70,31 @@ own_method() {
     echo "minorder-functions, minorder-score and optima.html: sifting's orders have the league's row"
 }
 
-# try_tree TREE FOLDER: a tree, and its folder of libraries
+# minorder-batch on the examples and on files that are refused, beside the reports
+batch() {
+    local examples=$tree/share/doc/minorder/examples
+    printf '.i 2\n.o 1\n11 -\n' > "$made/a refused.pla"
+    python3 -c '
+import json, sys
+for line in sys.stdin:
+    said = json.loads(line)
+    if said["status"] == 0:
+        with open(said["file"][:-3] + "report") as file:
+            report = dict(line.split(": ", 1) for line in file.read().splitlines())
+        for name, words in report.items():
+            value = said[name.replace(" ", "_")]
+            assert words == (" ".join(map(str, value)) if isinstance(value, list) else str(value)), (said, name)
+    print(said["file"].split("/")[-1], said.get("fault", ""), file=sys.stderr)
+' < <(MINORDER_LIBRARY=$libraries/libminorder.so.1 PYTHONDONTWRITEBYTECODE=1 PYTHONPATH=$modules "$tree/bin/minorder-batch" \
+        "$examples" "$made/a refused.pla" none.pla) 2> "$made/batch" || fail "minorder-batch reports something else"
+    [ "$(tail -2 "$made/batch")" = "a refused.pla line 3: DontCare"$'\n'"none.pla Device" ] || fail "minorder-batch has other faults"
+    [ "$(wc -l < "$made/batch")" = $(($(find "$examples/" -name '*.pla' | wc -l) + 2)) ] || fail "minorder-batch leaves files out"
+    echo "minorder-batch: the reports of the examples, and the faults of others"
+}
+
+# try_tree TREE FOLDER FOLDER: a tree, its folder of libraries and that of Python's modules
 try_tree() {
-    tree=$1 libraries=$1/$2
+    tree=$1 libraries=$1/$2 modules=$1/$3
     programs
     c_example
     python
@@ -108,14 +131,14 @@ tar -xzf "$top/out/minorder-$version-linux-x86_64.tar.gz"
 tree=$made/minorder-$version-linux-x86_64
 (cd "$tree" && sha256sum --quiet -c SHA256SUMS)
 cat "$tree/share/doc/minorder/PROVED_WITH"
-try_tree "$tree" lib
+try_tree "$tree" lib share/minorder/python
 certificates
-packages=("$top"/out/{minorder,libminorder1,libminorder-dev}_"$version"_amd64.deb)
+packages=("$top"/out/{minorder,libminorder1,libminorder-dev}_"$version"_amd64.deb "$top/out/python3-minorder_${version}_all.deb")
 if [ -e "${packages[0]}" ] && has dpkg-deb; then
     for package in "${packages[@]}"; do
         dpkg-deb -f "$package" Package Version Depends
         dpkg-deb -x "$package" deb
     done
-    try_tree "$made/deb/usr" lib/x86_64-linux-gnu
+    try_tree "$made/deb/usr" lib/x86_64-linux-gnu lib/python3/dist-packages
     lint "${packages[@]}"
 fi
