@@ -15,7 +15,8 @@ from typing import NoReturn, Optional, Sequence
 from ._calls import levels
 from ._errors import BadPla, NoLibrary
 from ._orders import fault_of, numbered, orders_of
-from .files import Pla, read_pla
+from ._tables import Pla
+from .files import read_pla
 
 NAME = "minorder-levels"
 
