@@ -155,6 +155,11 @@ class Views(Opened):
             shown = len(self.all("#levels rect")) / row.inputs
             self.assertEqual(shown, 3 if row.file_order_nodes <= 4 * row.sifted_nodes else 2)
 
+    def test_a_link_to_nothing_shows_the_tables(self):
+        for link in ("#hwb99", "#%", "#families"):
+            self.open(link)
+            self.assertTrue(self.one("#overview").is_displayed())
+
     def test_one_walks_from_view_to_view_and_back(self):
         self.one("#functions-table tbody a[href='#hwb5']").click()
         self.until(lambda: self.texts("#function h2") == ["hwb5"])
@@ -206,6 +211,14 @@ class Results(Opened):
         self.until(lambda: "over 2 of" in self.one("#said").text)
         self.assertEqual(self.texts("#league-table tr.yours td:nth-child(2)"), ["1.000"])
         self.assertIn("random orders: mean ratio 1.023", self.one("#said").text)
+
+    def test_a_file_is_dropped(self):
+        self.driver.execute_script("""
+            const carried = new DataTransfer();
+            carried.items.add(new File(["hwb8,55\\nlife,26\\n"], "dropped.csv"));
+            dispatchEvent(new DragEvent("drop", {dataTransfer: carried, bubbles: true, cancelable: true}));""")
+        self.until(lambda: self.one("#said").text)
+        self.assertIn("dropped, from the file's order: mean ratio 1.118 over 2 of", self.one("#said").text)
 
     def test_what_is_refused(self):
         said = self.give("bad.csv", "name,nodes\nhwb8,43\nhwx8,44\nhwb8,\nhwb8,4x\nparity8,17\n")

@@ -148,8 +148,17 @@ function show(it) {
   return title;
 }
 
+/** What the address names; an address that can't be read names nothing. */
+function linked() {
+  try {
+    return decodeURIComponent(location.hash.slice(1));
+  } catch {
+    return "";
+  }
+}
+
 function route() {
-  const name = decodeURIComponent(location.hash.slice(1)), it = byName.get(name);
+  const name = linked(), it = byName.get(name);
   const was = !view.hidden;
   if (it && !was) left = scrollY;
   view.hidden = !it;

@@ -101,9 +101,13 @@ function take(name, text) {
 
 const takeFile = async (file) => { if (file) take(file.name, await file.text()); };
 
-document.getElementById("file").addEventListener("change", (event) => takeFile(event.target.files[0]));
+const chooser = document.getElementById("file");
+// so that the same file may be chosen again
+chooser.addEventListener("click", () => { chooser.value = ""; });
+chooser.addEventListener("change", () => takeFile(chooser.files[0]));
 for (const kind of ["dragover", "dragleave", "drop"])
   addEventListener(kind, (event) => {
+    if (!event.dataTransfer.types.includes("Files")) return;
     event.preventDefault();
     drop.classList.toggle("over", kind === "dragover");
     if (kind === "drop") takeFile(event.dataTransfer.files[0]);

@@ -10,10 +10,11 @@ import os
 import sys
 import tempfile
 import unittest
+import unittest.mock
 
 sys.path.insert(0, os.path.dirname(os.path.dirname(os.path.abspath(__file__))))
 
-from minorder import _results, benchmarks, score  # noqa: E402
+from minorder import _picture, _results, benchmarks, score  # noqa: E402
 from minorder._results import BadResults, Run, read_results  # noqa: E402
 
 OPTIMA = benchmarks.optima()
@@ -116,6 +117,16 @@ class Scores(unittest.TestCase):
         status, out, errors = scored("name,nodes\nhwb8,late\n")
         self.assertEqual((status, errors), (0, ""))
         self.assertIn(f"functions: 0 of {len(OPTIMA)}", out)
+
+    def test_a_picture_where_matplotlib_is_there(self):
+        with tempfile.TemporaryDirectory() as folder:
+            path = f"{folder}/it.svg"
+            status, out, errors = scored("name,nodes,start\nhwb8,55,file\nhwb8,44,3\n", "--picture", path)
+            self.assertEqual((status, errors == "", os.path.exists(path)), (0, _picture.is_there(), _picture.is_there()))
+            with unittest.mock.patch.object(_picture, "is_there", lambda: False):
+                status, same, errors = scored("name,nodes,start\nhwb8,55,file\nhwb8,44,3\n", "--picture", path)
+            self.assertEqual((status, same), (0, out))
+            self.assertEqual(errors, "minorder-score: no picture: matplotlib isn't here (Debian's python3-matplotlib)\n")
 
     def test_statuses(self):
         self.assertEqual(scored("name,nodes\nhwb8,43\n")[0], 3)
