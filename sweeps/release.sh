@@ -63,10 +63,10 @@ own_method() {
     "$tree/bin/minorder-functions" "$made/own" "hidden weighted bit" > /dev/null
     for name in "$made"/own/*.pla; do run minorder "$name" | sed -n "s/^sifted order: /$(basename "$name" .pla),/p"; done > "$made/orders"
     score=$(sed '1s/^/name,order\n/' "$made/orders" | MINORDER_LIBRARY=$libraries/libminorder.so.1 "$tree/bin/minorder-score" -)
-    [ "$(grep '^> results ' <<< "$score" | tr -s ' ' | cut -d ' ' -f 3-8)" = "$(grep '^minorder sifting ' <<< "$score" | tr -s ' ' | cut -d ' ' -f 3-8)" ] ||
-        fail "sifting's orders have another score than the league's row"
-    [ "$(grep -c '^<tr data-name=' "$tree/share/doc/minorder/docs/optima.html")" = "$(($(wc -l < "$tree/share/minorder/optima/optima.csv") - 1))" ] ||
-        fail "optima.html has other functions than the table"
+    row() { grep "^$1 " <<< "$score" | tr -s ' ' | cut -d ' ' -f 3-8; }
+    [ "$(row '> results')" = "$(row 'minorder sifting')" ] || fail "sifting's orders have another score than the league's row"
+    local rows=$(($(wc -l < "$tree/share/minorder/optima/optima.csv") - 1))
+    [ "$(grep -c '^<tr data-name=' "$tree/share/doc/minorder/docs/optima.html")" = "$rows" ] || fail "optima.html has other functions than the table"
     echo "minorder-functions, minorder-score and optima.html: sifting's orders have the league's row"
 }
 

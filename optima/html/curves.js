@@ -29,7 +29,8 @@ function chart(id, x, y, said, ticks, format) {
     .call(axisOf(y, "left").tickValues(ticks).tickSize(left + right - width, 0).tickFormat(""));
   const below = axisOf(x, "bottom").ticks(Math.round(width / 70)).tickFormat(format || null);
   svg.append("g").attr("class", "axis").attr("transform", `translate(0,${height - bottom})`).call(below);
-  svg.append("g").attr("class", "axis").attr("transform", `translate(${left},0)`).call(axisOf(y, "left").tickValues(ticks).tickFormat(String));
+  const beside = axisOf(y, "left").tickValues(ticks).tickFormat(String);
+  svg.append("g").attr("class", "axis").attr("transform", `translate(${left},0)`).call(beside);
   return svg;
 }
 
@@ -43,7 +44,8 @@ function switches(id, lines, draw) {
     const swatch = document.createElementNS("http://www.w3.org/2000/svg", "svg");
     swatch.setAttribute("class", "swatch");
     swatch.setAttribute("aria-hidden", "true");
-    d3.select(swatch).append("line").attr({x1: 0, x2: 22, y1: 4, y2: 4, stroke: line.colour, "stroke-width": line.yours ? 4 : 2.4, "stroke-dasharray": line.dash});
+    d3.select(swatch).append("line").attr({x1: 0, x2: 22, y1: 4, y2: 4})
+      .attr({stroke: line.colour, "stroke-width": line.yours ? 4 : 2.4, "stroke-dasharray": line.dash});
     const label = element("label", {}, input, swatch, line.label);
     for (const [event, near] of [["mouseenter", true], ["mouseleave", false], ["focusin", true], ["focusout", false]])
       label.addEventListener(event, () => d3.selectAll(".curve").filter((it) => it === line).classed("near", near));
@@ -84,7 +86,8 @@ function drawLeague() {
   addPaths(svg, league.lines, (line) => {
     const {ratios, whole, met} = found.get(line);
     if (!whole) return "";
-    const shares = ratios.map((ratio, i) => ratio > 1 && ratio <= 2 ? `H${x(ratio).toFixed(1)}V${y(100 * (i + 1) / whole).toFixed(1)}` : "");
+    const step = (ratio, i) => `H${x(ratio).toFixed(1)}V${y(100 * (i + 1) / whole).toFixed(1)}`;
+    const shares = ratios.map((ratio, i) => ratio > 1 && ratio <= 2 ? step(ratio, i) : "");
     return `M${x(1)},${y(100 * met / whole).toFixed(1)}${shares.join("")}H${x(2)}`;
   });
 }
@@ -115,7 +118,8 @@ function growthLines() {
 
 function drawGrowth(lines) {
   const x = d3.scale.linear().domain([2.5, 16.5]), y = d3.scale.log().domain([2, 10000]);
-  const svg = chart("growth-chart", x, y, ["inputs", "fewest nodes"], [2, 5, 10, 20, 50, 100, 200, 500, 1000, 2000, 5000, 10000], d3.format("d"));
+  const ticks = [2, 5, 10, 20, 50, 100, 200, 500, 1000, 2000, 5000, 10000];
+  const svg = chart("growth-chart", x, y, ["inputs", "fewest nodes"], ticks, d3.format("d"));
   const path = d3.svg.line().x((point) => x(point[0])).y((point) => y(point[1]));
   addPaths(svg, lines, (line) => path(line.points));
   for (const line of lines.filter((it) => it.on)) {

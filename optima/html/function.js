@@ -10,7 +10,8 @@ const head = (text) => element("h3", {}, text);
 function facts(it) {
   const list = element("dl", {class: "facts"});
   const rows = [
-    ["Family", it.family], ["What", it.what], ["Field's names", it.aliases.join(", ")], ["Inputs", `${it.inputs.length}: ${it.inputs.join(" ")}`],
+    ["Family", it.family], ["What", it.what], ["Field's names", it.aliases.join(", ")],
+    ["Inputs", `${it.inputs.length}: ${it.inputs.join(" ")}`],
     ["Outputs", String(it.outputs)], ["Fewest nodes", String(it.optimum)], ["First optimal order", it.order.join(" ")],
     ["by names", namesOf(it, it.order)], ["Sifted order", it.siftedOrder.join(" ")],
   ];
@@ -29,10 +30,11 @@ function sizeRow(it, method, longest) {
   const late = sizes && sizes[MEDIAN] === null ? (sizes[LATE] ? "late" : "no order") : "";
   const bar = element("span", {class: "bar", style: `width: ${ratio === null ? 0 : 100 * ratio / longest}%`});
   const median = random && random[MEDIAN] !== null ? random[MEDIAN] : null;
+  const medianRatio = median === null ? "" : ratioOf(median, it.name).toFixed(3);
   row.append(
     element("td", {}, labelOf(method)), element("td", {}, ratio === null ? late : String(sizes[MEDIAN])),
     element("td", {}, ratio === null ? "" : ratio.toFixed(3)), element("td", {class: "drawn"}, bar),
-    element("td", {}, median === null ? "" : String(median)), element("td", {}, median === null ? "" : ratioOf(median, it.name).toFixed(3)));
+    element("td", {}, median === null ? "" : String(median)), element("td", {}, medianRatio));
   return row;
 }
 
@@ -44,7 +46,8 @@ function sizeTable(it) {
   const body = element("tbody", {}, ...methods.map((method) => sizeRow(it, method, longest)));
   const table = element("table", {class: "data"}, element("thead", {}, element("tr", {}, ...heads)), body);
   const said = `Under the file's order: ${it.fileOrder} nodes, ${ratioOf(it.fileOrder, it.name).toFixed(3)} times the fewest.`;
-  return element("div", {}, head("What the methods make of it"), element("p", {}, said), element("div", {class: "scroll", tabindex: 0}, table));
+  const scrolled = element("div", {class: "scroll", tabindex: 0}, table);
+  return element("div", {}, head("What the methods make of it"), element("p", {}, said), scrolled);
 }
 
 // ---- level counts
@@ -56,11 +59,13 @@ function drawLevels(it, on) {
   x.rangeRoundBands([left, widthOf("levels") - right], 0.25);
   y.range([height - bottom, top]);
   svg.append("g").attr("class", "axis").attr("transform", `translate(0,${height - bottom})`).call(axisOf(x, "bottom"));
-  svg.append("g").attr("class", "axis").attr("transform", `translate(${left},0)`).call(axisOf(y, "left").ticks(6).tickFormat(d3.format("d")));
+  const beside = axisOf(y, "left").ticks(6).tickFormat(d3.format("d"));
+  svg.append("g").attr("class", "axis").attr("transform", `translate(${left},0)`).call(beside);
   const shown = d3.range(LEVELS.length).filter((i) => on[i]), wide = x.rangeBand() / Math.max(1, shown.length);
   shown.forEach((i, place) => {
     const bars = svg.selectAll(null).data(it.levels[i]).enter().append("rect").style("fill", LEVELS[i][1]);
-    bars.attr("x", (_, level) => x(level + 1) + place * wide).attr("y", y).attr("width", Math.max(1, wide - 1)).attr("height", (count) => y(0) - y(count));
+    bars.attr("x", (_, level) => x(level + 1) + place * wide).attr("width", Math.max(1, wide - 1));
+    bars.attr("y", y).attr("height", (count) => y(0) - y(count));
     bars.append("title").text((count, level) => `level ${level + 1}, ${LEVELS[i][0]}: ${count} nodes`);
   });
 }
@@ -73,8 +78,8 @@ function levelChart(it, on) {
     const total = d3.sum(it.levels[i]);
     return element("label", {}, input, element("span", {class: "swatch", style: `background: ${colour}`}), `${said}, ${total} nodes`);
   });
-  const legend = element("legend", {}, "Orders");
-  return element("div", {}, head("Nodes on each level"), element("div", {class: "chart", id: "levels"}), element("fieldset", {class: "switches"}, legend, ...boxes));
+  const orders = element("fieldset", {class: "switches"}, element("legend", {}, "Orders"), ...boxes);
+  return element("div", {}, head("Nodes on each level"), element("div", {class: "chart", id: "levels"}), orders);
 }
 
 // ---- the diagram
@@ -83,7 +88,8 @@ function diagram(it) {
   if (!it.diagram) return null;
   const {size: [width, height], marks, paths} = it.diagram;
   const made = document.createElementNS("http://www.w3.org/2000/svg", "svg"), svg = d3.select(made);
-  svg.attr({viewBox: `-4 -4 ${width + 8} ${height + 8}`, width: width + 8, height: height + 8, role: "img", "aria-label": `The diagram of ${it.name}`});
+  svg.attr({viewBox: `-4 -4 ${width + 8} ${height + 8}`, width: width + 8, height: height + 8});
+  svg.attr({role: "img", "aria-label": `The diagram of ${it.name}`});
   svg.append("path").attr("d", paths["1"]);
   svg.append("path").attr("class", "zero").attr("d", paths["0"]);
   svg.append("path").attr("d", paths.f);
@@ -124,7 +130,8 @@ function again(it) {
 
 function citation(it) {
   const lines = [
-    `@misc{minorder-${it.name},`, "  author = {{The minorder developers}},", `  title  = {True optima, ${it.name}: ${it.optimum} decision nodes},`,
+    `@misc{minorder-${it.name},`, "  author = {{The minorder developers}},",
+    `  title  = {True optima, ${it.name}: ${it.optimum} decision nodes},`,
     `  note   = {minorder ${page.version}. SHA-256 of the PLA file: ${it.sums[0]}; of the certificate: ${it.sums[1]}},`, "}",
   ];
   return copied("BibTeX", lines.join("\n"));

@@ -75,7 +75,8 @@ function wordsOf(method) {
     const better = page.methods.filter((it) => it !== method && !it.yours && labelOf(it) !== "CUDD LINEAR")
       .filter((it) => standing(it, start, new Set(Object.keys(method[start]))).mean < found.mean).length;
     return `${labelOf(method)}, from ${from}: mean ratio ${found.mean.toFixed(3)} over ${found.ended} of ${wholeOf(start)} functions, `
-      + `worst ${found.worst.ratio.toFixed(2)} (${found.worst.name}), optimum met in ${found.met}; ${better} methods of the league are better on these.`;
+      + `worst ${found.worst.ratio.toFixed(2)} (${found.worst.name}), optimum met in ${found.met}; `
+      + `${better} methods of the league are better on these.`;
   }).filter(Boolean).join("\n");
 }
 

@@ -84,7 +84,8 @@ function leagueRow(method) {
   const file = standing(method, "file"), random = standing(method, "randomStarts");
   const empty = () => cellOf("", 1e9);
   const fromFile = file.ended
-    ? [cellOf(file.mean.toFixed(3)), worstCell(file.worst), cellOf(`${file.met} of ${file.ended}`, file.met / file.ended), cellOf(file.late || "", file.late)]
+    ? [cellOf(file.mean.toFixed(3)), worstCell(file.worst), cellOf(`${file.met} of ${file.ended}`, file.met / file.ended),
+      cellOf(file.late || "", file.late)]
     : [empty(), empty(), empty(), empty()];
   const share = 100 * random.runsMet / random.runs;
   const fromRandom = random.ended
