@@ -1,7 +1,8 @@
 """Work on threads that the interpreter needn't wait for, and by executors of other packages."""
 import os
+import warnings
 from collections import deque
-from concurrent.futures import BrokenExecutor, CancelledError, Executor, Future
+from concurrent.futures import BrokenExecutor, Executor, Future
 from queue import SimpleQueue
 from threading import Thread, current_thread, main_thread
 from typing import Any, Callable, Deque, Iterable, Iterator, Optional, Tuple, TypeVar
@@ -73,19 +74,23 @@ def workers_of(workers: Optional[int]) -> int:
 def in_order(
         work: Callable[[bytes], bytes], tasks: Iterable[bytes], workers: Optional[int], executor: Optional[Executor],
 ) -> Iterator[bytes]:
-    """What the work gives for each task, in the tasks' order. The executor takes the place of threads. A task that it
-    loses, as one that ends with a worker does, is done here."""
+    """What the work gives for each task, in the tasks' order. The executor takes the place of threads. A task that fails
+    with it, as one does whose worker dies, is done here, with a warning."""
     count = workers_of(workers)
     pool = Threads(count) if executor is None else executor
     ahead = 4 * count if executor is None else AHEAD
     waiting: Deque[Tuple[bytes, "Future[bytes]"]] = deque()
+
+    def outcome(task: bytes, future: "Future[bytes]") -> bytes:
+        return future.result() if executor is None else _outcome(work, task, future)
+
     try:
         for task in tasks:
             waiting.append((task, _submitted(pool, work, task)))
             if len(waiting) > ahead:
-                yield _outcome(work, *waiting.popleft())
+                yield outcome(*waiting.popleft())
         while waiting:
-            yield _outcome(work, *waiting.popleft())
+            yield outcome(*waiting.popleft())
     finally:
         for _, future in waiting:
             future.cancel()
@@ -103,7 +108,9 @@ def _submitted(pool: Executor, work: Callable[[bytes], bytes], task: bytes) -> "
 
 
 def _outcome(work: Callable[[bytes], bytes], task: bytes, future: "Future[bytes]") -> bytes:
+    """What an executor gives for a task, else what the work gives here."""
     try:
         return future.result()
-    except (BrokenExecutor, CancelledError):
-        return aside(LASTING, work, task)
+    except Exception as error:
+        warnings.warn(f"a chunk is done here, since the executor failed with {error!r}", RuntimeWarning, stacklevel=2)
+    return aside(LASTING, work, task)

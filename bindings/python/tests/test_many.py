@@ -96,7 +96,8 @@ class Functions(unittest.TestCase):
     def test_executors(self):
         inputs, _, functions = self.cases[3]
         wanted = [minorder.exact(it, inputs) for it in functions]
-        self.assertEqual(minorder.exact_many(functions, inputs, executor=Dying()), wanted)
+        with self.assertWarnsRegex(RuntimeWarning, "the worker died"):
+            self.assertEqual(minorder.exact_many(functions, inputs, executor=Dying()), wanted)
         with concurrent.futures.ProcessPoolExecutor(2) as pool:
             self.assertEqual(minorder.exact_many(functions, inputs, executor=pool), wanted)
             # a process that dies breaks the pool
