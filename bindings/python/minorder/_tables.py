@@ -113,9 +113,11 @@ def from_values(values: Iterable[object]) -> TruthTable:
         >>> minorder.from_values([0, 1, 1, 0, 1, 0, 0, 1])
         TruthTable(0x96, inputs=3)
     """
-    if isinstance(values, (str, bytes, bytearray, set, frozenset, Mapping)) or not hasattr(values, "__iter__"):
+    # a memoryview has no __iter__ in Python 3.9, and its list has one
+    plain = native(values)
+    if isinstance(values, (str, bytes, bytearray, set, frozenset, Mapping)) or not hasattr(plain, "__iter__"):
         raise BadArgument(f"values: {shown(values)} is no sequence of values")
-    listed = [native(value) for value in native(values)]  # type: ignore[attr-defined]
+    listed = [native(value) for value in plain]
     for point, value in enumerate(listed):
         if not _is_value(value):
             raise BadShape(f"values: {shown(value)} at the point {point}: a value is 0 or 1, or a bool")
