@@ -6,8 +6,8 @@ ghost use Rattle.class_laws.specs.PairTables.{IsPairTable};
 ghost use Rattle.class_laws.specs.Places as places;
 ghost use Rattle.cert_check.specs.LowerClasses.{AreTold, pairs_with};
 
-use pair_chains::pair_at;
 use order_model::VarIx;
+use pair_chains::pair_at;
 use point_classes::{count_with, join_mask};
 use std::alloc::{AllocError, Global};
 

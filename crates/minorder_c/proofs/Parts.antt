@@ -6,7 +6,7 @@ use Rattle.std.proofs.lemmas.List.{length-drop, length-append, drop-append-le, t
 use Rattle.std.proofs.lemmas.Nat.{row_fits}
 use Rattle.order_model.specs.Functions.{Function}
 use Rattle.order_model.specs.Problems.{words_of, words_per_table}
-use Rattle.order_solve.specs.Solutions.{IsFirstFewest}
+use Rattle.solutions.specs.Solutions.{IsFirstFewest}
 use Rattle.minorder_c.specs.Answers.{functions_in}
 use Rattle.minorder_c.specs.Many.{AreFirstFewest}
 

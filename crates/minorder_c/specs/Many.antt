@@ -3,7 +3,7 @@
 --     AreFirstFewest n m words many orders levels totals      of each problem the first order of the fewest nodes, its level counts and its size
 use Rattle.std.specs.Prelude.{◌≡◌, ℕ, ◌*◌, ◌<◌, ◌≤◌, List, [], length, slice_index}
 use Rattle.order_model.specs.Problems.{words_of, words_per_table}
-use Rattle.order_solve.specs.Solutions.{IsFirstFewest}
+use Rattle.solutions.specs.Solutions.{IsFirstFewest}
 use Rattle.minorder_c.specs.Answers.{functions_in}
 
 -- truth tables of so many problems, one behind the other, each of 1 to 16 functions of 1 to 16 variables; for each problem a place in

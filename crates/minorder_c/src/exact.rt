@@ -13,8 +13,9 @@ use crate::arguments::tables_of;
 use crate::sifting_from::bound_of;
 use crate::status::Refusal;
 use order_model::Pairs;
-use order_solve::{Optimum, find_optimum_alone};
+use order_solve::find_optimum_alone;
 use small_search::{find_optimum, is_small};
+use solutions::Optimum;
 use std::alloc::{AllocError, Global};
 use truth_table::Tables;
 
@@ -32,7 +33,7 @@ fn search(alloc: Global, tables: &Tables, pairs: Pairs) -> Result<Optimum, Alloc
 }
 
 /// The same, with as many variables and level counts as there are inputs.
-fn optimum(alloc: Global, tables: &Tables, pairs: Pairs) -> Result<Optimum, AllocError>
+pub(crate) fn optimum(alloc: Global, tables: &Tables, pairs: Pairs) -> Result<Optimum, AllocError>
     requires { pairs.inputs ≡ tables.now.inputs }
     ensures optimum { IfOk result
         (IsOptimumFor tables.now pairs.pairs) }

@@ -1,18 +1,18 @@
 //! The orders of the fewest nodes of many problems by one call.
 
 ghost use Rattle.std.specs.Prelude.{◌≡◌, ◌≢◌, ◌*◌, ◌↔◌, ◌++◌, ◌∷◌, [], length, IsTrue, IfOk, IfErr, OnOk};
-ghost use Rattle.order_solve.specs.Solutions.{IsFirstFewest};
+ghost use Rattle.solutions.specs.Solutions.{IsFirstFewest};
 ghost use Rattle.minorder_c.specs.Answers.{AreTables, functions_in};
 ghost use Rattle.minorder_c.specs.Many.{AreFirstFewest, HasManyShape};
 ghost use Rattle.minorder_c.specs.Statuses.{IsPlainStatus, RefusesShape, TellsShape};
 ghost use Rattle.minorder_c.specs.declared.status.Refusal.TheVariants.{OutOfMemory};
 
 use crate::arguments::tables_of;
-use crate::sifting_from::bound_of;
+use crate::exact::optimum;
 use crate::status::Refusal;
 use order_model::Pairs;
 use order_model::packed::{block, words_per_table};
-use order_solve::{Optimum, find_optimum_alone};
+use solutions::Optimum;
 use std::alloc::{AllocError, Global};
 
 /// The first order of the fewest nodes of one problem.
@@ -25,9 +25,8 @@ fn optimum_of(alloc: Global, words: &[u64], inputs: u32, outputs: u32) -> Result
     ensures refused { IfErr result (RefusesShape (AreTables inputs outputs words.now)) }
 {
     let tables = tables_of(alloc, words, inputs, outputs)?;
-    let bound = bound_of(alloc, &tables, Pairs::none(inputs as u8))?;
-    let optimum = find_optimum_alone(alloc, tables.problem(), bound)?;
-    Ok(optimum)
+    let best = optimum(alloc, &tables, Pairs::none(inputs as u8))?;
+    Ok(best)
 }
 
 /// The answers of many problems, one behind the other.

@@ -8,6 +8,7 @@ use order_solve::{Optimum, Solution, find_optimum_alone, prepare, solve, solve_a
 use pla_reader::read_cover;
 use sifting::laws::diagrams_have_their_problems_tables;
 use sifting::{Manager, Sifted};
+use small_search::is_small;
 use std::alloc::Global;
 use std::hint;
 use std::process::Abort;
@@ -108,9 +109,20 @@ fn finds_optimum_of_words(rt: &impl Abort, alloc: Global, tables: &Tables) -> bo
     is_of_words(&found)
 }
 
+/// Whether the search for small problems finds the optimum of the words, with a certificate and
+/// without.
+fn finds_words_small(rt: &impl Abort, alloc: Global, tables: &Tables) -> bool {
+    let problem = tables.problem();
+    let pairs = Pairs::none(problem.inputs());
+    let solved = small_search::solve(alloc, problem, &pairs).expect(rt, "memory");
+    let found = small_search::find_optimum(alloc, problem, &pairs).expect(rt, "memory");
+    is_small(problem) && is_of_words(&solved.optimum) && is_of_words(&found)
+}
+
 #[test]
 fn solves_words_alone(rt: HostRuntime) {
     let tables = Tables::of_words(rt.alloc(), 3, 1, &[0xff96]).expect(&rt, "memory");
+    assert!(rt; finds_words_small(&rt, rt.alloc(), &tables));
     assert!(rt; solves_words(&rt, rt.alloc(), &tables));
     assert!(rt; finds_optimum_of_words(&rt, rt.alloc(), &tables));
 }
