@@ -116,7 +116,7 @@ tree() {
     put 644 share/minorder/python "$top/bindings/python/pyproject.toml"
     put 644 share/minorder/python/backend "$top"/bindings/python/backend/*.py
     put 644 share/minorder/python/minorder "$top"/bindings/python/minorder/{*.py,py.typed}
-    put 644 share/minorder/python/minorder/benchmarks "$top"/bindings/python/minorder/benchmarks/*.{py,csv}
+    put 644 share/minorder/python/minorder/benchmarks "$top"/bindings/python/minorder/benchmarks/*.py "$top"/optima/{optima,league}.csv
 }
 
 # ---- putting it there: each file beside its place first, then all by a rename

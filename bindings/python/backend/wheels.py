@@ -15,8 +15,17 @@ Requires-Python: >=3.9
 """
 
 
+# the tables of the repository that lie beside a module where the package is installed
+TABLES = {f"minorder/benchmarks/{name}": os.path.join("..", "..", "optima", name) for name in ("optima.csv", "league.csv")}
+
+
+def _place(name):
+    place = os.path.join(TOP, name)
+    return place if os.path.exists(place) else os.path.join(TOP, TABLES.get(name, name))
+
+
 def _read(name):
-    with open(os.path.join(TOP, name), "rb") as file:
+    with open(_place(name), "rb") as file:
         return file.read()
 
 
@@ -28,7 +37,7 @@ def _package():
     """The package's files, and the shared library if one lies beside them."""
     folders = ("minorder", "minorder/benchmarks")
     names = [f"{folder}/{name}" for folder in folders for name in sorted(os.listdir(os.path.join(TOP, folder)))]
-    return [name for name in names if name.endswith((".py", ".csv", "py.typed")) or ".so" in name]
+    return [name for name in names if name.endswith((".py", "py.typed")) or ".so" in name] + list(TABLES)
 
 
 def _commands():
@@ -59,9 +68,9 @@ def build_wheel(wheel_directory, config_settings=None, metadata_directory=None):
 
 def build_sdist(sdist_directory, config_settings=None):
     made = f"minorder-{_version()}"
-    with tarfile.open(os.path.join(sdist_directory, f"{made}.tar.gz"), "w:gz", dereference=True) as archive:
+    with tarfile.open(os.path.join(sdist_directory, f"{made}.tar.gz"), "w:gz") as archive:
         for name in ["pyproject.toml", "backend/wheels.py", *_package()]:
-            archive.add(os.path.join(TOP, name), f"{made}/{name}")
+            archive.add(_place(name), f"{made}/{name}")
         about = os.path.join(sdist_directory, "PKG-INFO")
         with open(about, "w") as file:
             file.write(ABOUT.format(version=_version()))

@@ -76,13 +76,19 @@ def read_league(path: str) -> list[Line]:
     ) for row in _rows(path)]
 
 
+def _place(name: str) -> str:
+    """Where a table lies: beside this module, or in the repository's optima/."""
+    beside = os.path.join(HERE, name)
+    return beside if os.path.exists(beside) else os.path.join(HERE, *[os.pardir] * 4, "optima", name)
+
+
 @lru_cache(maxsize=None)
 def optima() -> dict[str, Optimum]:
     """Those of the table of this package."""
-    return read_optima(f"{HERE}/optima.csv")
+    return read_optima(_place("optima.csv"))
 
 
 @lru_cache(maxsize=None)
 def league() -> list[Line]:
     """That of this package."""
-    return read_league(f"{HERE}/league.csv")
+    return read_league(_place("league.csv"))
