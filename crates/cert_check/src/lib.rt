@@ -1,8 +1,8 @@
 //! The checker of certificates: whether a certificate shows that no order that keeps its pairs has
 //! fewer nodes, else the first reason why not.
 //!
-//! It shares no step with the search: both stand on the same definitions and laws, and on the types
-//! of problems, orders and pairs.
+//! It takes no step of the search: both stand on the same definitions and laws, on the types of
+//! problems, orders and pairs, and on the numbering of pairs of classes.
 #![tactic(auto)]
 
 mod checking;

@@ -1,6 +1,5 @@
-use Rattle.std.proofs.Common.{List, ℕ, length, sym, subst, ap, ◌∙◌}
+use Rattle.std.proofs.Common.{length, sym, subst, ap, ◌∙◌}
 use Rattle.order_model.specs.Diagrams.{Represents}
-use Rattle.order_model.specs.Orders.{IsOrder}
 use Rattle.order_model.specs.Pairs.{IsFirstOrder}
 use Rattle.dd_builder.specs.Building.{HasLevelCounts}
 use Rattle.pla_reader.specs.Covers.{functions_of}

@@ -1,4 +1,4 @@
-use Rattle.std.proofs.Common.{◌≡◌, ℕ, ◌^◌, ◌<◌, IsTrue, slice_index, refl, sym, ◌∙◌, subst, arith}
+use Rattle.std.proofs.Common.{ℕ, ◌^◌, ◌<◌, IsTrue, slice_index, refl, sym, ◌∙◌, subst, arith}
 use Rattle.order_model.specs.Orders.{has, members}
 use Rattle.order_model.specs.Problems.{functions}
 use Rattle.order_model.specs.Cells.{first_of}

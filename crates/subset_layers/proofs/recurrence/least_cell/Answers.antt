@@ -1,4 +1,4 @@
-use Rattle.std.proofs.Common.{◌≡◌, ℕ, ◌+◌, ◌^◌, ◌<◌, slice_index, sym, ◌∙◌, subst, arith}
+use Rattle.std.proofs.Common.{◌≡◌, ℕ, ◌+◌, ◌^◌, ◌<◌, slice_index, sym, ◌∙◌, subst}
 use Rattle.order_model.specs.Problems.{functions}
 use Rattle.order_model.specs.Cells.{AreForCell, cell_of}
 use Rattle.subset_layers.specs.Costs.{as_pair}
