@@ -24,6 +24,6 @@ int main(int count, char **paths)
         taken += milliseconds() - start;
         nodes += total;
     }
-    printf("%.3f ms a file, %lu nodes\n", taken / (count - 1), nodes);
+    printf("%.6f ms a file, %lu nodes\n", taken / (count - 1), nodes);
     return 0;
 }

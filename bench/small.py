@@ -1,7 +1,7 @@
 #!/usr/bin/env python3
-"""small.py INPUTS COUNT [PEERS]: what COUNT random functions of INPUTS inputs take: by the library, by the program in a loop and
-by several at a time, and, where bench/peers.sh built it in PEERS, by CUDD's exact reordering in one process. Each is run three
-times, in turns, and the fastest counts: how many times as long as the library's it is."""
+"""small.py INPUTS OUTPUTS COUNT [PEERS]: what COUNT random problems of at most 10 inputs take: by the library, by the plainest
+dynamic program in C, by the program in a loop and by several at a time, and, where bench/peers.sh built it in PEERS, by CUDD's exact
+reordering in one process. Each is run five times, in turns, and the fastest counts: how many times as long as the library's it is."""
 import os
 import random
 import subprocess
@@ -14,12 +14,12 @@ sys.path.append(f"{TOP}/build")
 import tools  # noqa: E402
 
 
-def write_files(room, inputs, count):
+def write_files(room, inputs, outputs, count):
     chosen = random.Random(inputs)
     for number in range(count):
-        rows = [f"{point:0{inputs}b} 1" for point in range(1 << inputs) if chosen.random() < 0.5]
+        rows = [f"{point:0{inputs}b} {chosen.getrandbits(outputs):0{outputs}b}" for point in range(1 << inputs)]
         with open(f"{room}/{number}.pla", "w") as file:
-            print(f".i {inputs}", ".o 1", *rows, ".e", sep="\n", file=file)
+            print(f".i {inputs}", f".o {outputs}", *rows, ".e", sep="\n", file=file)
     return [f"{room}/{number}.pla" for number in range(count)]
 
 
@@ -36,10 +36,10 @@ def measured(script, files):
 
 
 def main():
-    if not 3 <= len(sys.argv) <= 4:
+    if not 4 <= len(sys.argv) <= 5:
         sys.exit(__doc__)
-    inputs, count = int(sys.argv[1]), int(sys.argv[2])
-    peers = sys.argv[3] if len(sys.argv) > 3 else None
+    inputs, outputs, count = (int(word) for word in sys.argv[1:4])
+    peers = sys.argv[4] if len(sys.argv) > 4 else None
     compiler = os.environ.get("CC", "cc")
     tools.need(compiler)
     for made in ([f"{TOP}/minorder", "--help"], [f"{TOP}/libminorder"]):
@@ -48,23 +48,25 @@ def main():
             sys.exit(1)
     program = f"{TOP}/crates/minorder/out/minorder"
     with tempfile.TemporaryDirectory() as room:
-        files = write_files(room, inputs, count)
+        files = write_files(room, inputs, outputs, count)
         include = ["-I", f"{TOP}/include", f"{TOP}/bench/small.c", f"{TOP}/lib/libminorder.a"]
         subprocess.run([compiler, "-O2", *include, "-o", f"{room}/small"], check=True)
+        subprocess.run([compiler, "-O3", f"{TOP}/bench/plain.c", "-o", f"{room}/plain"], check=True)
         ways = {
             "libminorder, one process": lambda: told([f"{room}/small", *files]),
+            "the plain program in C, one process": lambda: told([f"{room}/plain", *files]),
             "minorder --workers 1, in a loop": lambda: measured(f"while read -r it; do {program} --workers 1 $it; done", files),
             "minorder --workers 1, xargs -P 4": lambda: measured(f"xargs -n 1 -P 4 {program} --workers 1", files),
         }
         if peers:
             ways["CUDD's exact reordering, one process"] = lambda: told([f"{peers}/cudd", "exact", *files])
         taken = {name: [] for name in ways}
-        for _ in range(3):
+        for _ in range(5):
             for name, way in ways.items():
                 taken[name].append(way())
         least = {name: min(times) for name, times in taken.items()}
         library = least["libminorder, one process"]
-        print(f"the library: {library:.3g} ms a function\n", "| Way | Times as long as the library |", "|---|---|", sep="\n")
+        print(f"the library: {1000 * library:.3g} microseconds a problem\n", "| Way | Times as long as the library |", "|---|---|", sep="\n")
         for name, time_of_it in least.items():
             print(f"| {name} | {time_of_it / library:.3g} |")
 

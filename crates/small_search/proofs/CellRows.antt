@@ -3,8 +3,8 @@
 --     rows_start, rows_member, rows_other      none; one variable more
 --     cost_below      the cost of a set without one member is in the list of cells
 --     rows_all      those of all members give the cell
-use Rattle.std.proofs.Common.{◌≡◌, ℕ, ◌+◌, ◌-◌, ◌^◌, ◌<◌, ◌≤◌, Bool, if◌then◌else◌, nat_eq, inl, inr, true, false, eq-eqb, ne_eqb, List, [], length, get_or, set, slice_index, sym, ap, ◌∙◌, subst, arith, get_or-set_other, get_or-set_same}
-use Rattle.std.proofs.lemmas.Bool.{cases_eq, cases_lt, false≢true}
+use Rattle.std.proofs.Common.{◌≡◌, ℕ, ◌+◌, ◌-◌, ◌^◌, ◌<◌, ◌≤◌, Bool, if◌then◌else◌, nat_eq, inl, inr, true, false, eq-eqb, ne_eqb, List, [], length, get_or, set, slice_index, sym, ap, ◌∙◌, arith}
+use Rattle.std.proofs.lemmas.Bool.{cases_eq, false≢true}
 use Rattle.std.proofs.lemmas.List.{length-set}
 use Rattle.order_model.specs.Orders.{has, members, without}
 use Rattle.order_model.specs.Problems.{functions}
@@ -15,6 +15,7 @@ use Rattle.order_model.specs.declared.reserve.Reserve.TheVariants.{Variables, Wi
 use Rattle.order_model.proofs.Widths.Cells.{candidate_parts}
 use Rattle.order_model.proofs.Bits.Masks.{members_small}
 use Rattle.subset_layers.specs.declared.costs.Cell.{Cell}
+use Rattle.subset_layers.proofs.Rows.{row_passed, row_written}
 use Rattle.layer_core.specs.Settings.{Setting, cell_for}
 use Rattle.solutions.specs.FlatCells.{no_cell}
 use Rattle.small_search.specs.FirstCells.{AreFirstCells}
@@ -35,26 +36,6 @@ pub record AreRowsBelow (t : Setting) (mask : ℕ) (below widths : List ℕ) (k 
   pub costs_are : (y : ℕ) → y < k → IsMember t mask y → get_or below y 0 ≡ cost_without t mask y
   pub widths_are : (y : ℕ) → y < k → IsMember t mask y → get_or widths y 0 ≡ width_without t mask y
 
--- one entry more
-written : (P : ℕ → Type 0) (wanted : ℕ → ℕ) (row : List ℕ) (x v : ℕ) → x < length row → v ≡ wanted x →
-    ((y : ℕ) → y < x → P y → get_or row y 0 ≡ wanted y) → (y : ℕ) → y < x + 1 → P y → get_or (set row x v) y 0 ≡ wanted y
-written P wanted row x v lt e h y l m =
-    elim (cases_lt y x) [
-      | inl a ↦ get_or-set_other row x y v 0 (λ s. let f : ⊥ = omega arith in f) ∙ h y a m
-      | inr a ↦
-          let s : y ≡ x = omega arith in
-          ap (λ k. get_or (set row x v) k 0) s ∙ get_or-set_same row x v 0 lt ∙ e ∙ ap wanted (sym s)
-    ]
-
--- a variable that is no member
-passed : (P : ℕ → Type 0) (wanted : ℕ → ℕ) (row : List ℕ) (x : ℕ) → (P x → ⊥) → ((y : ℕ) → y < x → P y → get_or row y 0 ≡ wanted y) →
-    (y : ℕ) → y < x + 1 → P y → get_or row y 0 ≡ wanted y
-passed P wanted row x none h y l m =
-    elim (cases_lt y x) [
-      | inl a ↦ h y a m
-      | inr a ↦ absurd (none (let s : y ≡ x = omega arith in subst P s m))
-    ]
-
 module _ (t : Setting) (mask : ℕ) where
   pub rows_start : (below widths : List ℕ) → length below ≡ 16 → length widths ≡ 16 → AreRowsBelow t mask below widths 0
   rows_start below widths b w = record { below_long = b; widths_long = w; costs_are = λ y l. absurd (omega arith); widths_are = λ y l. absurd (omega arith) }
@@ -64,16 +45,16 @@ module _ (t : Setting) (mask : ℕ) where
   rows_member below widths x c w r small e f m = record {
     below_long = length-set below x c ∙ r.below_long;
     widths_long = length-set widths x w ∙ r.widths_long;
-    costs_are = written (IsMember t mask) (cost_without t mask) below x c (let l = r.below_long in omega (arith, l)) e r.costs_are;
-    widths_are = written (IsMember t mask) (width_without t mask) widths x w (let l = r.widths_long in omega (arith, l)) (f m) r.widths_are;
+    costs_are = row_written (IsMember t mask) (cost_without t mask) below x r.costs_are c (let l = r.below_long in omega (arith, l)) e;
+    widths_are = row_written (IsMember t mask) (width_without t mask) widths x r.widths_are w (let l = r.widths_long in omega (arith, l)) (f m);
   }
 
   pub rows_other : (below widths : List ℕ) (x : ℕ) → AreRowsBelow t mask below widths x → (IsMember t mask x → ⊥) → AreRowsBelow t mask below widths (x + 1)
   rows_other below widths x r none = record {
     below_long = r.below_long;
     widths_long = r.widths_long;
-    costs_are = passed (IsMember t mask) (cost_without t mask) below x none r.costs_are;
-    widths_are = passed (IsMember t mask) (width_without t mask) widths x none r.widths_are;
+    costs_are = row_passed (IsMember t mask) (cost_without t mask) below x r.costs_are none;
+    widths_are = row_passed (IsMember t mask) (width_without t mask) widths x r.widths_are none;
   }
 
   asked_member : (r : Reserve) (bound : ℕ) (costs : ℕ → ℕ) (y : ℕ) → has (asked t.problem.inputs r bound mask costs) y ≡ true → IsMember t mask y

@@ -3,3 +3,4 @@ pub mod BlockLists
 pub mod CostLists
 pub mod BestSums
 pub mod CellSteps
+pub mod Rows

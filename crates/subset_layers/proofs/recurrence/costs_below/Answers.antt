@@ -1,11 +1,12 @@
-use Rattle.std.proofs.Common.{◌≡◌, ℕ, ◌+◌, ◌-◌, ◌<◌, List, length, inl, inr, unwrap_or, IsTrue, set, get_or, sym, ap, ◌∙◌, subst, arith, get_or-set_other, get_or-set_same}
-use Rattle.std.proofs.lemmas.Bool.{iff_false, cases_lt}
+use Rattle.std.proofs.Common.{◌≡◌, ℕ, ◌-◌, List, length, unwrap_or, IsTrue, get_or, sym, ap, ◌∙◌, arith}
+use Rattle.std.proofs.lemmas.Bool.{iff_false}
 use Rattle.std.proofs.lemmas.List.{length-set}
 use Rattle.std.proofs.lemmas.Nat.Bits.{shr_and_one}
 use Rattle.order_model.specs.Orders.{has, members}
 use Rattle.order_model.proofs.Bits.Masks.{members_small}
 use Rattle.subset_layers.specs.Costs.{cost_at, cost_without}
 use Rattle.subset_layers.proofs.CostLists.{member_from_bit, bit_from_member, power_le_mask, shifted_bit, less_one}
+use Rattle.subset_layers.proofs.Rows.{row_passed, row_written}
 use Rattle.subset_layers.proofs.recurrence.costs_below.Goals as goal
 use Rattle.subset_layers.proofs.recurrence.costs_below.Goals.{then-contains, else-contains}
 
@@ -15,26 +16,6 @@ overflow_sub-mask c =
 
 pub unwrap-cost-requires : goal.unwrap-cost-requires
 unwrap-cost-requires c = grind (arith, shifted_bit, shr_and_one, member_from_bit, less_one)
-
--- one more member's cost
-written : (P : ℕ → Type 0) (wanted : ℕ → ℕ) (below : List ℕ) (x v : ℕ) → x < length below → v ≡ wanted x →
-    ((y : ℕ) → y < x → P y → get_or below y 0 ≡ wanted y) → (y : ℕ) → y < x + 1 → P y → get_or (set below x v) y 0 ≡ wanted y
-written P wanted below x v lt e h y l m =
-    elim (cases_lt y x) [
-      | inl a ↦ get_or-set_other below x y v 0 (λ s. let f : ⊥ = omega arith in f) ∙ h y a m
-      | inr a ↦
-          let s : y ≡ x = omega arith in
-          ap (λ k. get_or (set below x v) k 0) s ∙ get_or-set_same below x v 0 lt ∙ e ∙ ap wanted (sym s)
-    ]
-
--- a variable that is no member
-passed : (P : ℕ → Type 0) (wanted : ℕ → ℕ) (below : List ℕ) (x : ℕ) → (P x → ⊥) → ((y : ℕ) → y < x → P y → get_or below y 0 ≡ wanted y) →
-    (y : ℕ) → y < x + 1 → P y → get_or below y 0 ≡ wanted y
-passed P wanted below x none h y l m =
-    elim (cases_lt y x) [
-      | inl a ↦ h y a m
-      | inr a ↦ absurd (none (let s : y ≡ x = omega arith in subst P s m))
-    ]
 
 pub loop-x-preserved : goal.loop-x-preserved
 loop-x-preserved c =
@@ -48,7 +29,7 @@ loop-x-preserved c =
           let e = shifted_bit c.args.mask x (omega arith) (shr_and_one c.args.mask x ∙ c.contains.ensures.0 w.if-contains.true) in
           let is : wanted x ≡ w.unwrap-cost.result = ap (λ k. unwrap_or (cost_at c.args.costs.now (c.args.mask - k)) 0) (sym e)
           ∙ ap (λ o. unwrap_or o 0) (sym w.cost_of.ensures.value ∙ w.unwrap-cost.ensures) in
-          let found = written S wanted below x w.unwrap-cost.result (omega arith) (sym is) c.loop-x.invariant.found in
+          let found = row_written S wanted below x c.loop-x.invariant.found w.unwrap-cost.result (omega arith) (sym is) in
           record {
             long = ap length w.below-is ∙ length-set below x w.unwrap-cost.result ∙ c.loop-x.invariant.long;
             found = λ y l m. ap (λ (us : List ℕ). get_or us y 0) w.below-is ∙ found y l m;
@@ -56,7 +37,7 @@ loop-x-preserved c =
       | else-contains w ↦
           let none : S x → ⊥ = λ m. iff_false c.contains.ensures w.if-contains.false (sym (shr_and_one c.args.mask x)
           ∙ bit_from_member n c.args.mask x m) in
-          let found = passed S wanted below x none c.loop-x.invariant.found in
+          let found = row_passed S wanted below x c.loop-x.invariant.found none in
           record {
             long = ap length w.below-is ∙ c.loop-x.invariant.long;
             found = λ y l m. ap (λ (us : List ℕ). get_or us y 0) w.below-is ∙ found y l m;
