@@ -1,7 +1,9 @@
 #!/usr/bin/env python3
-"""small.py INPUTS OUTPUTS COUNT [PEERS]: what COUNT random problems of at most 10 inputs take: by the library, by the plainest
-dynamic program in C, by the program in a loop and by several at a time, and, where bench/peers.sh built it in PEERS, by CUDD's exact
-reordering in one process. Each is run five times, in turns, and the fastest counts: how many times as long as the library's it is."""
+"""small.py INPUTS OUTPUTS COUNT [PEERS]    what COUNT random problems of at most 10 inputs take, by several ways
+
+The ways are the library, the plainest dynamic program in C, the program in a loop and by four at a time, and, where
+bench/peers.sh built it in PEERS, CUDD's exact reordering in one process. Each is run five times, in turns, and the
+fastest run counts."""
 import os
 import random
 import subprocess
@@ -66,7 +68,8 @@ def main():
                 taken[name].append(way())
         least = {name: min(times) for name, times in taken.items()}
         library = least["libminorder, one process"]
-        print(f"the library: {1000 * library:.3g} microseconds a problem\n", "| Way | Times as long as the library |", "|---|---|", sep="\n")
+        print(f"the library: {1000 * library:.3g} microseconds a problem\n")
+        print("| Way | Times as long as the library |", "|---|---|", sep="\n")
         for name, time_of_it in least.items():
             print(f"| {name} | {time_of_it / library:.3g} |")
 
