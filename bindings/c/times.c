@@ -1,5 +1,5 @@
 /* The times of minorder_exact, minorder_levels and minorder_sift for OUTPUTS random functions (one if left out) of INPUTS
-   variables, and how many calls of the first and the last a second takes.
+   variables, and how many calls of the first one a second takes.
    usage: times INPUTS [OUTPUTS] */
 #include <stdio.h>
 #include <stdlib.h>
@@ -48,7 +48,7 @@ int main(int count, char **arguments) {
     TIME(exact, minorder_exact(table, words, inputs, outputs, order, levels, &best));
     TIME(counted, minorder_levels(table, words, inputs, outputs, order, levels));
     TIME(sifting, (file_order(order, inputs), minorder_sift(table, words, inputs, outputs, order, levels, &sifted)));
-    printf("| %u | %u | %.2f | %.0f | %.2f | %.2f | %.0f | %u | %u |\n", inputs, outputs, exact, 1e3 / exact, counted, sifting, 1e3 / sifting, best, sifted);
+    printf("| %u | %u | %.3g | %.0f | %.2g | %.3g | %u | %u |\n", inputs, outputs, exact, 1e3 / exact, counted, sifting, best, sifted);
     free(table);
     return 0;
 }
