@@ -1,10 +1,12 @@
 #!/usr/bin/env python3
 """prove.py NAME              proves the crates that a program or a static library needs, several at a time, and builds it
+prove.py --run NAME WORD..  does so with a program, and runs it with the words; an unproved answer comes before, if there is
+                            memory for both and MINORDER_PREVIEW isn't "no"
 prove.py --folders NAME     writes their folders
 prove.py --built NAME..     takes programs as they lie there, which `rt ci` has just proved and built, and builds static
                             libraries over the libraries that it left"""
 import contextlib
-import csv
+import errno
 import fcntl
 import hashlib
 import os
@@ -16,15 +18,16 @@ import tempfile
 import time
 from concurrent.futures import FIRST_COMPLETED, ThreadPoolExecutor, wait
 
+import preview
 import tools
+from costs import CHAIN_JOBS, CHAIN_SPEED, Estimate, chains, longest_chain, minutes, seconds_of
+from progress import Report, spoken
 
 TOP = os.path.dirname(os.path.dirname(os.path.abspath(__file__)))
 GIGABYTES_A_JOB = 3
 GIGABYTES_A_FURTHER_JOB = 1
-# each job of a proof reads all libraries below anew: two jobs take two thirds of the time of one, a third job wins little
-CHAIN_JOBS = 2
-CHAIN_SPEED = 1.5
 MOST_JOBS = 3
+SIGNALS = (signal.SIGINT, signal.SIGTERM, signal.SIGHUP)
 # over more libraries than these three jobs take no less than two
 FEW_LIBRARIES = 8
 
@@ -71,24 +74,6 @@ def sum_of_sources(crates):
     return total.hexdigest()
 
 
-def seconds_of(crates):
-    """The processor seconds that each crate's proof is expected to take: those of costs.csv beside
-    this file, else by its lines."""
-    known = {}
-    with contextlib.suppress(OSError), open(f"{TOP}/build/costs.csv", newline="") as table:
-        known = {row["crate"]: int(row["proof"]) for row in csv.DictReader(table)}
-
-    def by_lines(crate):
-        lines = 0
-        for at, _, files in os.walk(f"{TOP}/crates/{crate}/src"):
-            for file in files:
-                with open(f"{at}/{file}", "rb") as it:
-                    lines += it.read().count(b"\n")
-        return 20 + lines // 5
-
-    return {crate: known.get(crate) or by_lines(crate) for crate in crates}
-
-
 def processors():
     return len(os.sched_getaffinity(0))
 
@@ -98,57 +83,57 @@ def free_gigabytes():
         return next(int(line.split()[1]) for line in lines if line.startswith("MemAvailable")) >> 20
 
 
-def spoken(seconds):
-    minutes, seconds = divmod(int(seconds), 60)
-    return f"{minutes} min {seconds:02} s"
+class NotProved(Exception):
+    """What rt said of a crate that it refused."""
 
 
-class Report:
-    """Says on standard error how far a build is: one line that is written over on a terminal, else a line for each crate."""
+class Interrupt(Exception):
+    """The signal that ends a build."""
 
-    def __init__(self, name, seconds):
-        self.name, self.seconds = name, seconds
-        self.start, self.done, self.running, self.taken = time.monotonic(), [], {}, 0
-        self.is_terminal = sys.stderr.isatty()
 
-    def say(self, text):
-        clear = "\r\x1b[K" if self.is_terminal else ""
-        print(f"{clear}{self.name}: {text}", file=sys.stderr, flush=True)
+under_way, interrupts = set(), []
 
-    def passed(self):
-        return time.monotonic() - self.start
 
-    def share(self):
-        """The share that is done, by expected processor time; a crate that is being proved counts by the time that it has had."""
-        whole = sum(self.seconds.values())
-        done = sum(self.seconds[it] for it in self.done)
-        for crate, (since, jobs) in self.running.items():
-            done += min(0.9 * self.seconds[crate], (time.monotonic() - since) * (1 + jobs) / 2)
-        return int(100 * done / whole)
+def end_on_signals():
+    """A signal ends the calls of rt that are under way. The build itself ends where it waits, by `go_on`, so that what was kept
+    goes back to its place. What the caller ignores stays ignored."""
 
-    def show(self):
-        text = f"{self.share()} % after {spoken(self.passed())}"
-        if self.is_terminal:
-            width = shutil.get_terminal_size().columns - 1
-            line = f"{self.name}: {text}, proving {', '.join(self.running)}"
-            print(f"\r\x1b[K{line[:width]}", end="", file=sys.stderr, flush=True)
-        return text
+    def end(number, _):
+        interrupts.append(number)
+        for it in list(under_way):
+            with contextlib.suppress(ProcessLookupError):
+                os.kill(it.pid, signal.SIGTERM)
 
-    def end_crate(self, crate, taken):
-        self.done.append(crate)
-        self.running.pop(crate)
-        self.taken += taken
-        if self.is_terminal:
-            self.show()
-        else:
-            self.say(f"{self.show()}: {crate} is proved, in {taken:.0f} s of processor time")
+    for it in SIGNALS:
+        if signal.getsignal(it) is not signal.SIG_IGN:
+            signal.signal(it, end)
+
+
+def go_on():
+    if interrupts:
+        raise Interrupt(interrupts[0])
+
+
+def lock(file):
+    """Waits until nobody else has locked a file or a folder."""
+    while True:
+        go_on()
+        try:
+            return fcntl.flock(file, fcntl.LOCK_EX | fcntl.LOCK_NB)
+        except BlockingIOError:
+            time.sleep(0.1)
 
 
 def called(folder, *words):
-    """Calls rt in a folder. Returns its status, what it said, and the processor seconds that it took."""
+    """Calls rt in a folder, by a thread of its own. Returns its status, what it said, and the processor seconds that it took."""
+    go_on()
     how = {"cwd": folder, "stdin": subprocess.DEVNULL, "stdout": subprocess.PIPE, "stderr": subprocess.STDOUT}
     with subprocess.Popen(["rt", *words], errors="replace", **how) as ran:
+        under_way.add(ran)
+        if interrupts:
+            os.kill(ran.pid, signal.SIGTERM)
         said = ran.stdout.read()
+        under_way.discard(ran)
         _, status, usage = os.wait4(ran.pid, 0)
         ran.returncode = os.waitstatus_to_exitcode(status)
     return ran.returncode, said, usage.ru_utime + usage.ru_stime
@@ -166,13 +151,15 @@ def linked(start, end):
                 shutil.copy2(f"{at}/{file}", f"{to}/{file}")
 
 
+@contextlib.contextmanager
 def kept_alone(crates):
-    """Waits until no rt works in the folders of these crates, and keeps others out until what it returns is closed."""
-    held = []
-    for crate in sorted(crates):
-        held.append(os.open(f"{TOP}/crates/{crate}", os.O_RDONLY))
-        fcntl.flock(held[-1], fcntl.LOCK_EX)
-    return held
+    """Waits until no rt works in the folders of these crates, and keeps others out."""
+    with contextlib.ExitStack() as held:
+        for crate in sorted(crates):
+            folder = os.open(f"{TOP}/crates/{crate}", os.O_RDONLY)
+            held.callback(os.close, folder)
+            lock(folder)
+        yield
 
 
 class Lane:
@@ -202,24 +189,6 @@ class Lane:
             shutil.rmtree(self.folder, ignore_errors=True)
 
 
-def longest_chain(libraries, uses, seconds):
-    """The libraries, one above the other, that take longest to prove one after the other."""
-    behind = chains(libraries, uses, seconds)
-    chain, above = [], libraries
-    while above:
-        chain.append(max(above, key=behind.get))
-        above = [it for it in libraries if chain[-1] in uses[it]]
-    return chain
-
-
-def chains(libraries, uses, seconds):
-    """How many seconds follow each library at least before the last one is proved, its own counted."""
-    behind = {}
-    for crate in reversed(libraries):
-        behind[crate] = seconds[crate] + max((behind[it] for it in behind if crate in uses[it]), default=0)
-    return behind
-
-
 class Plan:
     """Which library is proved next, and with how many jobs.
 
@@ -227,7 +196,9 @@ class Plan:
     The others, those with the longest chain behind them first, have one job each, and more only if no other library could
     use a processor. One job more than there are processors keeps them busy while one of the chain has work for one job."""
 
-    def __init__(self, libraries, uses, seconds):
+    def __init__(self, libraries, uses, seconds, answer=None):
+        """`answer` is the preview beside it, which may still be about to take its memory."""
+        self.answer = answer
         self.chain = longest_chain(libraries, uses, seconds)
         passed = {it: seconds[it] / (CHAIN_SPEED if it in self.chain else 1) for it in libraries}
         behind = chains(libraries, uses, passed)
@@ -238,7 +209,7 @@ class Plan:
     def next(self, done):
         """A library to start, with its jobs; None if none is to start before another one has ended."""
         ready = [it for it in self.left if all(dep in done for dep in self.uses[it])]
-        memory = free_gigabytes()
+        memory = free_gigabytes() - preview.GIGABYTES * bool(self.answer and self.answer.is_running())
         if not ready or (self.running and memory < GIGABYTES_A_JOB):
             return None
         crate = ready[0]
@@ -257,23 +228,24 @@ class Plan:
         self.running[crate] = jobs
 
 
-def prove_all(libraries, uses, seconds, report, lanes):
+def prove_all(plan, report, lanes):
     """Proves libraries, several at a time."""
-    plan, proofs = Plan(libraries, uses, seconds), {}
-    with ThreadPoolExecutor(len(libraries)) as pool:
+    proofs = {}
+    with ThreadPoolExecutor(len(plan.left)) as pool:
         while plan.left or proofs:
             while started := plan.next(report.done):
                 crate, jobs = started
                 plan.start(crate, jobs)
-                report.running[crate] = time.monotonic(), jobs
+                report.start_crate(crate, jobs)
                 proofs[pool.submit(Lane(lanes, crate, plan.below[crate]).prove, jobs)] = crate
             for ended in wait(proofs, timeout=1, return_when=FIRST_COMPLETED).done:
+                go_on()
                 crate = proofs.pop(ended)
                 plan.running.pop(crate)
                 status, said, taken = ended.result()
                 if status:
                     report.say(f"{crate} is not proved")
-                    sys.exit(said)
+                    raise NotProved(said)
                 report.end_crate(crate, taken)
             report.show()
 
@@ -293,36 +265,67 @@ def add_allocator(made):
     subprocess.run(["ar", "-M"], check=True, input=script, text=True)
 
 
-def build(name, made):
-    tools.need("rt", *["ar"] * is_library(name), of=name, instead='a release needs none (README.md, "Install")')
-    uses = named()
-    crates = needed(name, uses)
-    seconds = seconds_of(crates)
-    report = Report(name, seconds)
-    # what this build leaves in a folder that was there before is someone's work
-    own = [it for it in crates if not os.path.isdir(f"{TOP}/crates/{it}/out/incremental")]
-    minutes = sum(seconds.values()) // 60
-    report.say(f"proving and building {len(crates)} crates; from nothing it takes some {minutes} minutes of processor time, "
-               f"{GIGABYTES_A_JOB} GB of memory for each crate that is proved at a time, and 4 GB of disk, "
-               "most of it until it is done")
+def prove_libraries(plan, report):
     place = f"{TOP}/.git" if os.path.isdir(f"{TOP}/.git") else None
-    lanes = tempfile.mkdtemp(prefix="lanes-", dir=place)
-    held = kept_alone(crates)
-    try:
-        prove_all(crates[:-1], uses, seconds, report, lanes)
-    finally:
-        shutil.rmtree(lanes, ignore_errors=True)
-        for it in held:
-            os.close(it)
-    report.running[name] = time.monotonic(), 1
-    report.show()
+    with kept_alone(plan.left):
+        lanes = tempfile.mkdtemp(prefix="lanes-", dir=place)
+        try:
+            prove_all(plan, report, lanes)
+        finally:
+            shutil.rmtree(lanes, ignore_errors=True)
+
+
+def build_over_libraries(name, made, report):
+    """Proves the crate of the program or the static library itself, and builds it."""
+    report.start_crate(name, 1)
     words = ["lib"] if is_library(name) else ["run", "--", "--help"]
-    status, said, taken = called(f"{TOP}/crates/{name}", *words)
+    with ThreadPoolExecutor(1) as pool:
+        call = pool.submit(called, f"{TOP}/crates/{name}", *words)
+        report.show()
+        while not wait([call], timeout=1).done:
+            report.show()
+    go_on()
+    status, said, taken = call.result()
     if status:
-        sys.exit(said)
+        raise NotProved(said)
     if is_library(name):
         add_allocator(made)
     report.end_crate(name, taken)
+
+
+def begin(report, crates, words):
+    """Says what is to come, and begins with the unproved answer, if one is to come."""
+    passed = preview.passed_on(words)
+    obstacle = preview.obstacle(passed, processors(), free_gigabytes(), GIGABYTES_A_JOB)
+    comes = "an unproved answer comes in some two minutes" if obstacle is None else obstacle
+    minutes_of_processors = sum(report.seconds.values()) // 60
+    report.say(
+        "; ".join(filter(None, (comes, 'a release needs no proof (README.md, "Install")'))),
+        f"proving and building {len(crates)} crates; from nothing it takes {minutes(report.estimate.seconds_left({}))} here, "
+        f"{minutes_of_processors} of processor time, {GIGABYTES_A_JOB} GB of memory for each crate that is proved at a time, "
+        "and 4 GB of disk, most of it until it is done")
+    if obstacle is not None:
+        return contextlib.nullcontext()
+    rows = listed()
+    return preview.beside(TOP, report.name, {it: rows[it] for it in crates}, passed, report.say)
+
+
+def build(name, made, words):
+    tools.need("rt", *["ar"] * is_library(name), of=name, instead='a release needs none (README.md, "Install")')
+    uses = named()
+    crates = needed(name, uses)
+    seconds = seconds_of(TOP, crates)
+    report = Report(name, seconds, Estimate(seconds, uses, processors()))
+    # what this build leaves in a folder that was there before is someone's work
+    own = [it for it in crates if not os.path.isdir(f"{TOP}/crates/{it}/out/incremental")]
+    answer = None
+    try:
+        with begin(report, crates, words) as answer:
+            prove_libraries(Plan(crates[:-1], uses, seconds, answer), report)
+            build_over_libraries(name, made, report)
+    except NotProved as refused:
+        stands = f"\n{name}: the answer above stands unproved" if answer and answer.has_answered else ""
+        sys.exit(f"{refused}{stands}")
     for crate in own:
         # what only the proof of the next edit would use
         shutil.rmtree(f"{TOP}/crates/{crate}/out/incremental", ignore_errors=True)
@@ -345,21 +348,63 @@ def is_up_to_date(name):
         return False
 
 
-def main(name):
+def read_by(crates):
+    """The files and folders that a build reads."""
+    yield from ("crates.txt", "HANDLES")
+    for crate in crates:
+        for at, folders, files in os.walk(f"{TOP}/crates/{crate}"):
+            folders[:] = [it for it in folders if it not in ("out", "must-fail")]
+            yield from (os.path.relpath(it, TOP) for it in (at, *(f"{at}/{file}" for file in files)))
+
+
+@contextlib.contextmanager
+def stamped(name):
+    """Leaves a list of what a build reads, and a stamp of before it, by which program.sh sees what has changed since: an edit
+    during the build is built by the next call."""
+    at = made_of(name)[0]
+    new = tempfile.mkdtemp(prefix="new-", dir=at)
+    try:
+        open(f"{new}/stamp", "w").close()
+        with open(f"{new}/files", "wb") as it:
+            it.writelines(os.fsencode(f"{file}\0") for file in read_by(needed(name, named())))
+        yield
+        for it in ("files", "stamp"):
+            os.replace(f"{new}/{it}", f"{at}/{it}")
+    finally:
+        shutil.rmtree(new, ignore_errors=True)
+
+
+def main(name, words=()):
+    """Proves and builds a program or a static library. The words are those that a program is run with next."""
     folder, made = made_of(name)
     # one build at a time: two of them have crates in common
-    with open(f"{TOP}/crates.txt") as lock:
-        fcntl.flock(lock, fcntl.LOCK_EX)
-        if is_up_to_date(name):
-            return
+    with open(f"{TOP}/crates.txt") as crates:
+        lock(crates)
         try:
             os.makedirs(folder, exist_ok=True)
-            sources = sum_of_sources(needed(name, named()))
-            build(name, made)
-            with open(f"{folder}/sources", "w") as it:
-                it.write(sources)
-        except PermissionError as error:
-            sys.exit(f"{name}: it isn't built, and you may not build it here: {error}")
+            with stamped(name):
+                if not is_up_to_date(name):
+                    sources = sum_of_sources(needed(name, named()))
+                    build(name, made, words)
+                    with open(f"{folder}/sources", "w") as it:
+                        it.write(sources)
+        except OSError as error:
+            if error.errno not in (errno.EACCES, errno.EPERM, errno.EROFS):
+                raise
+            if not is_up_to_date(name):
+                sys.exit(f"{name}: it isn't built, and you may not build it here: {error}")
+
+
+def run(name, words):
+    """Runs a program in place of this process."""
+    main(name, words)
+    # Python ignores the last two
+    for it in (*SIGNALS, signal.SIGPIPE, signal.SIGXFSZ):
+        if it not in SIGNALS or signal.getsignal(it) is not signal.SIG_IGN:
+            signal.signal(it, signal.SIG_DFL)
+    go_on()
+    made = made_of(name)[1]
+    os.execv(made, [made, *words])
 
 
 def mark_libraries(crates):
@@ -396,14 +441,25 @@ def take(names):
             it.write(sum_of_sources(needed(name, named())))
 
 
-if __name__ == "__main__":
-    # an interrupt ends the proofs too, and what they kept goes back to its place
-    signal.signal(signal.SIGTERM, lambda *_: sys.exit(143))
-    if sys.argv[1:2] == ["--folders"] and len(sys.argv) == 3:
-        print(*(f"crates/{crate}" for crate in needed(sys.argv[2], named())))
-    elif sys.argv[1:2] == ["--built"] and len(sys.argv) > 2:
-        take(sys.argv[2:])
-    elif len(sys.argv) == 2:
-        main(sys.argv[1])
+def called_with(words):
+    if words[:1] == ["--folders"] and len(words) == 2:
+        print(*(f"crates/{crate}" for crate in needed(words[1], named())))
+    elif words[:1] == ["--built"] and len(words) > 1:
+        take(words[1:])
+    elif words[:1] == ["--run"] and len(words) > 1:
+        run(words[1], words[2:])
+    elif len(words) == 1 and not words[0].startswith("-"):
+        main(words[0])
     else:
         sys.exit(__doc__)
+
+
+if __name__ == "__main__":
+    end_on_signals()
+    try:
+        called_with(sys.argv[1:])
+    except Interrupt:
+        with contextlib.suppress(OSError):
+            print("\n" * sys.stderr.isatty(), end="", file=sys.stderr, flush=True)
+        signal.signal(interrupts[0], signal.SIG_DFL)
+        os.kill(os.getpid(), interrupts[0])

@@ -1,0 +1,206 @@
+"""Tests of what a first build shows, with a stand-in for rt: python3 -m unittest discover -s build/tests"""
+import os
+import pathlib
+import shutil
+import signal
+import subprocess
+import sys
+import tempfile
+import time
+import unittest
+import unittest.mock
+
+HERE = pathlib.Path(__file__).resolve().parent
+sys.path.insert(0, str(HERE.parent))
+import preview  # noqa: E402
+import prove  # noqa: E402
+from costs import Estimate, seconds_of  # noqa: E402
+
+HAS_ROOM = prove.processors() > 1 and prove.free_gigabytes() >= prove.GIGABYTES_A_JOB + preview.GIGABYTES
+
+
+class Words(unittest.TestCase):
+    def assert_passed(self, words, wanted, files, makes_out=False):
+        passed = preview.passed_on(words.split())
+        self.assertEqual((passed.words, passed.files, passed.makes_out), (wanted.split(), files, makes_out))
+
+    def test_files_have_the_names_of_copies(self):
+        self.assert_passed("a.pla", "1/a.pla", {"1/a.pla": "a.pla"})
+        self.assert_passed("--count --above 1<2 /x/a=b.pla", "--count --above 1<2 1/a_b.pla", {"1/a_b.pla": "/x/a=b.pla"})
+        self.assert_passed("../a x/a", "1/a 2/a", {"1/a": "../a", "2/a": "x/a"})
+        self.assert_passed("--workers=2 -- --count", "--workers=2 -- 1/--count", {"1/--count": "--count"})
+        self.assert_passed("--workers 2 -", "--workers 2 1/-", {"1/-": "-"})
+
+    def test_out_is_made_elsewhere(self):
+        cases = {"--cert /x/o a": "--cert certificate 1/a", "a --cert=../o": "1/a --cert=certificate",
+                 "--cert - a": "--cert certificate 1/a", "--cert o --cert=o a": "--cert certificate --cert=certificate 1/a"}
+        for words, wanted in cases.items():
+            self.assert_passed(words, wanted, {"1/a": "a"}, True)
+
+    def test_out_that_is_the_file_stays_so(self):
+        with tempfile.TemporaryDirectory() as room:
+            pathlib.Path(room, "a").touch()
+            passed = preview.passed_on([f"--cert={room}/../{os.path.basename(room)}/a", f"{room}/a"])
+            self.assertEqual(passed.words, ["--cert=1/a", "1/a"])
+
+    def test_words_that_are_refused_stay_so(self):
+        self.assert_passed("--cert", "--cert", {})
+        self.assert_passed("--cert= a", "--cert= 1/a", {"1/a": "a"})
+        self.assert_passed("--cert --count a", "--cert --count 1/a", {"1/a": "a"})
+        self.assert_passed("-c o --bogus", "-c 1/o --bogus", {"1/o": "o"})
+        self.assert_passed("\udcff", "\udcff", {})
+
+
+@unittest.mock.patch.dict(os.environ, {preview.SWITCH: ""})
+class Obstacles(unittest.TestCase):
+    def test_room(self):
+        passed = preview.passed_on(["a"])
+        self.assertIsNone(preview.obstacle(passed, 2, 6, 3))
+        self.assertIn("processor", preview.obstacle(passed, 1, 6, 3))
+        self.assertIn("memory", preview.obstacle(passed, 2, 5, 3))
+        self.assertEqual(preview.obstacle(preview.passed_on(["--help"]), 2, 6, 3), "")
+
+    def test_one_that_cannot_begin(self):
+        said = []
+        passed = preview.passed_on(["a"])
+        with preview.beside("/nowhere", "a", {}, passed, lambda *lines: said.extend(lines)) as answer:
+            self.assertIsNone(answer)
+        self.assertEqual(said, ["no unproved answer comes: No such file or directory"])
+
+    def test_files_that_are_read_once(self):
+        with tempfile.TemporaryDirectory() as room:
+            os.mkfifo(f"{room}/pipe")
+            self.assertFalse(preview.can_be_copied(f"{room}/pipe"))
+            self.assertTrue(preview.can_be_copied(f"{room}/missing"))
+            self.assertTrue(preview.can_be_copied(room))
+            with open(f"{room}/large", "w") as it:
+                it.truncate(preview.MOST_BYTES + 1)
+            self.assertFalse(preview.can_be_copied(f"{room}/large"))
+
+
+class Answers(unittest.TestCase):
+    def told(self, answer, said, status, words=("a",)):
+        return preview.lines_of(preview.passed_on(words), answer, said, status)
+
+    def test_answers(self):
+        ended = "checked: ended status={0}\nraces: not looked for\nrun=ended status={0} runners=1 races=unchecked proved=no\n"
+        title = preview.UNPROVED
+        self.assertEqual(self.told("nodes: 1\n", ended.format(0), 0), (True, [f"{title}:", "  nodes: 1"]))
+        self.assertEqual(self.told("invalid\n", ended.format(1), 1), (True, [f"{title}; it ended with status 1:", "  invalid"]))
+        self.assertEqual(self.told("", "minorder: line 3: BadCube\n" + ended.format(3), 3),
+                         (True, [f"{title}; it ended with status 3: minorder: line 3: BadCube"]))
+        self.assertIn("OUT", self.told("nodes: 1\n", ended.format(0), 0, ["--cert", "o", "a"])[1][0])
+
+    def test_no_answers(self):
+        told = self.told("", "checked: fault: an index is out of bounds\nrun=fault proved=no\n", 4)
+        self.assertEqual(told, (False, ["no unproved answer comes: fault: an index is out of bounds"]))
+        told = self.told("", "error: no main\nrun=none proved=no\n", 1)
+        self.assertEqual(told, (False, ["no unproved answer comes: error: no main"]))
+        self.assertEqual(self.told("", "", 2), (False, ["no unproved answer comes: rt try ended with status 2"]))
+
+
+class Estimates(unittest.TestCase):
+    uses = {"base": [], "long": ["base"], "short": ["base"], "program": ["long", "short"]}
+    seconds = {"base": 30, "long": 90, "short": 20, "program": 10}
+
+    def test_the_longest_chain_or_all(self):
+        self.assertAlmostEqual(Estimate(self.seconds, self.uses, 4).seconds_left({}), 30 / 1.5 + 90 / 1.5 + 10)
+        self.assertAlmostEqual(Estimate(self.seconds, self.uses, 1).seconds_left({}), 2 * (20 + 60) + 20 + 10)
+
+    def test_it_follows_the_machine(self):
+        estimate = Estimate(self.seconds, self.uses, 4)
+        estimate.end_crate("base", 40)
+        self.assertAlmostEqual(estimate.seconds_left({}), 2 * (60 + 10))
+        self.assertAlmostEqual(estimate.seconds_left({"long": 100}), 40 + 20)
+        for crate in ("long", "short", "program"):
+            estimate.end_crate(crate, 1)
+        self.assertEqual(estimate.seconds_left({}), 0)
+
+    def test_what_was_kept_says_nothing_of_the_machine(self):
+        estimate = Estimate(self.seconds, self.uses, 4)
+        estimate.end_crate("base", 1)
+        self.assertAlmostEqual(estimate.seconds_left({}), 60 + 10)
+
+    def test_the_first_build(self):
+        crates = prove.needed("minorder", prove.named())
+        left = Estimate(seconds_of(prove.TOP, crates), prove.named(), 4).seconds_left({})
+        self.assertTrue(8 * 60 < left < 30 * 60, left)
+
+
+class Builds(unittest.TestCase):
+    """A repository of three crates, and a folder to call it from."""
+
+    def setUp(self):
+        self.room = pathlib.Path(tempfile.mkdtemp())
+        self.addCleanup(shutil.rmtree, self.room)
+        top = self.room / "top"
+        for crate in ("base", "middle", "minorder"):
+            (top / "crates" / crate / "src").mkdir(parents=True)
+        (top / "crates.txt").write_text("base:\nmiddle: base\nminorder: middle\n")
+        (top / "HANDLES").write_text("Handles allowed: none.\n")
+        (top / "build").mkdir()
+        for file in ("build/program.sh", "build/tools.sh", "minorder", *(f"build/{it.name}" for it in HERE.parent.glob("*.py"))):
+            shutil.copy(HERE.parent.parent / file, top / file)
+        for it in ("work", "temporary"):
+            (self.room / it).mkdir()
+        (self.room / "work" / "a.pla").touch()
+
+    def begin(self, *words, **given):
+        env = {it: value for it, value in os.environ.items() if it != preview.SWITCH}
+        env.update({"PATH": f"{HERE}:{os.environ['PATH']}", "TMPDIR": f"{self.room}/temporary", **given})
+        return subprocess.Popen([f"{self.room}/top/minorder", *words], cwd=self.room / "work", env=env, text=True,
+                                stdin=subprocess.DEVNULL, stdout=subprocess.PIPE, stderr=subprocess.PIPE)
+
+    def assert_clean(self):
+        self.assertEqual(os.listdir(self.room / "temporary"), [])
+        self.assertEqual(os.listdir(self.room / "work"), ["a.pla"])
+        self.assertEqual([str(it) for pattern in ("lanes-*", "**/new-*") for it in (self.room / "top").glob(pattern)], [])
+        self.assertEqual(preview.groups_of(f"{self.room}/temporary"), [])
+
+    @unittest.skipUnless(HAS_ROOM, "too little memory or one processor")
+    def test_an_answer_comes_before_the_proof(self):
+        with self.begin("--cert", "out", "a.pla", PROOF_SECONDS="1") as ran:
+            out, said = ran.communicate()
+        self.assertEqual((out, ran.returncode), ("proved: --cert out a.pla\n", 7))
+        self.assertIn("minorder:   words: --cert certificate 1/a.pla\n", said)
+        self.assertLess(said.index("minorder: not proved yet"), said.index("minorder is proved"))
+        self.assertIn("left: base is proved", said)
+        self.assert_clean()
+        with self.begin("a.pla") as ran:
+            self.assertEqual(ran.communicate(), ("proved: a.pla\n", ""))
+
+    def test_none_is_tried_where_it_is_turned_off(self):
+        with self.begin("a.pla", MINORDER_PREVIEW="no", TRY_SECONDS="60") as ran:
+            self.assertNotIn("unproved", ran.communicate()[1])
+        self.assert_clean()
+
+    @unittest.skipUnless(HAS_ROOM, "too little memory or one processor")
+    def test_a_proof_that_ends_first_ends_the_try(self):
+        with self.begin("a.pla", TRY_SECONDS="60") as ran:
+            out, said = ran.communicate()
+        self.assertEqual((out, "not proved yet" in said), ("proved: a.pla\n", False))
+        self.assert_clean()
+
+    @unittest.skipUnless(HAS_ROOM, "too little memory or one processor")
+    def test_a_refused_proof_leaves_the_answer_unproved(self):
+        with self.begin("a.pla", PROOF_SECONDS="1", REFUSED="minorder", TRY_STATUS="3") as ran:
+            out, said = ran.communicate()
+        self.assertEqual((out, ran.returncode), ("", 1))
+        self.assertIn("it ended with status 3: minorder: line 3: BadCube\n", said)
+        self.assertTrue(said.endswith("error: not proved\n\nminorder: the answer above stands unproved\n"), said)
+        self.assert_clean()
+
+    def test_an_interrupt_ends_both(self):
+        phases = {"try": {"TRY_SECONDS": "60", "PROOF_SECONDS": "60"}, "proof": {"PROOF_SECONDS": "60"}}
+        for phase, given in phases.items():
+            for number in (signal.SIGINT, signal.SIGTERM, signal.SIGHUP):
+                with self.subTest(phase=phase, signal=number), self.begin("--cert", "out", "a.pla", **given) as ran:
+                    time.sleep(1.5)
+                    ran.send_signal(number)
+                    ran.communicate(timeout=20)
+                    self.assertEqual(ran.returncode, -number)
+                    self.assert_clean()
+
+
+if __name__ == "__main__":
+    unittest.main()
