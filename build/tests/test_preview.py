@@ -127,6 +127,12 @@ class Estimates(unittest.TestCase):
         self.assertTrue(8 * 60 < left < 30 * 60, left)
 
 
+def heed_signals():
+    """A shell's background command, as .ci/run begins these tests, ignores interrupts, and what it begins does, too."""
+    for it in (signal.SIGINT, signal.SIGTERM, signal.SIGHUP):
+        signal.signal(it, signal.SIG_DFL)
+
+
 class Builds(unittest.TestCase):
     """A repository of three crates, and a folder to call it from."""
 
@@ -149,7 +155,7 @@ class Builds(unittest.TestCase):
         env = {it: value for it, value in os.environ.items() if it != preview.SWITCH}
         env.update({"PATH": f"{HERE}:{os.environ['PATH']}", "TMPDIR": f"{self.room}/temporary", **given})
         return subprocess.Popen([f"{self.room}/top/minorder", *words], cwd=self.room / "work", env=env, text=True,
-                                stdin=subprocess.DEVNULL, stdout=subprocess.PIPE, stderr=subprocess.PIPE)
+                                stdin=subprocess.DEVNULL, stdout=subprocess.PIPE, stderr=subprocess.PIPE, preexec_fn=heed_signals)
 
     def assert_clean(self):
         self.assertEqual(os.listdir(self.room / "temporary"), [])
