@@ -19,6 +19,13 @@ from costs import Estimate, seconds_of  # noqa: E402
 HAS_ROOM = prove.processors() > 1 and prove.free_gigabytes() >= prove.GIGABYTES_A_JOB + preview.GIGABYTES
 
 
+def folder_of(pid):
+    try:
+        return os.readlink(f"/proc/{pid}/cwd")
+    except OSError:
+        return ""
+
+
 class Words(unittest.TestCase):
     def assert_passed(self, words, wanted, files, makes_out=False):
         passed = preview.passed_on(words.split())
@@ -161,7 +168,7 @@ class Builds(unittest.TestCase):
         self.assertEqual(os.listdir(self.room / "temporary"), [])
         self.assertEqual(os.listdir(self.room / "work"), ["a.pla"])
         self.assertEqual([str(it) for pattern in ("lanes-*", "**/new-*") for it in (self.room / "top").glob(pattern)], [])
-        self.assertEqual(preview.groups_of(f"{self.room}/temporary"), [])
+        self.assertEqual([pid for pid in os.listdir("/proc") if folder_of(pid).startswith(f"{self.room}/")], [])
 
     @unittest.skipUnless(HAS_ROOM, "too little memory or one processor")
     def test_an_answer_comes_before_the_proof(self):
