@@ -48,7 +48,7 @@ int main(int count, char **arguments) {
     TIME(exact, minorder_exact(table, words, inputs, outputs, order, levels, &best));
     TIME(counted, minorder_levels(table, words, inputs, outputs, order, levels));
     TIME(sifting, (file_order(order, inputs), minorder_sift(table, words, inputs, outputs, order, levels, &sifted)));
-    printf("| %u | %u | %.3g | %.0f | %.2g | %.3g | %u | %u |\n", inputs, outputs, exact, 1e3 / exact, counted, sifting, best, sifted);
+    printf("| %u | %u | %.4g | %.0f | %.2g | %.4g | %u | %u |\n", inputs, outputs, exact, 1e3 / exact, counted, sifting, best, sifted);
     free(table);
     return 0;
 }
