@@ -1,55 +1,50 @@
--- Sets of a block and other sets behind them, with their rows.
---     of_byte_joined, members_joined      conditions on sets, of both parts
---     members_own      all members of a set are its members
---     rows_before      the rows of the first part
---     row_narrowed      a row of fewer members
---     RowsTo, rows_pushed, rows_all      rows found one after another
-use Rattle.std.proofs.Common.{◌≡◌, ℕ, ◌+◌, ◌-◌, ◌^◌, ◌<◌, ◌≤◌, cond, eqb, List, [], ◌∷◌, ◌++◌, length, length-append, slice_index, get_or, take, length-take, arith, eq-eqb, ne_eqb}
+-- Rows of a block's sets, from those of their low byte.
+--     block_of_byte      the sets of a block have its low byte
+--     row_of_byte      the row of a set of the byte, of some of the members that are wanted
+--     RowsTo, rows_none, rows_pushed, rows_all      rows found one after another
+use Rattle.std.proofs.Common.{◌≡◌, ℕ, ◌+◌, ◌*◌, ◌/◌, ◌%◌, ◌^◌, ◌<◌, cond, eqb, inl, inr, List, [], ◌∷◌, ◌++◌, length, length-append, slice_index, get_or, sym, ap, ◌∙◌, subst, arith, eq-eqb, ne_eqb}
 use Rattle.std.specs.Int.{bit_at}
 use Rattle.std.proofs.lemmas.Bool.{cases_lt, cases_eq}
-use Rattle.std.proofs.lemmas.Nat.Bits.{bit_at_above}
-use Rattle.std.proofs.lemmas.List.{get_or_append_left, get_or-append_right, get_or-take, get_or_push}
-use Rattle.order_model.specs.Problems.{TruthTables}
-use Rattle.order_model.proofs.Precedence.MaskLaws.{member_from}
+use Rattle.std.proofs.lemmas.List.{get_or_append_left, get_or_push}
+use Rattle.order_model.specs.Orders.{members, without}
+use Rattle.order_model.specs.Problems.{TruthTables, functions}
+use Rattle.order_model.specs.Widths.{width}
 use Rattle.order_model.proofs.Lists.Orders.{has_at}
 use Rattle.subset_layers.specs.Layers.{BlockOf, block_masks}
 use Rattle.subset_layers.proofs.BlockLists.{in_block}
-use Rattle.compaction.specs.Rows.{width_wanted, IsWidthRow, AreWidthRows, AreOfByte, AreMembers}
+use Rattle.compaction.specs.Requests.{asked}
+use Rattle.compaction.specs.Rows.{width_wanted, AreByteRows, HoldsWidths, IsWidthRow, AreWidthRows}
 
--- an element of one part or the other
-first_at : (xs ys : List ℕ) (i : ℕ) → i < length xs → slice_index (xs ++ ys) i ≡ slice_index xs i
-first_at xs ys i lt = get_or_append_left xs ys 0 i lt
-
-later_at : (xs ys : List ℕ) (n i : ℕ) → length xs ≡ n → n ≤ i → slice_index (xs ++ ys) i ≡ slice_index ys (i - n)
-later_at xs ys n i e le = get_or-append_right xs ys n i 0 e le
-
-pub of_byte_joined : (n low : ℕ) (xs ys : List ℕ) → AreOfByte n low xs → AreOfByte n low ys → AreOfByte n low (xs ++ ys)
-of_byte_joined n low xs ys a b i lt = grind (arith, cases_lt, first_at, length-append, later_at)
-
-pub block_of_byte : (b : BlockOf) → AreOfByte b.inputs b.low (block_masks b)
+pub block_of_byte : (b : BlockOf) (i : ℕ) → i < length (block_masks b) →
+    (slice_index (block_masks b) i < 2 ^ b.inputs) × (slice_index (block_masks b) i % 256 ≡ b.low)
 block_of_byte b i lt = in_block b (slice_index (block_masks b) i) (has_at (block_masks b) i lt)
 
--- a member is a variable
-below_inputs : (n mask x : ℕ) → mask < 2 ^ n → bit_at mask x ≡ 1 → x < n
-below_inputs n mask x lt bit = grind (arith, cases_lt, bit_at_above)
-
-pub members_own : (p : TruthTables) (low : ℕ) (ys : List ℕ) → p.inputs ≤ 16 → AreOfByte p.inputs low ys → AreMembers p ys ys
-members_own p low ys few a i lt x bit = member_from p.inputs (slice_index ys i) x (below_inputs p.inputs (slice_index ys i) x (a i lt).0 bit) bit
-
-pub members_joined : (p : TruthTables) (xs ns ys ms : List ℕ) → length ns ≡ length xs → AreMembers p xs ns → AreMembers p ys ms →
-    AreMembers p (xs ++ ys) (ns ++ ms)
-members_joined p xs ns ys ms e a b i lt x bit = grind (arith, cases_lt, first_at, length-append, later_at)
-
-pub rows_before : (p : TruthTables) (xs ns ys ms : List ℕ) (rows : List (List ℕ)) → length ns ≡ length xs →
-    AreWidthRows p (xs ++ ys) (ns ++ ms) rows → AreWidthRows p xs ns (take (length xs) rows)
-rows_before p xs ns ys ms rows e r = grind (arith, length-append, length-take, slice_index, get_or-take, first_at)
-
-pub row_narrowed : (p : TruthTables) (mask more needed : ℕ) (row narrow : List ℕ) → IsWidthRow p mask more row →
-    ((x : ℕ) → x < 16 → bit_at needed x ≡ 1 → bit_at more x ≡ 1) →
-    ((x : ℕ) → x < 16 → slice_index narrow x ≡ cond (eqb (bit_at needed x) 1) (slice_index row x) 0) →
-    IsWidthRow p mask needed narrow
+-- a row cut down to some of the members that are wanted
+row_narrowed : (p : TruthTables) (set more wanted : ℕ) (row narrow : List ℕ) → HoldsWidths p set more row →
+    ((x : ℕ) → bit_at wanted x ≡ 1 → bit_at more x ≡ 1) →
+    ((x : ℕ) → x < 16 → slice_index narrow x ≡ cond (eqb (bit_at wanted x) 1) (slice_index row x) 0) → IsWidthRow p set wanted narrow
 unfolding width_wanted
-row_narrowed p mask more needed row narrow is inside each x few = grind (arith, cases_eq, slice_index, eq-eqb, ne_eqb)
+row_narrowed p set more wanted row narrow holds inside each x few = elim (cases_eq (bit_at wanted x) 1) [
+  | inl one ↦
+      each x few
+      ∙ ap (λ b. cond b (slice_index row x) 0) (eq-eqb (bit_at wanted x) 1 one)
+      ∙ holds x few (inside x one)
+      ∙ ap (λ b. cond b (width p.inputs (functions p) (without x (members p.inputs set)) x) 0) (sym (eq-eqb (bit_at wanted x) 1 one))
+  | inr other ↦
+      each x few
+      ∙ ap (λ b. cond b (slice_index row x) 0) (ne_eqb (bit_at wanted x) 1 other)
+      ∙ ap (λ b. cond b (width p.inputs (functions p) (without x (members p.inputs set)) x) 0) (sym (ne_eqb (bit_at wanted x) 1 other))
+]
+
+pub row_of_byte : (p : TruthTables) (low : ℕ) (needed : List ℕ) (rows : List (List ℕ)) (set wanted : ℕ) (narrow : List ℕ) →
+    AreByteRows p low needed rows → set % 256 ≡ low → set / 256 < length needed →
+    ((x : ℕ) → bit_at wanted x ≡ 1 → bit_at (asked needed set) x ≡ 1) →
+    ((x : ℕ) → x < 16 → slice_index narrow x ≡ cond (eqb (bit_at wanted x) 1) (slice_index (get_or rows (set / 256) []) x) 0) →
+    IsWidthRow p set wanted narrow
+row_of_byte p low needed rows set wanted narrow are byte there inside each =
+    let e : set / 256 * 256 + low ≡ set = omega arith in
+    row_narrowed p set (asked needed set) wanted (get_or rows (set / 256) []) narrow
+    (subst (λ t. HoldsWidths p t (asked needed set) (get_or rows (set / 256) [])) e (are.are (set / 256) there)) inside each
 
 -- the rows of the first k sets
 pub record RowsTo (p : TruthTables) (masks needed : List ℕ) (k : ℕ) (rows : List (List ℕ)) : Type 0 where

@@ -1,5 +1,7 @@
 pub mod RowSteps
 pub mod Filled
+pub mod HighBytes
+pub mod Requested
 pub mod Joined
 pub mod JoinedTables
 pub mod OwnMembers

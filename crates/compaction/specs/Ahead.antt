@@ -1,19 +1,13 @@
 -- Widths that are found ahead of their layer.
---     RowsOf      some sets, and of each its row
 --     AheadOf      a problem, rows that were found ahead, and the size of the largest sets of which rows are to be found
---     AreAhead p rows      the rows hold the widths of all members, of a problem's variables
+--     AreAhead p rows      the rows hold what was wanted, of a problem's variables
 --     none_ahead p end      nothing is found
 --     widths_ahead found      how many widths the rows hold
 --     with_others found others      with what others found of the same problem
 use Rattle.std.specs.Prelude.{ℕ, List, [], ◌++◌, sum_by}
 use Rattle.std.specs.List.{All}
 use Rattle.order_model.specs.Problems.{TruthTables}
-use Rattle.compaction.specs.Rows.{AreWidthRows, wanted_count}
-
--- some sets, and of each its row
-pub record RowsOf : Type 0 where
-  pub masks : List ℕ
-  pub rows : List (List ℕ)
+use Rattle.compaction.specs.Rows.{HoldsRows, RowsOf, wanted_count}
 
 -- the functions, rows that were found ahead of the layers of their sets, and the size of the largest sets of which rows are to be found
 pub record AheadOf : Type 0 where
@@ -25,13 +19,13 @@ pub record AheadOf : Type 0 where
 abbrev pub none_ahead : TruthTables → ℕ → AheadOf
 none_ahead p end = record { problem = p; rows = []; end = end }
 
--- the rows hold the widths of all members of the sets
+-- the rows hold what was wanted of the sets
 abbrev pub AreAhead : TruthTables → List RowsOf → Type 0
-AreAhead p rows = All (λ r. AreWidthRows p r.masks r.masks r.rows) rows
+AreAhead p rows = All (HoldsRows p) rows
 
--- how many widths the rows hold: one for each member of each set
+-- how many widths the rows hold
 abbrev pub widths_ahead : AheadOf → ℕ
-widths_ahead found = sum_by (λ r. wanted_count r.masks) found.rows
+widths_ahead found = sum_by (λ r. wanted_count r.needed) found.rows
 
 -- with the rows that others found, of the same functions
 abbrev pub with_others : AheadOf → AheadOf → AheadOf

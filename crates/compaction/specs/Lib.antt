@@ -1,6 +1,8 @@
 pub mod Ahead
 pub mod Columns
+pub mod HighBytes
 pub mod Joining
+pub mod Requests
 pub mod Rows
 pub mod Strips
 pub mod Walks

@@ -4,11 +4,11 @@
 --     wanted_count needed      how many widths are wanted
 --     most_compactions      how many tables a block's widths take at most
 --     WidthsOf      the rows of a block, and how many compactions they took
---     AreOfByte inputs low masks      sets with one low byte
 --     AreMembersAmong inputs masks needed, AreMembers p masks needed      what is wanted of each set are its members
---     AreUnwanted masks needed set decided      nothing is wanted of the sets that agree with `set` in the decided variables
---     IsRowFilled p masks needed set old new      the row of one set is filled
-use Rattle.std.specs.Prelude.{◌≡◌, ◌≢◌, ℕ, ◌%◌, ◌^◌, ◌<◌, ◌==◌, IsTrue, List, [], if◌then◌else◌, sum_by, length, slice_index, get_or, count_ones, bit_and}
+--     HoldsWidths p set wanted row      a row holds the wanted widths
+--     RowsOf, AreByteRows p low needed rows, HoldsRows p r      rows of sets with one low byte, each at its high byte
+--     AreRowsFilled p low needed set decided old new, IsRowFilled p low needed set old new      some rows are filled; that of one set is
+use Rattle.std.specs.Prelude.{◌≡◌, ◌≢◌, ℕ, ◌+◌, ◌*◌, ◌<◌, ◌==◌, IsTrue, List, [], if◌then◌else◌, sum_by, length, slice_index, get_or, count_ones, bit_and}
 use Rattle.std.specs.Int.{bit_at}
 use Rattle.order_model.specs.Orders.{has, members, without}
 use Rattle.order_model.specs.Problems.{TruthTables, functions}
@@ -42,10 +42,6 @@ pub record WidthsOf : Type 0 where
   pub rows : List (List ℕ)
   pub compactions : ℕ
 
--- sets of n variables with one low byte
-abbrev pub AreOfByte : ℕ → ℕ → List ℕ → Type 0
-AreOfByte inputs low masks = (i : ℕ) → i < length masks → (slice_index masks i < 2 ^ inputs) × (slice_index masks i % 256 ≡ low)
-
 -- the variables that are wanted of each set are its members
 abbrev pub AreMembersAmong : ℕ → List ℕ → List ℕ → Type 0
 AreMembersAmong inputs masks needed = (i : ℕ) → i < length masks → (x : ℕ) → bit_at (slice_index needed i) x ≡ 1 →
@@ -54,24 +50,35 @@ AreMembersAmong inputs masks needed = (i : ℕ) → i < length masks → (x : �
 abbrev pub AreMembers : TruthTables → List ℕ → List ℕ → Type 0
 AreMembers p masks needed = AreMembersAmong p.inputs masks needed
 
--- the rows of the sets of which nothing is wanted hold zeros
-abbrev pub AreBlank : TruthTables → List ℕ → List ℕ → List (List ℕ) → Type 0
-AreBlank p masks needed rows = (i : ℕ) → i < length masks → slice_index needed i ≡ 0 →
-    IsWidthRow p (slice_index masks i) (slice_index needed i) (get_or rows i [])
+-- a row holds the widths of the members that are wanted
+abbrev pub HoldsWidths : TruthTables → ℕ → ℕ → List ℕ → Type 0
+HoldsWidths p set wanted row = (x : ℕ) → x < 16 → bit_at wanted x ≡ 1 →
+    slice_index row x ≡ width p.inputs (functions p) (without x (members p.inputs set)) x
 
--- the rows of the sets that agree with `set` in the decided variables hold their widths, and the others are as they were
-abbrev pub AreRowsFilled : TruthTables → List ℕ → List ℕ → ℕ → ℕ → List (List ℕ) → List (List ℕ) → Type 0
-AreRowsFilled p masks needed set decided old new = (i : ℕ) → i < length masks →
-    ((bit_and (slice_index masks i) decided ≡ set) → IsWidthRow p (slice_index masks i) (slice_index needed i) (get_or new i []))
-    × ((bit_and (slice_index masks i) decided ≢ set) → get_or new i [] ≡ get_or old i [])
+-- what is wanted of the sets of n variables with a low byte, each at its high byte, and their rows
+pub record RowsOf : Type 0 where
+  pub inputs : ℕ
+  pub low : ℕ
+  pub needed : List ℕ
+  pub rows : List (List ℕ)
 
--- nothing is wanted of the sets that agree with `set` in the decided variables
-abbrev pub AreUnwanted : List ℕ → List ℕ → ℕ → ℕ → Type 0
-AreUnwanted masks needed set decided = (i : ℕ) → i < length needed → bit_and (slice_index masks i) decided ≡ set →
-    slice_index needed i ≡ 0
+-- the rows hold what is wanted of the sets with a low byte
+pub record AreByteRows (p : TruthTables) (low : ℕ) (needed : List ℕ) (rows : List (List ℕ)) : Type 0 where
+  pub each : length rows ≡ length needed
+  pub are : (h : ℕ) → h < length needed → HoldsWidths p (h * 256 + low) (slice_index needed h) (get_or rows h [])
 
--- the row of one set holds its widths, and the others are as they were
-abbrev pub IsRowFilled : TruthTables → List ℕ → List ℕ → ℕ → List (List ℕ) → List (List ℕ) → Type 0
-IsRowFilled p masks needed set old new = (i : ℕ) → i < length masks →
-    ((slice_index masks i ≡ set) → IsWidthRow p set (slice_index needed i) (get_or new i []))
-    × ((slice_index masks i ≢ set) → get_or new i [] ≡ get_or old i [])
+pub record HoldsRows (p : TruthTables) (r : RowsOf) : Type 0 where
+  pub inputs : r.inputs ≡ p.inputs
+  pub rows : AreByteRows p r.low r.needed r.rows
+
+-- the rows of the sets that agree with `set` in the decided variables hold what is wanted of them, and the others are as they were
+abbrev pub AreRowsFilled : TruthTables → ℕ → List ℕ → ℕ → ℕ → List (List ℕ) → List (List ℕ) → Type 0
+AreRowsFilled p low needed set decided old new = (h : ℕ) → h < length needed →
+    ((bit_and (h * 256 + low) decided ≡ set) → HoldsWidths p (h * 256 + low) (slice_index needed h) (get_or new h []))
+    × ((bit_and (h * 256 + low) decided ≢ set) → get_or new h [] ≡ get_or old h [])
+
+-- the row of one set holds what is wanted of it, and the others are as they were
+abbrev pub IsRowFilled : TruthTables → ℕ → List ℕ → ℕ → List (List ℕ) → List (List ℕ) → Type 0
+IsRowFilled p low needed set old new = (h : ℕ) → h < length needed →
+    ((h * 256 + low ≡ set) → HoldsWidths p (h * 256 + low) (slice_index needed h) (get_or new h []))
+    × ((h * 256 + low ≢ set) → get_or new h [] ≡ get_or old h [])

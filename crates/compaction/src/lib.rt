@@ -7,12 +7,15 @@ mod blocks;
 mod bytes;
 mod classes;
 mod columns;
+mod high_bytes;
+mod low_tables;
 mod names;
 mod preparing;
 mod request;
 mod shared_tables;
 mod strips;
 mod tally;
+mod walking;
 
 pub use ahead::{WidthSource, WidthsAhead};
 pub use blocks::{BlockWidths, all_widths, block_widths};

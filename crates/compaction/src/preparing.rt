@@ -3,13 +3,13 @@
 
 ghost use Rattle.std.specs.Prelude.{◌≡◌, ◌+◌, ◌^◌, ◌<◌, ◌≤◌, All, length, vec_len, IfOk, OnOk};
 ghost use Rattle.compaction.specs.Ahead.{none_ahead, widths_ahead};
-ghost use Rattle.compaction.specs.Rows.{AreWidthRows};
+ghost use Rattle.compaction.specs.Rows.{HoldsRows};
 
-use crate::ahead::{ByteRows, Sizes, WidthsAhead, sets_of_byte};
-use crate::blocks::requested_rows;
-use crate::request::WidthRequest;
+use crate::ahead::WidthsAhead;
+use crate::request::{Sizes, WidthRequest};
 use crate::shared_tables::SharedTables;
 use crate::tally::Tally;
+use crate::walking::{ByteRows, walked_rows};
 use order_model::{Pairs, Problem, Workers};
 use std::alloc::{AllocError, Global};
 use std::marker::Model;
@@ -78,8 +78,8 @@ impl<'a> SharedTables<'a> {
         end: u8,
     ) -> Result<ByteRows, AllocError>
         requires { low < 2 ^ self.now.inputs }
-        ensures rows { IfOk result (λ b. AreWidthRows self.now b.masks b.masks b.rows) }
-        ensures few { IfOk result (λ b. length b.masks ≤ 2 ^ 8) }
+        ensures rows { IfOk result (λ b. HoldsRows self.now b) }
+        ensures few { IfOk result (λ b. length b.needed ≤ 2 ^ 8) }
     {
         let inputs = self.problem().inputs();
         prove!(inputs <= 16);
@@ -87,10 +87,9 @@ impl<'a> SharedTables<'a> {
             first: 1,
             last: u32::from(end),
         };
-        let masks = sets_of_byte(alloc, inputs, low, pairs, sizes)?;
-        let request = WidthRequest::new(inputs, low, &masks, &masks);
-        let rows = requested_rows(alloc, self, &request)?.into_rows();
-        Ok(ByteRows { low, masks, rows })
+        let request = WidthRequest::of_sizes(alloc, inputs, low, pairs, sizes)?;
+        let (byte, _) = walked_rows(alloc, self, request)?;
+        Ok(byte)
     }
 
     /// The rows of the low bytes that a thread comes to take.

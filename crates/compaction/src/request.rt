@@ -1,118 +1,139 @@
 //! What is wanted of sets with one low byte.
 
-ghost use Rattle.std.specs.Prelude.{◌≡◌, ℕ, ◌+◌, ◌^◌, ◌<◌, ◌≤◌, IsFalse, length, IfSome, IsNone};
+ghost use Rattle.std.specs.Prelude.{◌≡◌, ℕ, ◌^◌, ◌%◌, ◌<◌, ◌≤◌, length, slice_index, IfOk, IsTrue};
 ghost use Rattle.std.specs.Int.{bit_at};
-ghost use Rattle.compaction.specs.Rows.{AreMembersAmong, AreOfByte, AreUnwanted};
+ghost use Rattle.subset_layers.specs.Layers.{block_masks};
+ghost use Rattle.compaction.specs.Requests.{AreMembersOf, IsRequest, Asks, asked};
+ghost use Rattle.compaction.specs.Rows.{AreMembersAmong};
 
-use order_model::{Mask, VarIx, contains};
+use order_model::{Mask, Pairs};
+use std::alloc::{AllocError, Global};
+use subset_layers::Block;
 
-/// Sets of so many variables with one low byte, and of each the members whose widths are wanted.
+/// Of each set of so many variables with one low byte, at its high byte, the members whose widths
+/// are wanted.
 #[derive(Drop)]
-pub(crate) struct WidthRequest<'a> {
+pub(crate) struct WidthRequest {
     pub(crate) inputs: u8,
     pub(crate) low: u8,
-    pub(crate) masks: &'a [Mask],
-    pub(crate) needed: &'a [Mask],
-    /// Something is wanted of each set.
-    is_whole: bool,
+    pub(crate) needed: Vec<Mask>,
     ghost few: { inputs ≤ 16 },
-    ghost byte: { AreOfByte inputs low masks.now },
-    ghost long: { length needed.now ≡ length masks.now },
-    ghost members: { AreMembersAmong inputs masks.now needed.now },
+    ghost request: { IsRequest inputs low needed.items },
 }
 
-impl<'a> WidthRequest<'a> {
-    /// The masks in `needed` belong to the sets at the same places of `masks`.
-    pub(crate) fn new(
-        inputs: u8,
-        low: u8,
-        masks: &'a [Mask],
-        needed: &'a [Mask],
-    ) -> WidthRequest<'a>
-        requires few { inputs ≤ 16 }
-        requires byte { AreOfByte inputs low masks.now }
-        requires long { length needed.now ≡ length masks.now }
-        requires members { AreMembersAmong inputs masks.now needed.now }
-        ensures inputs { result.inputs ≡ inputs }
-        ensures low { result.low ≡ low }
-        ensures masks { result.masks.now ≡ masks.now }
-        ensures needed { result.needed.now ≡ needed.now }
+/// From the first of some sizes to the last one.
+#[derive(Clone, Copy)]
+pub(crate) struct Sizes {
+    pub(crate) first: u32,
+    pub(crate) last: u32,
+}
+
+impl WidthRequest {
+    /// Nothing is wanted.
+    pub(crate) fn none(alloc: Global, inputs: u8, low: u8) -> Result<WidthRequest, AllocError>
+        requires inputs { inputs ≤ 16 }
+        requires low { low < 2 ^ inputs }
+        ensures inputs { IfOk result (λ w. w.inputs ≡ inputs) }
+        ensures low { IfOk result (λ w. w.low ≡ low) }
     {
-        WidthRequest {
+        let highs = 1usize << inputs.saturating_sub(8);
+        Ok(WidthRequest {
             inputs,
             low,
-            masks,
-            needed,
-            is_whole: !needed.contains(&0),
-        }
+            needed: vec![in alloc; 0; highs]?,
+        })
     }
 
-    /// Whether something is wanted of a set that agrees with `set` in the decided variables.
-    pub(crate) fn has_any(&self, set: Mask, decided: Mask) -> bool
-        ensures { IsFalse result →
-            AreUnwanted self.now.masks.now self.now.needed.now set decided }
+    /// The same is wanted.
+    pub(crate) fn try_clone(&self, alloc: Global) -> Result<WidthRequest, AllocError>
+        ensures inputs { IfOk result (λ w. w.inputs ≡ self.now.inputs) }
+        ensures low { IfOk result (λ w. w.low ≡ self.now.low) }
+        ensures needed { IfOk result (λ w. w.needed.items ≡ self.now.needed.items) }
     {
-        for (i, needed) in self.needed.iter().enumerate() {
-            if *needed != 0 && self.masks[i] & decided == set {
-                return true;
-            }
-        }
-        false
+        Ok(WidthRequest {
+            inputs: self.inputs,
+            low: self.low,
+            needed: self.needed.to_vec(alloc)?,
+        })
     }
 
-    /// How many of the wanted sets that agree with `set` in the decided variables have each
-    /// variable.
-    fn count_members(&self, set: Mask, decided: Mask) -> [u16; 16] {
-        let mut counts = [0u16; 16];
-        for (i, needed) in self.needed.iter().enumerate() {
-            let mask = self.masks[i];
-            if *needed != 0 && mask & decided == set {
-                for y in 0..16 {
-                    let count = &mut counts[usize::from(y)];
-                    *count = count.wrapping_add(u16::from(contains(mask, y)));
-                }
-            }
-        }
-        counts
-    }
-
-    /// The undecided variable that most of the wanted sets have; nothing if all are decided.
-    /// Tables halve with each variable, so what most sets share is made first. If all sets are
-    /// wanted any order serves, and the last two variables aren't worth the count.
-    pub(crate) fn next_variable(&self, set: Mask, decided: Mask) -> Option<VarIx>
-        ensures undecided { IfSome result
-            (λ y. (y < self.now.inputs) × (bit_at decided y ≡ 0)) }
-        ensures all { IsNone result →
-            (y : ℕ) → y < self.now.inputs → bit_at decided y ≡ 1 }
+    /// Some members of a set are wanted, too.
+    pub(crate) fn add(&mut self, set: Mask, members: Mask)
+        requires set { set < 2 ^ self.old.inputs }
+        requires byte { set % 256 ≡ self.old.low }
+        requires members { AreMembersOf self.old.inputs set members }
+        ensures inputs { self.new.inputs ≡ self.old.inputs }
+        ensures low { self.new.low ≡ self.old.low }
+        ensures long { length self.new.needed.items ≡ length self.old.needed.items }
+        ensures added { (x : ℕ) → bit_at members x ≡ 1 →
+            bit_at (asked self.new.needed.items set) x ≡ 1 }
+        ensures kept { (h x : ℕ) → bit_at (slice_index self.old.needed.items h) x ≡ 1 →
+            bit_at (slice_index self.new.needed.items h) x ≡ 1 }
     {
-        let inputs = self.inputs;
-        if self.is_whole || decided.count_ones() + 2 >= u32::from(inputs) {
-            return first_undecided(inputs, decided);
+        self.needed[usize::from(set >> 8)] |= members;
+    }
+
+    /// Some members of a block's sets are wanted, too.
+    pub(crate) fn add_block(&mut self, block: &Block, needed: &[Mask])
+        requires inputs { block.now.inputs ≡ self.old.inputs }
+        requires low { block.now.low ≡ self.old.low }
+        requires needed { length needed.now ≡ length (block_masks block.now) }
+        requires members { AreMembersAmong self.old.inputs (block_masks block.now) needed.now }
+        ensures inputs { self.new.inputs ≡ self.old.inputs }
+        ensures low { self.new.low ≡ self.old.low }
+        ensures long { length self.new.needed.items ≡ length self.old.needed.items }
+        ensures added { Asks self.new.needed.items (block_masks block.now) needed.now }
+        ensures kept { (h x : ℕ) → bit_at (slice_index self.old.needed.items h) x ≡ 1 →
+            bit_at (slice_index self.new.needed.items h) x ≡ 1 }
+    {
+        for (i, mask) in block.masks().iter().enumerate() {
+            self.add(*mask, needed[i]);
         }
-        let counts = self.count_members(set, decided);
-        let mut next = None;
-        let mut most = 0;
-        for y in 0..inputs {
-            let count = counts[usize::from(y)];
-            if !contains(decided, y) && (next.is_none() || count > most) {
-                next = Some(y);
-                most = count;
+    }
+
+    /// All members of the sets of some sizes that are in orders with the pairs.
+    pub(crate) fn of_sizes(
+        alloc: Global,
+        inputs: u8,
+        low: u8,
+        pairs: &Pairs,
+        sizes: Sizes,
+    ) -> Result<WidthRequest, AllocError>
+        requires inputs { inputs ≤ 16 }
+        requires low { low < 2 ^ inputs }
+        ensures inputs { IfOk result (λ w. w.inputs ≡ inputs) }
+        ensures low { IfOk result (λ w. w.low ≡ low) }
+    {
+        let mut request = WidthRequest::none(alloc, inputs, low)?;
+        let limit = 1u32 << inputs;
+        let highs = (limit / 256).clamp(1, 256) as Mask;
+        for high in 0..highs {
+            let set = high * 256 + Mask::from(low);
+            let size = set.count_ones();
+            if sizes.first <= size
+                && size <= sizes.last
+                && u32::from(set) < limit
+                && pairs.lawful(set)
+            {
+                request.add(set, set);
             }
         }
-        next
+        Ok(request)
     }
-}
 
-/// The first undecided variable; nothing if all are decided.
-fn first_undecided(inputs: u8, decided: Mask) -> Option<VarIx>
-    requires { inputs ≤ 16 }
-    ensures undecided { IfSome result (λ y. (y < inputs) × (bit_at decided y ≡ 0)) }
-    ensures all { IsNone result → (y : ℕ) → y < inputs → bit_at decided y ≡ 1 }
-{
-    for y in 0..inputs {
-        if !contains(decided, y) {
-            return Some(y);
+    /// Whether all that is wanted of a block's sets is asked for.
+    pub(crate) fn has_block(&self, block: &Block, needed: &[Mask]) -> bool
+        requires needed { length needed.now ≡ length (block_masks block.now) }
+        ensures { IsTrue result → Asks self.now.needed.items (block_masks block.now) needed.now }
+    {
+        for (i, mask) in block.masks().iter().enumerate() {
+            let Some(members) = self.needed.get(usize::from(*mask >> 8)) else {
+                return false;
+            };
+            if needed[i] & *members != needed[i] {
+                return false;
+            }
         }
+        true
     }
-    None
 }

@@ -1,16 +1,25 @@
-use Rattle.std.proofs.Common.{◌≡◌, ◌++◌, List, ℕ, refl, length, take, sym, ap, ◌∙◌, subst, arith}
-use Rattle.subset_layers.specs.Layers.{block_masks}
-use Rattle.compaction.specs.Rows.{AreWidthRows}
-use Rattle.compaction.proofs.Joined.{rows_before}
+use Rattle.std.proofs.Common.{◌≡◌, ℕ, List, length, slice_index, sym, ap, ◌∙◌, subst}
+use Rattle.std.specs.Int.{bit_at}
+use Rattle.compaction.specs.Rows.{AreByteRows, HoldsRows, RowsOf}
+use Rattle.compaction.proofs.Filled.{rows_of_some}
 use Rattle.compaction.proofs.shared_tables.SharedTables.widths_with.Goals as goal
 
 pub returns-clause-others : goal.returns-clause-others
 returns-clause-others c =
     let p = c.args.self.now in
-    let later = c.args.later.items in
-    let rows = c.in_ok-widths.widths.rows in
-    let all = subst (λ (ms : List ℕ). AreWidthRows p (ms ++ block_masks c.args.block.now) (ms ++ c.args.needed.now) rows) c.deref.ensures.value
-    c.in_ok-widths.ensures.rows in
-    let count : c.len.result ≡ length later = (let a = c.len.ensures in let b = c.args.later.ok in omega arith) in
-    subst (AreWidthRows p later later) (sym (c.into_rows.ensures ∙ c.in_ok-own.ensures.rows ∙ ap (λ n. take n rows) count))
-    (rows_before p later later (block_masks c.args.block.now) c.args.needed.now rows refl all)
+    let later = c.args.later.needed.items in
+    let held = subst (HoldsRows p) (sym c.byte.view_is) c.in_ok-byte.ensures.rows in
+    let low : c.byte.inside.request.low ≡ c.args.later.low =
+    ap (λ (r : RowsOf). r.low) c.byte.view_is ∙ c.in_ok-byte.ensures.low ∙ c.add_block.ensures.low ∙ c.in_ok-request.ensures.low in
+    let needed : c.byte.inside.request.needed.items ≡ c.add_block.new.self.needed.items =
+    ap (λ (r : RowsOf). r.needed) c.byte.view_is ∙ c.in_ok-byte.ensures.needed in
+    record {
+      inputs = c.requires.inputs ∙ c.requires.asked.inputs;
+      rows =
+          rows_of_some p c.args.later.low c.add_block.new.self.needed.items later c.byte.inside.rows.items
+          (c.add_block.ensures.long ∙ ap (λ (xs : List ℕ). length xs) c.in_ok-request.ensures.needed)
+          (λ h x one. c.add_block.ensures.kept h x
+          (subst (λ (xs : List ℕ). bit_at (slice_index xs h) x ≡ 1) (sym c.in_ok-request.ensures.needed) one))
+          (subst (λ (xs : List ℕ). AreByteRows p c.args.later.low xs c.byte.inside.rows.items) needed
+          (subst (λ l. AreByteRows p l c.byte.inside.request.needed.items c.byte.inside.rows.items) low held.rows));
+    }

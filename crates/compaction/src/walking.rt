@@ -1,0 +1,251 @@
+//! A walk over the high variables, from the table of a low byte.
+
+ghost use Rattle.std.specs.Prelude.{◌≡◌, ℕ, ◌+◌, ◌-◌, ◌^◌, ◌<◌, ◌≤◌, length, IfOk, IfSome, IsNone, OnOk, bit_or};
+ghost use Rattle.std.specs.Int.{bit_at};
+ghost use Rattle.class_laws.specs.Table.{classes_of, free_below};
+ghost use Rattle.compaction.specs.Rows.{AreByteRows, HoldsRows, most_compactions};
+ghost use Rattle.compaction.specs.Strips.{low_variables as low_of};
+ghost use Rattle.compaction.specs.Walks.{AreWanted, FillsOwn, FillsRows, HasDecided};
+
+use crate::high_bytes::HighBytes;
+use crate::low_tables::low_strips;
+use crate::names::AllNamePairs;
+use crate::request::WidthRequest;
+use crate::shared_tables::SharedTables;
+use crate::strips::{Strips, low_variables};
+use order_model::{Mask, Problem, VarIx, contains};
+use std::alloc::{AllocError, Global};
+use std::marker::Model;
+
+/// Where a walk stands: the variables that are decided, and the high bytes of the wanted sets that
+/// agree with its table's set in them.
+#[derive(Clone, Copy)]
+struct Branch {
+    decided: Mask,
+    wanted: HighBytes,
+}
+
+/// The first undecided variable; nothing if all are decided.
+fn first_undecided(inputs: u8, decided: Mask) -> Option<VarIx>
+    requires { inputs ≤ 16 }
+    ensures undecided { IfSome result (λ y. (y < inputs) × (bit_at decided y ≡ 0)) }
+    ensures all { IsNone result → (y : ℕ) → y < inputs → bit_at decided y ≡ 1 }
+{
+    for y in 0..inputs {
+        if !contains(decided, y) {
+            return Some(y);
+        }
+    }
+    None
+}
+
+impl Branch {
+    /// How many of the wanted sets have a high variable.
+    fn count_with(&self, y: VarIx) -> u32
+        requires { y < 16 }
+    {
+        if y < 8 || contains(self.decided, y) {
+            return 0;
+        }
+        self.wanted.with(y % 8).count()
+    }
+
+    /// The undecided variable that most of the wanted sets have; nothing if all are decided.
+    /// Tables halve with each variable, so what most sets share is made first. The last two
+    /// variables aren't worth the count.
+    fn next_variable(&self, inputs: u8) -> Option<VarIx>
+        requires { inputs ≤ 16 }
+        ensures undecided { IfSome result
+            (λ y. (y < inputs) × (bit_at self.now.decided y ≡ 0)) }
+        ensures all { IsNone result →
+            (y : ℕ) → y < inputs → bit_at self.now.decided y ≡ 1 }
+    {
+        let decided = self.decided;
+        if decided.count_ones() + 2 >= u32::from(inputs) {
+            return first_undecided(inputs, decided);
+        }
+        let mut next = None;
+        let mut most = 0;
+        for y in 0..inputs {
+            let count = self.count_with(y);
+            if !contains(decided, y) && (next.is_none() || count > most) {
+                next = Some(y);
+                most = count;
+            }
+        }
+        next
+    }
+}
+
+/// A set with one more member.
+fn with_member(set: Mask, y: VarIx) -> Mask
+    requires { y < 16 }
+    ensures { result ≡ bit_or set (2 ^ y) }
+{
+    set | (1 << y)
+}
+
+/// Fills the row of the table's own set.
+fn fill_row(
+    alloc: Global,
+    table: &Strips<'_>,
+    request: &WidthRequest,
+    rows: &mut [[u32; 16]],
+) -> Result<(), AllocError>
+    requires inputs { request.now.inputs ≡ table.now.problem.inputs }
+    requires rows { length rows.old ≡ length request.now.needed.items }
+    ensures { OnOk result (FillsOwn table.now request.now rows.old rows.new) }
+{
+    let set = table.set();
+    let high = usize::from(set >> 8);
+    if set % 256 == Mask::from(request.low) && high < rows.len() {
+        rows[high] = table.width_row(alloc, request.needed[high])?;
+    }
+    Ok(())
+}
+
+/// Fills the rows of the wanted sets that agree with the table's in the decided variables, by a
+/// walk over the others. The answer is how many tables were compacted.
+fn walk(
+    alloc: Global,
+    table: &Strips<'_>,
+    names: &AllNamePairs,
+    branch: &Branch,
+    request: &WidthRequest,
+    rows: &mut [[u32; 16]],
+) -> Result<u32, AllocError>
+    requires inputs { request.now.inputs ≡ table.now.problem.inputs }
+    requires decided { HasDecided table.now branch.now.decided }
+    requires wanted { AreWanted request.now table.now.set branch.now.decided branch.now.wanted.words }
+    requires rows { length rows.old ≡ length request.now.needed.items }
+    ensures rows { OnOk result (FillsRows table.now branch.now.decided request.now rows.old rows.new) }
+    ensures compactions { IfOk result
+        (λ count. count + 1 ≤ 2 ^ free_below branch.now.decided table.now.problem.inputs) }
+{
+    if branch.wanted.is_empty() {
+        return Ok(0);
+    }
+    let Some(y) = branch.next_variable(request.inputs) else {
+        fill_row(alloc, table, request, rows)?;
+        return Ok(0);
+    };
+    let decided = with_member(branch.decided, y);
+    let without = Branch {
+        decided,
+        wanted: branch.wanted.without(y % 8),
+    };
+    let before = walk(alloc, table, names, &without, request, rows)?;
+    let with = Branch {
+        decided,
+        wanted: branch.wanted.with(y % 8),
+    };
+    if with.wanted.is_empty() {
+        return Ok(before);
+    }
+    let next = table.add_high(alloc, y, names.at(table.set(), y))?;
+    let after = walk(alloc, &next, names, &with, request, rows)?;
+    Ok(before + after + 1)
+}
+
+/// All low variables, as a mask.
+fn low_mask(problem: &Problem) -> Mask
+    ensures { result ≡ 2 ^ low_of problem.now - 1 }
+{
+    (1 << low_variables(problem)) - 1
+}
+
+/// Fills the rows of what is wanted from the table of the low byte. Returns how many tables were
+/// compacted.
+fn walk_from(
+    alloc: Global,
+    shared: &SharedTables<'_>,
+    table: &Strips<'_>,
+    request: &WidthRequest,
+    rows: &mut [[u32; 16]],
+) -> Result<u32, AllocError>
+    requires inputs { request.now.inputs ≡ shared.now.inputs }
+    requires table { table.now ≡ classes_of shared.now request.now.low }
+    requires rows { length rows.old ≡ length request.now.needed.items }
+    ensures rows { OnOk result
+        (AreByteRows shared.now request.now.low request.now.needed.items rows.new) }
+    ensures compactions { IfOk result
+        (λ count. count + 1 ≤ 2 ^ (shared.now.inputs - low_of shared.now)) }
+{
+    let branch = Branch {
+        decided: low_mask(shared.problem()),
+        wanted: HighBytes::wanted(&request.needed),
+    };
+    let count = walk(alloc, table, shared.names(), &branch, request, rows)?;
+    Ok(count)
+}
+
+/// Fills the rows of what is wanted. The table of the low byte is made here if it wasn't
+/// beforehand. The answer is how many tables the walk compacted.
+fn fill_rows(
+    alloc: Global,
+    shared: &SharedTables<'_>,
+    request: &WidthRequest,
+    rows: &mut [[u32; 16]],
+) -> Result<u32, AllocError>
+    requires inputs { request.now.inputs ≡ shared.now.inputs }
+    requires rows { length rows.old ≡ length request.now.needed.items }
+    ensures rows { OnOk result
+        (AreByteRows shared.now request.now.low request.now.needed.items rows.new) }
+    ensures compactions { IfOk result
+        (λ count. count + 1 ≤ 2 ^ (shared.now.inputs - low_of shared.now)) }
+{
+    let low = Mask::from(request.low);
+    if let Some(table) = shared.table(low) {
+        return walk_from(alloc, shared, table, request, rows);
+    }
+    let table = low_strips(alloc, shared, low)?;
+    walk_from(alloc, shared, &table, request, rows)
+}
+
+/// The rows of sets with one low byte: of each set, at its high byte, the widths of the members
+/// that are wanted.
+#[derive(Drop)]
+pub(crate) struct ByteRows {
+    pub(crate) request: WidthRequest,
+    pub(crate) rows: Vec<[u32; 16]>,
+}
+
+impl Model for ByteRows {
+    ghost use Rattle.compaction.specs.Requests.{IsRequest};
+    ghost use Rattle.compaction.specs.Rows.{RowsOf};
+
+    ghost Value = { RowsOf };
+
+    ghost view = { λ b. record {
+      inputs = b.request.inputs;
+      low = b.request.low;
+      needed = b.request.needed.items;
+      rows = b.rows.items;
+    } };
+
+    ghost invariant = { λ b. IsRequest b.request.inputs b.request.low b.request.needed.items };
+}
+
+/// The rows of what is wanted, and how many tables were compacted. The table of the low byte is
+/// made once, and the others by a walk over the high variables that shares common beginnings. If
+/// nothing is wanted no table is made.
+pub(crate) fn walked_rows(
+    alloc: Global,
+    shared: &SharedTables<'_>,
+    request: WidthRequest,
+) -> Result<(ByteRows, u32), AllocError>
+    requires { request.inputs ≡ shared.now.inputs }
+    ensures low { IfOk result (λ r. r.0.low ≡ request.low) }
+    ensures needed { IfOk result (λ r. r.0.needed ≡ request.needed.items) }
+    ensures rows { IfOk result (λ r. HoldsRows shared.now r.0) }
+    ensures compactions { IfOk result (λ r. r.1 ≤ most_compactions) }
+{
+    prove!(shared.problem().inputs() <= 16);
+    let mut rows = vec![in alloc; [0; 16]; request.needed.len()]?;
+    if HighBytes::wanted(&request.needed).is_empty() {
+        return Ok((ByteRows { request, rows }, 0));
+    }
+    let walked = fill_rows(alloc, shared, &request, &mut rows)?;
+    let compactions = request.low.count_ones() + walked;
+    Ok((ByteRows { request, rows }, compactions))
+}
