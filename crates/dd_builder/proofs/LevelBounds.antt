@@ -108,7 +108,9 @@ module _ (n : ℕ) where
       (code_same vs (restrict v true g) (restrict v true h) both.1 (set p v false) long else_zero) (bit p v) refl
     where
       both : (code vs (restrict v false g) ≡ code vs (restrict v false h)) × (code vs (restrict v true g) ≡ code vs (restrict v true h))
-      both = parts_same (tail (length vs)) (code vs (restrict v false g)) (code vs (restrict v true g)) (code vs (restrict v false h)) (code vs (restrict v true h))
+      both =
+          parts_same (tail (length vs)) (code vs (restrict v false g)) (code vs (restrict v true g)) (code vs (restrict v false h))
+          (code vs (restrict v true h))
           (code_small vs (restrict v true g)) (code_small vs (restrict v true h)) e
 
       long : length (set p v false) ≡ n

@@ -117,7 +117,9 @@ module _ (set x : ℕ) (low : IsLowest set x) where
           let a = set / 2 ^ k in
           let s : set ≡ a * 2 ^ k = omega (arith, div-add-mod' set (2 ^ k), e) in
           let w : 2 ^ k ≡ 2 ^ (k - x - 1) * (2 * 2 ^ x) =
-          ap (λ i. 2 ^ i) (let i : k ≡ (k - x - 1) + (1 + x) = omega arith in i) ∙ pow-add 2 (k - x - 1) (1 + x) ∙ ap (λ i. 2 ^ (k - x - 1) * i) (pow-add 2 1 x) in
+          ap (λ i. 2 ^ i) (let i : k ≡ (k - x - 1) + (1 + x) = omega arith in i)
+          ∙ pow-add 2 (k - x - 1) (1 + x)
+          ∙ ap (λ i. 2 ^ (k - x - 1) * i) (pow-add 2 1 x) in
           let whole : set ≡ ((a * 2 ^ (k - x - 1)) * 2) * 2 ^ x = s ∙ ap (λ i. a * i) w ∙ omega arith in
           let even : high ≡ (a * 2 ^ (k - x - 1)) * 2 = ap (λ i. i / 2 ^ x) whole ∙ quotient ((a * 2 ^ (k - x - 1)) * 2) (2 ^ x) (pow_pos x) in
           let r = ap (λ i. i % 2) even ∙ multiple (a * 2 ^ (k - x - 1)) 2 (omega arith) in

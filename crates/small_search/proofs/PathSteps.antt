@@ -28,7 +28,8 @@ use Rattle.small_search.proofs.LowestVariables.{IsLowest, no_ones, parent_back, 
 abbrev pub Holds : TruthTables → ℕ → Numbered → Type 0
 Holds p mask t = HoldsClasses (classes_of p mask) t.numbers.items t.masks.items
 
-pub path_start : (p : TruthTables) (tables : List Numbered) → length tables ≡ p.inputs + 1 → ((d : Numbered) → Holds p 0 (get_or tables 0 d)) → HoldPath p 0 tables
+pub path_start : (p : TruthTables) (tables : List Numbered) → length tables ≡ p.inputs + 1 →
+    ((d : Numbered) → Holds p 0 (get_or tables 0 d)) → HoldPath p 0 tables
 path_start p tables many first = record { many = many; each = λ k d. at k (0 / 2 ^ k) d (zero-div (2 ^ k)) }
   where
     at : (k part : ℕ) (d : Numbered) → part ≡ 0 → Holds p (part * 2 ^ k) (get_or tables (count_ones part) d)
@@ -71,7 +72,8 @@ module _ (p : TruthTables) (mask x size : ℕ) (tables : List Numbered) (low : I
   parent_ready d = is_ready parent x inside new _ _ x (parent_holds d) (sym rank_is)
 
   module _ (d t : Numbered)
-      (made : NumbersPairs (get_or tables (size - 1) d).masks.items x (pairs (get_or tables (size - 1) d).numbers.items (2 ^ x)) t.numbers.items t.masks.items) where
+      (made : NumbersPairs (get_or tables (size - 1) d).masks.items x (pairs (get_or tables (size - 1) d).numbers.items (2 ^ x)) t.numbers.items
+      t.masks.items) where
     set_holds : Holds p mask t
     set_holds =
         let numbers = (get_or tables (size - 1) d).numbers.items in

@@ -10,7 +10,8 @@ use Rattle.solutions.specs.FlatCells.{AreFlatCells, no_cell}
 use Rattle.solutions.specs.Solutions.{cost_for}
 
 -- the cell at a mask, whatever stands for one that is not there
-there : (t : Setting) (cells : List Cell) (mask : ℕ) (d : Cell) → AreFlatCells t cells → mask < 2 ^ t.problem.inputs → get_or cells mask d ≡ get_or cells mask no_cell
+there : (t : Setting) (cells : List Cell) (mask : ℕ) (d : Cell) → AreFlatCells t cells → mask < 2 ^ t.problem.inputs →
+    get_or cells mask d ≡ get_or cells mask no_cell
 there t cells mask d h small =
     sym (get_or_from_slice_get cells mask (get_or cells mask d) no_cell (slice_get-get_or cells mask d (let m = h.many in omega (arith, m, small))))
 

@@ -80,7 +80,8 @@ filter_alike p q (x ∷ xs) h =
 pub asked_alike : (n : ℕ) (r : Reserve) (bound mask : ℕ) (f g : ℕ → ℕ) → ((y : ℕ) → has (members n mask) y ≡ true → f y ≡ g y) →
     asked n r bound mask f ≡ asked n r bound mask g
 unfolding asked candidates
-asked_alike n Variables bound mask f g h = filter_alike (λ x. nat_le (f x) bound) (λ x. nat_le (g x) bound) (members n mask) (λ y m. ap (λ k. nat_le k bound) (h y m))
+asked_alike n Variables bound mask f g h =
+    filter_alike (λ x. nat_le (f x) bound) (λ x. nat_le (g x) bound) (members n mask) (λ y m. ap (λ k. nat_le k bound) (h y m))
 asked_alike n Widths bound mask f g h =
     ap (λ xs. if nat_eq (length xs) 0 then [] else members n mask)
     (filter_alike (λ x. nat_le (f x) bound) (λ x. nat_le (g x) bound) (members n mask) (λ y m. ap (λ k. nat_le k bound) (h y m)))

@@ -49,7 +49,8 @@ loop-x-preserved c =
           ∙ ap (λ o. unwrap_or o 0) (sym w.cost_of.ensures.value ∙ w.unwrap-cost.ensures) in
           subst (λ (m : ℕ). MaskOfFirst test (c.loop-x.x + 1) m) (sym w.found-is)
           (mask_without_next test c.loop-x.x c.loop-x.found small c.loop-x.invariant
-          (affordable_dear (cost_without costs c.args.mask) c.args.bound c.args.mask c.loop-x.x w.unwrap-cost.result is (let t = w.if-cost-bound.false in omega arith)))
+          (affordable_dear (cost_without costs c.args.mask) c.args.bound c.args.mask c.loop-x.x w.unwrap-cost.result is
+          (let t = w.if-cost-bound.false in omega arith)))
       | else-contains w ↦
           subst (λ (m : ℕ). MaskOfFirst test (c.loop-x.x + 1) m) (sym w.found-is)
           (mask_without_next test c.loop-x.x c.loop-x.found small c.loop-x.invariant

@@ -15,7 +15,8 @@ returns-then-lawful c =
     let s = c.setting.inside in
     let b = c.args.before.now in
     let low = ap (λ n. is_lawful s.pairs.now.pairs (members n c.args.mask)) (sym c.setting.invariant.pairs) ∙ sym c.lawful.ensures ∙ c.if-lawful.true in
-    c.asked_members.ensures b.inputs s.limit.bound (cost_without b c.args.mask) c.affordable_members-known.ensures (has_masks b.inputs (b.size + 1) c.args.mask c.requires.next).0
+    c.asked_members.ensures b.inputs s.limit.bound (cost_without b c.args.mask) c.affordable_members-known.ensures
+    (has_masks b.inputs (b.size + 1) c.args.mask c.requires.next).0
     ∙ needed_by_costs _ b c.args.mask (c.requires.inputs ∙ ap (λ (t : Setting). t.problem.inputs) (sym c.setting.view_is))
     (subst (λ (t : Setting). AreCostsFor t b) (sym c.setting.view_is) c.requires.costs) c.requires.next low
     ∙ ap (λ (t : Setting). needed t c.args.mask) c.setting.view_is

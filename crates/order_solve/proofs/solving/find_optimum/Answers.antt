@@ -16,7 +16,9 @@ returns g c =
     let Q = c.in_ok-pairs.pairs.pairs in
     let setting = c.setting_of-setting.ensures in
     let harmless = subst (λ (R : List Pair). IsHarmless t.inputs (functions t) R Q) c.pairs.ensures.value c.in_ok-pairs.ensures.harmless in
-    let best = subst (λ (z : Setting). IfOk c.optimum_of.result (IsOptimumFor z.problem z.pairs.pairs)) c.of_layers-cells.ensures c.optimum_of.ensures.optimum in
+    let best =
+    subst (λ (z : Setting). IfOk c.optimum_of.result (IsOptimumFor z.problem z.pairs.pairs)) c.of_layers-cells.ensures
+    c.optimum_of.ensures.optimum in
     IfOk-weaker c.optimum_of.result _ _ (λ o found. subst (λ (u : TruthTables). IsOptimumFor u P o) c.problem-problem.ensures
     (optimum_harmless t P Q o harmless
     (subst (λ (u : TruthTables). IsOptimumFor u Q o) setting.problem

@@ -9,7 +9,8 @@ use Rattle.small_search.proofs.tables.first_tables.Goals as goal
 pub loop-size-init : goal.loop-size-init
 loop-size-init c =
     let t : Numbered = record { numbers = c.in_ok-numbers.numbers; masks = c.in_ok-masks.masks } in
-    let held : Holds c.args.problem.now 0 t = holds_start c.args.problem.now c.in_ok-numbers.numbers.items c.in_ok-masks.masks.items c.in_ok-numbers.ensures.inputs
+    let held : Holds c.args.problem.now 0 t =
+    holds_start c.args.problem.now c.in_ok-numbers.numbers.items c.in_ok-masks.masks.items c.in_ok-numbers.ensures.inputs
     c.in_ok-numbers.ensures.outputs c.in_ok-numbers.ensures.some c.in_ok-numbers.ensures.numbers
     c.in_ok-masks.ensures.zeros (c.in_ok-masks.ensures.long ∙ ap class_count c.deref.ensures.value) in
     let items = c.in_ok-push.ensures.items ∙ ap (λ (us : List Numbered). us ++ t ∷ []) c.in_ok-tables.ensures.items in

@@ -15,7 +15,8 @@ returns-in-Variables c = λ n bound costs is small. sym (asked_variables n bound
     ∙ alike n bound c.args.mask costs c.args.reserve Variables c.in-Variables.is
 
 pub returns-then-known-eq0 : goal.returns-then-known-eq0
-returns-then-known-eq0 c = λ n bound costs is small. sym c.if-known-eq0.true ∙ sym (asked_none n bound c.args.mask c.args.known costs is small c.if-known-eq0.true)
+returns-then-known-eq0 c = λ n bound costs is small.
+    sym c.if-known-eq0.true ∙ sym (asked_none n bound c.args.mask c.args.known costs is small c.if-known-eq0.true)
     ∙ alike n bound c.args.mask costs c.args.reserve Widths c.in-Widths.is
 
 pub returns-else-known-eq0 : goal.returns-else-known-eq0
