@@ -6,11 +6,11 @@ ghost use Rattle.order_model.specs.Orders.{has};
 ghost use Rattle.pair_numbering.specs.Strips.{AreNamed, unrolled};
 
 use crate::add_variable::StripParts;
-use crate::classes::rank_of;
 use crate::columns::{ByteStrips, byte_strips};
 use crate::strips::Strips;
 use order_model::{Mask, Problem, VarIx};
 use pair_numbering::label_pairs;
+use point_classes::rank_of;
 use std::alloc::{AllocError, Global};
 use std::marker::Model;
 

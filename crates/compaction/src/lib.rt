@@ -5,7 +5,6 @@ mod add_variable;
 mod ahead;
 mod blocks;
 mod bytes;
-mod classes;
 mod columns;
 mod high_bytes;
 mod low_tables;
@@ -19,8 +18,6 @@ mod walking;
 
 pub use ahead::{WidthSource, WidthsAhead};
 pub use blocks::{BlockWidths, all_widths, block_widths};
-pub use classes::Classes;
-pub use pair_numbering::Scratch;
 pub use preparing::Preparation;
 pub use shared_tables::SharedTables;
 pub use tally::{Tallies, Tally};

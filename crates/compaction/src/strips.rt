@@ -1,18 +1,19 @@
 //! Strips: tables of keys in which entries that differ in the low variables only stand together,
 //! and equal runs of them are kept once.
 
-ghost use Rattle.std.specs.Prelude.{◌≡◌, ℕ, ◌<◌, ◌≤◌, length, slice_index, get_or, if◌then◌else◌, ◌==◌, false, IfOk, IsFalse, IsTrue};
+ghost use Rattle.std.specs.Prelude.{◌≡◌, ℕ, ◌^◌, ◌<◌, ◌≤◌, length, slice_index, get_or, if◌then◌else◌, ◌==◌, false, IfOk, IsFalse, IsTrue};
 ghost use Rattle.std.specs.Int.{bit_at};
+ghost use Rattle.std.specs.List.{filter};
 ghost use Rattle.order_model.specs.Orders.{has};
 ghost use Rattle.class_laws.specs.PairTables.{AllBelow, AreOwn};
 ghost use Rattle.compaction.specs.Strips.{masks_in_use, low_variables as low_of};
 
 use crate::add_variable::{StripParts, StripTable, add_above, are_in_order};
-use crate::classes::{rank_of, row_of};
 use crate::columns::{ValueStrips, whole_strips};
 use crate::names::NamePairs;
 use order_model::{Mask, Problem, VarIx, contains};
 use pair_numbering::label_pairs;
+use point_classes::{count_with, rank_of};
 use std::alloc::{AllocError, Global};
 use std::marker::Model;
 
@@ -50,6 +51,22 @@ pub(crate) fn low_variables(problem: &Problem) -> u8
     ensures { result ≡ low_of problem.now }
 {
     problem.inputs().min(8)
+}
+
+/// At each wanted variable how many masks have its bit, else 0.
+fn row_of(masks: &[u16], wanted: Mask) -> [u32; 16]
+    requires few { length masks.now ≤ 2 ^ 20 }
+    ensures { (x : ℕ) → x < 16 →
+        slice_index result x ≡ (if bit_at wanted x == 1
+        then length (filter (λ m. bit_at m x == 1) masks.now) else 0) }
+{
+    let mut row = [0; 16];
+    for x in 0..16 {
+        if contains(wanted, x) {
+            row[x as usize] = count_with(masks, x);
+        }
+    }
+    row
 }
 
 /// Which numbers occur.

@@ -78,7 +78,7 @@ impl Tally {
     }
 
     /// More of them.
-    pub(crate) fn add(&mut self, more: u64)
+    pub fn add(&mut self, more: u64)
         requires { self.old + more < 2 ^ 64 }
         ensures { self.new ≡ self.old + more }
     {

@@ -3,7 +3,8 @@
 ghost use Rattle.std.specs.Prelude.{◌≡◌};
 
 use crate::problems::{MULTIPLEXER, PROBLEMS, problem_of};
-use compaction::{Classes, Scratch, Tally};
+use class_tables::{Classes, Scratch};
+use compaction::Tally;
 use order_model::{Mask, Problem};
 use point_classes::count_with;
 use std::alloc::Global;

@@ -1,6 +1,5 @@
 pub mod CellSteps
 pub mod Chained
-pub mod CountedFirsts
 pub mod InBlocks
 pub mod Laid
 pub mod Names

@@ -2,6 +2,5 @@ pub mod Cells
 pub mod Chains
 pub mod Keys
 pub mod Numbers
-pub mod Scratch
 pub mod Slots
 pub mod Strips

@@ -6,13 +6,13 @@ ghost use Rattle.class_laws.specs.PairTables.{AllBelow, IsPaired, IsPairTable};
 ghost use Rattle.pair_numbering.specs.Numbers.{ArePairsNumbered};
 
 use crate::entries::EntryPairs;
-use crate::pairs::NumberedPairs;
+use crate::numbering::NumberedPairs;
 use std::alloc::{AllocError, Global};
 
 /// Pairs of entries, chained by their lower class: the first pair of each class, and the one after
 /// each pair.
 #[derive(Drop)]
-pub(crate) struct Chains<'e, 'r> {
+struct Chains<'e, 'r> {
     entries: &'e EntryPairs<'e>,
     heads: &'r [u32],
     next: &'r [u32],
@@ -24,11 +24,7 @@ pub(crate) struct Chains<'e, 'r> {
 impl<'e, 'r> Chains<'e, 'r> {
     /// The chains that `chain` wrote.
     #[inline(always)]
-    pub(crate) fn of(
-        entries: &'e EntryPairs<'e>,
-        heads: &'r [u32],
-        next: &'r [u32],
-    ) -> Chains<'e, 'r>
+    fn of(entries: &'e EntryPairs<'e>, heads: &'r [u32], next: &'r [u32]) -> Chains<'e, 'r>
         requires few { length heads.now < 2 ^ 31 }
         requires heads { AreHeads entries.now heads.now }
         requires next { AreLinks entries.now next.now }
@@ -45,7 +41,7 @@ impl<'e, 'r> Chains<'e, 'r> {
 
 /// Chains the pairs by their lower class: a head is the first pair of its class, and `next` the one
 /// after each.
-pub(crate) fn chain(entries: &EntryPairs<'_>, heads: &mut [u32], next: &mut [u32])
+fn chain(entries: &EntryPairs<'_>, heads: &mut [u32], next: &mut [u32])
     requires paired { IsPaired entries.now.numbers entries.now.rank }
     requires classes { AllBelow entries.now.numbers (length heads.old) }
     requires half { length next.old ≡ length entries.now.numbers / 2 }
@@ -64,7 +60,7 @@ pub(crate) fn chain(entries: &EntryPairs<'_>, heads: &mut [u32], next: &mut [u32
 }
 
 /// The numbers of the pairs, from the first pair equal to each.
-pub(crate) fn number_firsts(
+fn number_firsts(
     alloc: Global,
     entries: &EntryPairs<'_>,
     first: &[u32],
@@ -131,33 +127,9 @@ fn walk_chain(
     }
 }
 
-/// The numbers of the pairs, by chains and marks. All classes are below `classes`.
-pub(crate) fn number_pairs_by_chains(
-    alloc: Global,
-    entries: &EntryPairs<'_>,
-    classes: usize,
-) -> Result<NumberedPairs, AllocError>
-    requires table { IsPairTable entries.now.numbers entries.now.rank classes }
-    requires few { classes ≤ 2 ^ 20 }
-    ensures { IfOk result
-        (λ v. ArePairsNumbered entries.now.numbers entries.now.rank v.numbers.items
-        v.pairs.items) }
-{
-    let half = entries.len();
-    let mut heads = vec![in alloc; half as u32; classes]?;
-    let mut stamps = vec![in alloc; 0u32; classes]?;
-    let mut marks = vec![in alloc; 0u32; classes]?;
-    let mut next = vec![in alloc; 0u32; half]?;
-    let mut first = vec![in alloc; 0u32; half]?;
-    chain(entries, &mut heads, &mut next);
-    let chains = Chains::of(entries, &heads, &next);
-    first_occurrences(&chains, &mut stamps, &mut marks, &mut first);
-    number_firsts(alloc, entries, &first)
-}
-
 /// Finds the first equal pair of each pair.
 #[inline(always)]
-pub(crate) fn first_occurrences(
+fn first_occurrences(
     chains: &Chains<'_, '_>,
     stamps: &mut [u32],
     marks: &mut [u32],
@@ -174,4 +146,58 @@ pub(crate) fn first_occurrences(
     for lower in 0..chains.heads.len() {
         walk_chain(chains, lower, stamps, marks, first);
     }
+}
+
+/// Finds the first pair equal to each pair, by chains and marks in rows that are lent, whatever they
+/// hold. All classes are below the length of `heads`.
+pub fn first_pairs(
+    entries: &EntryPairs<'_>,
+    heads: &mut [u32],
+    next: &mut [u32],
+    stamps: &mut [u32],
+    marks: &mut [u32],
+    first: &mut [u32],
+)
+    requires table { IsPairTable entries.now.numbers entries.now.rank (length heads.old) }
+    requires few { length heads.old < 2 ^ 31 }
+    requires next_len { length next.old ≡ length entries.now.numbers / 2 }
+    requires stamps_len { length stamps.old ≡ length heads.old }
+    requires marks_len { length marks.old ≡ length heads.old }
+    requires first_len { length first.old ≡ length entries.now.numbers / 2 }
+    ensures { AreFirsts entries.now first.new }
+{
+    heads.fill(next.len() as u32);
+    stamps.fill(0);
+    chain(entries, heads, next);
+    let chains = Chains::of(entries, heads, next);
+    first_occurrences(&chains, stamps, marks, first);
+}
+
+/// The numbers of the pairs, by chains and marks. All classes are below `classes`.
+pub(crate) fn number_pairs_by_chains(
+    alloc: Global,
+    entries: &EntryPairs<'_>,
+    classes: usize,
+) -> Result<NumberedPairs, AllocError>
+    requires table { IsPairTable entries.now.numbers entries.now.rank classes }
+    requires few { classes ≤ 2 ^ 20 }
+    ensures { IfOk result
+        (λ v. ArePairsNumbered entries.now.numbers entries.now.rank v.numbers.items
+        v.pairs.items) }
+{
+    let half = entries.len();
+    let mut heads = vec![in alloc; 0u32; classes]?;
+    let mut stamps = vec![in alloc; 0u32; classes]?;
+    let mut marks = vec![in alloc; 0u32; classes]?;
+    let mut next = vec![in alloc; 0u32; half]?;
+    let mut first = vec![in alloc; 0u32; half]?;
+    first_pairs(
+        entries,
+        &mut heads,
+        &mut next,
+        &mut stamps,
+        &mut marks,
+        &mut first,
+    );
+    number_firsts(alloc, entries, &first)
 }

@@ -10,7 +10,7 @@ use std::marker::Model;
 /// The pairs of a table's entries that differ in one variable. The table stands in a row, or its
 /// blocks are strips: the one at which the variable is 0 and the one at which it is 1, by name.
 #[derive(Drop)]
-pub(crate) struct EntryPairs<'a> {
+pub struct EntryPairs<'a> {
     numbers: &'a [u32],
     names: Option<&'a [(u32, u32)]>,
     rank: u32,
@@ -70,7 +70,7 @@ fn strip_at(numbers: &[u32], rank: u32, name: usize) -> &[u32]
 impl<'a> EntryPairs<'a> {
     /// The pairs of a table by a variable that has `rank` variables outside the set below it.
     #[inline(always)]
-    pub(crate) fn of_table(numbers: &'a [u32], rank: u32) -> EntryPairs<'a>
+    pub fn of_table(numbers: &'a [u32], rank: u32) -> EntryPairs<'a>
         requires { IsPaired numbers.now rank }
         ensures numbers { result.numbers ≡ numbers.now }
         ensures rank { result.rank ≡ rank }
@@ -114,7 +114,7 @@ impl<'a> EntryPairs<'a> {
 
     /// How many pairs there are.
     #[inline(always)]
-    pub(crate) fn len(&self) -> usize
+    pub fn len(&self) -> usize
         ensures count { result ≡ length self.now.numbers / 2 }
         ensures few { length self.now.numbers < 2 ^ 32 }
     {
@@ -144,7 +144,7 @@ impl<'a> EntryPairs<'a> {
 
     /// Pair `j`: the entries at which the variable is 0 and 1.
     #[inline(always)]
-    pub(crate) fn pair(&self, j: usize) -> (u32, u32)
+    pub fn pair(&self, j: usize) -> (u32, u32)
         requires { j < length self.now.numbers / 2 }
         ensures { result ≡ places.pair_at self.now.numbers (2 ^ self.now.rank) j }
     {

@@ -10,11 +10,10 @@ mod entries;
 mod keys;
 mod masks;
 mod numbering;
-mod pairs;
-mod scratch;
 mod slots;
 
+pub use chains::first_pairs;
+pub use entries::EntryPairs;
 pub use keys::{PairKeys, label_pairs, label_strip_pairs};
-pub use numbering::{Numbered, number_pairs, number_pairs_by_index, number_pairs_with_masks};
-pub use pairs::NumberedPairs;
-pub use scratch::Scratch;
+pub use masks::{MaskedPairs, join_masks};
+pub use numbering::{Numbered, NumberedPairs, number_pairs, number_with_masks};

@@ -10,15 +10,15 @@ use std::alloc::{AllocError, Global};
 
 /// The pairs of a class table's entries that differ in variable `x`, and the mask of each class.
 #[derive(Drop)]
-pub(crate) struct MaskedPairs<'e> {
-    pub(crate) entries: &'e EntryPairs<'e>,
-    pub(crate) masks: &'e [u16],
-    pub(crate) x: u8,
+pub struct MaskedPairs<'e> {
+    pub entries: &'e EntryPairs<'e>,
+    pub masks: &'e [u16],
+    pub x: u8,
     ghost variable: { x < 16 },
 }
 
 /// The masks of pairs.
-pub(crate) fn join_masks(
+pub fn join_masks(
     alloc: Global,
     pairs: &[(u32, u32)],
     x: u8,

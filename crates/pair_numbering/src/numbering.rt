@@ -10,7 +10,6 @@ use crate::chains::number_pairs_by_chains;
 use crate::distinct::{are_distinct, number_distinct_pairs};
 use crate::entries::EntryPairs;
 use crate::masks::join_masks;
-use crate::pairs::{NumberedPairs, distinct_pairs, index_pairs};
 use crate::slots::number_pairs_by_slots;
 use std::alloc::{AllocError, Global};
 
@@ -19,6 +18,13 @@ use std::alloc::{AllocError, Global};
 pub struct Numbered {
     pub numbers: Vec<u32>,
     pub masks: Vec<u16>,
+}
+
+/// The number of each pair, and the pair of each number.
+#[derive(Drop)]
+pub struct NumberedPairs {
+    pub numbers: Vec<u32>,
+    pub pairs: Vec<(u32, u32)>,
 }
 
 /// The numbers of the pairs: by slots, or by chains if slots are crowded. All classes are below
@@ -43,7 +49,7 @@ fn number_entries(
 /// The numbers of the pairs, and the masks of the numbers, from those of the classes: in order if
 /// all classes are distinct, by a cell for each pair of classes if these are few, else by slots or
 /// chains.
-pub(crate) fn number_with_masks(
+pub fn number_with_masks(
     alloc: Global,
     entries: &EntryPairs<'_>,
     x: u8,
@@ -93,49 +99,4 @@ pub fn number_pairs(
     let entries = EntryPairs::of_table(numbers, rank);
     let numbered = number_entries(alloc, &entries, classes)?;
     Ok(numbered)
-}
-
-/// The numbers of the pairs of a table's entries, and their masks.
-pub fn number_pairs_with_masks(
-    alloc: Global,
-    numbers: &[u32],
-    rank: u32,
-    x: u8,
-    masks: &[u16],
-) -> Result<Numbered, AllocError>
-    requires table { IsPairTable numbers.now rank (length masks.now) }
-    requires variable { x < 16 }
-    requires few { length masks.now ≤ 2 ^ 20 }
-    ensures { IfOk result
-        (λ v. NumbersPairs masks.now x (places.pairs numbers.now (2 ^ rank)) v.numbers.items
-        v.masks.items) }
-{
-    let entries = EntryPairs::of_table(numbers, rank);
-    let numbered = number_with_masks(alloc, &entries, x, masks)?;
-    Ok(numbered)
-}
-
-/// The same, in an `IndexSet`. Slower, and only there to be compared.
-pub fn number_pairs_by_index(
-    alloc: Global,
-    numbers: &[u32],
-    rank: u32,
-    x: u8,
-    masks: &[u16],
-) -> Result<Numbered, AllocError>
-    requires table { IsPairTable numbers.now rank (length masks.now) }
-    requires variable { x < 16 }
-    requires few { length masks.now ≤ 2 ^ 20 }
-    ensures { IfOk result
-        (λ v. NumbersPairs masks.now x (places.pairs numbers.now (2 ^ rank)) v.numbers.items
-        v.masks.items) }
-{
-    let entries = EntryPairs::of_table(numbers, rank);
-    let indexed = index_pairs(alloc, &entries)?;
-    let pairs = distinct_pairs(alloc, &entries, &indexed)?;
-    let joined = join_masks(alloc, &pairs, x, masks)?;
-    Ok(Numbered {
-        numbers: indexed,
-        masks: joined,
-    })
 }

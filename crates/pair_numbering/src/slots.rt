@@ -5,7 +5,7 @@ ghost use Rattle.pair_numbering.specs.Slots.{AreSlotted, IsSlot, home_of};
 ghost use Rattle.pair_numbering.specs.Numbers.{ArePairsNumbered};
 
 use crate::entries::{Block, EntryPairs};
-use crate::pairs::NumberedPairs;
+use crate::numbering::NumberedPairs;
 use std::alloc::{AllocError, Global};
 
 /// How many slots are tried for a pair.

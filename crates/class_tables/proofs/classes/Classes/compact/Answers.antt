@@ -1,0 +1,31 @@
+use Rattle.std.proofs.Common.{◌^◌, bit_or, sym, ap, subst, ◌∙◌, arith}
+use Rattle.std.proofs.lemmas.Nat.{one_shl}
+use Rattle.class_laws.specs.PairTables.{NumbersPairs}
+use Rattle.class_laws.specs.Places as places
+use Rattle.class_laws.specs.Table.{ClassesOf, HoldsClasses, classes_of, free_below}
+use Rattle.class_laws.proofs.Extended.{is_ready, ready_table, holds_more}
+use Rattle.class_tables.proofs.classes.Classes.compact.Goals as goal
+
+pub number_pairs_with_masks-requires-clause-table : goal.number_pairs_with_masks-requires-clause-table
+number_pairs_with_masks-requires-clause-table c = grind (arith, is_ready, ready_table)
+
+pub number_pairs_with_masks-requires-clause-few : goal.number_pairs_with_masks-requires-clause-few
+number_pairs_with_masks-requires-clause-few c = grind (arith, is_ready)
+
+pub invariant_of-result : goal.invariant_of-result
+invariant_of-result c =
+    let h = subst (λ (z : ClassesOf). HoldsClasses z c.self.inside.numbers.items c.self.inside.masks.items) c.self.view_is c.self.invariant in
+    let e = c.rank_of-rank.ensures ∙ ap (λ (z : ClassesOf). free_below z.set c.args.x) c.self.view_is in
+    let n = c.requires.inside in
+    let m = h.few_inputs in
+    let s = one_shl c.args.x 16 (omega arith) in
+    let v = c.deref.ensures.value in
+    let w = c.deref-2.ensures.value in
+    let q = subst (λ z. z)
+    (λ i. NumbersPairs (w i) c.args.x (places.pairs (v i) (2 ^ e i)) c.in_ok-numbered.numbered.numbers.items
+    c.in_ok-numbered.numbered.masks.items)
+    c.in_ok-numbered.ensures in
+    let k = holds_more c.args.self.now c.args.x c.requires.inside c.requires.new c.self.inside.numbers.items c.self.inside.masks.items
+    c.in_ok-numbered.numbered.numbers.items c.in_ok-numbered.numbered.masks.items h q.numbers_are q.many q.told in
+    subst (λ (z : ClassesOf). HoldsClasses z c.in_ok-numbered.numbered.numbers.items c.in_ok-numbered.numbered.masks.items)
+    (λ i. classes_of (sym c.self.view_is i).problem (bit_or (sym c.self.view_is i).set (sym s i))) k

@@ -1,0 +1,10 @@
+use Rattle.std.proofs.Common.{ap, ◌∙◌}
+use Rattle.class_laws.specs.Values.{class_count}
+use Rattle.class_laws.proofs.StartClasses.{holds_start}
+use Rattle.class_tables.proofs.classes.Classes.of_problem.Goals as goal
+
+pub invariant_of-result : goal.invariant_of-result
+invariant_of-result c =
+    holds_start c.args.problem.now c.in_ok-numbers.numbers.items c.in_ok-masks.masks.items c.in_ok-numbers.ensures.inputs
+    c.in_ok-numbers.ensures.outputs c.in_ok-numbers.ensures.some c.in_ok-numbers.ensures.numbers
+    c.in_ok-masks.ensures.zeros (c.in_ok-masks.ensures.long ∙ ap class_count c.deref.ensures.value)

@@ -1,0 +1,22 @@
+use Rattle.std.proofs.Common.{eqb, length, sym, ap, ◌∙◌, subst, arith}
+use Rattle.std.specs.Int.{bit_at}
+use Rattle.std.specs.List.{filter}
+use Rattle.order_model.proofs.Bits.Masks.{members_small}
+use Rattle.class_laws.specs.Table.{ClassesOf, HoldsClasses, set_of, functions_of}
+use Rattle.class_laws.proofs.Counted.{width_is_dependent_classes}
+use Rattle.class_laws.proofs.Extended.{few_masks}
+use Rattle.class_tables.proofs.classes.Classes.width_into.Goals as goal
+
+pub count_with-requires-clause-variable : goal.count_with-requires-clause-variable
+count_with-requires-clause-variable c = grind (arith, members_small)
+
+pub count_with-requires-clause-few : goal.count_with-requires-clause-few
+count_with-requires-clause-few c = grind (arith, few_masks)
+
+pub returns : goal.returns
+returns c =
+    let h = subst (λ (z : ClassesOf). HoldsClasses z c.self.inside.numbers.items c.self.inside.masks.items) c.self.view_is c.self.invariant in
+    let s = members_small c.args.self.now.problem.inputs c.args.self.now.set c.args.x c.requires in
+    c.count_with.ensures ∙ ap (λ ms. length (filter (λ m. eqb (bit_at m c.args.x) 1) ms)) c.deref.ensures.value
+    ∙ sym (width_is_dependent_classes c.args.self.now.problem.inputs (functions_of c.args.self.now) (set_of c.args.self.now)
+    c.self.inside.masks.items c.args.x s c.requires h.masks_are)

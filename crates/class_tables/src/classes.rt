@@ -1,0 +1,176 @@
+//! Class tables.
+
+ghost use Rattle.std.specs.Prelude.{◌≡◌, ◌==◌, ℕ, ◌+◌, ◌*◌, ◌^◌, ◌<◌, ◌≤◌, if◌then◌else◌, length, slice_index, IfOk, OnOk, OnErr, IsFalse, IsTrue};
+ghost use Rattle.std.specs.Int.{bit_at};
+ghost use Rattle.std.specs.List.{filter};
+ghost use Rattle.order_model.specs.Orders.{has, without};
+ghost use Rattle.order_model.specs.Widths.{class_numbers, width as width_over};
+ghost use Rattle.class_laws.specs.Table.{free_below};
+ghost use Rattle.class_tables.specs.Scratch.{most_entries};
+
+use crate::numbering::{number_pairs_by_index, number_pairs_with_masks};
+use crate::scratch::Scratch;
+use compaction::Tally;
+use order_model::{Mask, Problem, VarIx, contains};
+use point_classes::{count_with, no_dependence, rank_of, value_numbers};
+use std::alloc::{AllocError, Global};
+use std::marker::Model;
+
+/// The classes of a set of variables: which subfunctions over it are equal. Each assignment of the
+/// other variables has an entry in each function's part of the table, assignments rising, and equal
+/// subfunctions have one number, by first occurrence.
+#[derive(Drop)]
+pub struct Classes<'a> {
+    problem: &'a Problem,
+    set: Mask,
+    numbers: Vec<u32>,
+    masks: Vec<u16>,
+}
+
+impl<'a> Model for Classes<'a> {
+    ghost use Rattle.class_laws.specs.Table.{ClassesOf, HoldsClasses, classes_of};
+
+    ghost Value = { ClassesOf };
+
+    ghost view = { λ c. classes_of c.problem.now c.set };
+
+    ghost invariant = { λ c. HoldsClasses
+        (classes_of c.problem.now c.set) c.numbers.items c.masks.items };
+}
+
+impl<'a> Classes<'a> {
+    ghost use Rattle.class_laws.specs.Table.{set_of, functions_of, with_variable, classes_of};
+
+    /// The classes of the empty set.
+    pub fn of_problem(alloc: Global, problem: &'a Problem) -> Result<Classes<'a>, AllocError>
+        ensures { IfOk result (λ c. c ≡ classes_of problem.now 0) }
+    {
+        let numbers = value_numbers(alloc, problem)?;
+        let masks = no_dependence(alloc, &numbers)?;
+        Ok(Classes {
+            problem,
+            set: 0,
+            numbers,
+            masks,
+        })
+    }
+
+    /// The classes of a set.
+    pub fn of_set(
+        alloc: Global,
+        problem: &'a Problem,
+        mask: Mask,
+    ) -> Result<Classes<'a>, AllocError>
+        requires { mask < 2 ^ problem.now.inputs }
+        ensures { IfOk result (λ c. c ≡ classes_of problem.now mask) }
+    {
+        let mut classes = Classes::of_problem(alloc, problem)?;
+        for y in 0..problem.inputs() {
+            if contains(mask, y) {
+                classes = classes.compact(alloc, y)?;
+            }
+        }
+        Ok(classes)
+    }
+
+    /// Whether a variable is outside the set, so that it may be added.
+    pub fn lacks(&self, x: VarIx) -> bool
+        ensures inside { IsTrue result → x < self.now.problem.inputs }
+        ensures new { IsTrue result → IsFalse (has (set_of self.now) x) }
+        ensures all { x < self.now.problem.inputs → IsFalse (has (set_of self.now) x) →
+            IsTrue result }
+    {
+        x < self.problem.inputs() && !contains(self.set, x)
+    }
+
+    /// The class of each entry, by first occurrence: function by function, assignments of the
+    /// variables outside the set rising, the lowest variable in the lowest bit.
+    pub fn numbers(&self) -> &[u32]
+        ensures { result.now ≡ class_numbers self.now.problem.inputs (functions_of self.now)
+            (set_of self.now) }
+    {
+        self.numbers.as_slice()
+    }
+
+    /// The width of a variable over the set. The tally rises by one.
+    pub fn width(&self, alloc: Global, x: VarIx, tally: &mut Tally) -> Result<u32, AllocError>
+        requires inside { x < self.now.problem.inputs }
+        requires new { IsFalse (has (set_of self.now) x) }
+        requires room { tally.old < 2 ^ 32 }
+        ensures width { IfOk result
+            (λ w. w ≡ width_over self.now.problem.inputs (functions_of self.now)
+            (set_of self.now) x) }
+        ensures ok { OnOk result (tally.new ≡ tally.old + 1) }
+        ensures err { OnErr result (tally.new ≡ tally.old) }
+    {
+        let next = self.compact(alloc, x)?;
+        let width = next.width_into(x);
+        tally.add(1);
+        Ok(width)
+    }
+
+    /// The same, in rows that are lent, and with no memory of its own.
+    pub fn width_in(&self, x: VarIx, scratch: &mut Scratch, tally: &mut Tally) -> u32
+        requires inside { x < self.now.problem.inputs }
+        requires new { IsFalse (has (set_of self.now) x) }
+        requires long { most_entries self.now.problem ≤ scratch.old }
+        requires room { tally.old < 2 ^ 32 }
+        ensures width { result ≡ width_over self.now.problem.inputs (functions_of self.now)
+            (set_of self.now) x }
+        ensures tally { tally.new ≡ tally.old + 1 }
+        ensures scratch { scratch.new ≡ scratch.old }
+    {
+        let rank = rank_of(self.set, x);
+        let width = scratch.count_joined(&self.numbers, rank, x, &self.masks);
+        tally.add(1);
+        width
+    }
+
+    /// The width of a variable of the set over the set without it.
+    fn width_into(&self, x: VarIx) -> u32
+        requires { IsTrue (has (set_of self.now) x) }
+        ensures { result ≡ width_over self.now.problem.inputs (functions_of self.now)
+            (without x (set_of self.now)) x }
+    {
+        count_with(&self.masks, x)
+    }
+
+    /// The set, as a mask.
+    pub fn set(&self) -> Mask
+        ensures { result ≡ self.now.set }
+    {
+        self.set
+    }
+
+    /// The classes with one more variable in the set.
+    pub fn compact(&self, alloc: Global, x: VarIx) -> Result<Classes<'a>, AllocError>
+        requires inside { x < self.now.problem.inputs }
+        requires new { IsFalse (has (set_of self.now) x) }
+        ensures { IfOk result (λ c. c ≡ with_variable self.now x) }
+    {
+        let rank = rank_of(self.set, x);
+        let numbered = number_pairs_with_masks(alloc, &self.numbers, rank, x, &self.masks)?;
+        Ok(Classes {
+            problem: self.problem,
+            set: self.set | (1 << x),
+            numbers: numbered.numbers,
+            masks: numbered.masks,
+        })
+    }
+
+    /// The same, with the pairs numbered in an `IndexSet`. Slower: only tests call it, to compare.
+    pub fn compact_indexed(&self, alloc: Global, x: VarIx) -> Result<Classes<'a>, AllocError>
+        requires inside { x < self.now.problem.inputs }
+        requires new { IsFalse (has (set_of self.now) x) }
+        ensures { IfOk result (λ c. c ≡ with_variable self.now x) }
+    {
+        let rank = rank_of(self.set, x);
+        let numbered = number_pairs_by_index(alloc, &self.numbers, rank, x, &self.masks)?;
+        Ok(Classes {
+            problem: self.problem,
+            set: self.set | (1 << x),
+            numbers: numbered.numbers,
+            masks: numbered.masks,
+        })
+    }
+}

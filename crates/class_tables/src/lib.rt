@@ -1,0 +1,11 @@
+//! Class tables of single sets, and the widths over them, one at a time: what the solver computes
+//! for whole blocks at once, in the plainest form. And counts that take no memory.
+#![tactic(auto)]
+
+mod classes;
+mod numbering;
+mod scratch;
+
+pub use classes::Classes;
+pub use numbering::{number_pairs_by_index, number_pairs_with_masks};
+pub use scratch::Scratch;

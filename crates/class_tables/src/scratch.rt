@@ -1,0 +1,124 @@
+//! Counts of masks that take no memory: by chains and marks in rows that are lent.
+
+ghost use Rattle.std.specs.Prelude.{◌≡◌, ◌==◌, ℕ, ◌+◌, ◌*◌, ◌/◌, ◌^◌, ◌<◌, ◌≤◌, length, IfOk};
+ghost use Rattle.class_tables.specs.Scratch.{AreLong, CountsMasks, most_entries};
+ghost use Rattle.class_laws.specs.Places as places;
+ghost use Rattle.class_laws.specs.PairTables.{IsPairTable};
+ghost use Rattle.pair_numbering.specs.Chains.{AreFirsts};
+
+use order_model::{Problem, contains};
+use pair_numbering::{EntryPairs, MaskedPairs, first_pairs};
+use point_classes::join_mask;
+use std::alloc::{AllocError, Global};
+use std::marker::Model;
+
+/// Rows for the numbering of a problem's class tables: five words for each entry of the largest.
+#[derive(Drop)]
+pub struct Scratch {
+    heads: Vec<u32>,
+    next: Vec<u32>,
+    stamps: Vec<u32>,
+    marks: Vec<u32>,
+    first: Vec<u32>,
+}
+
+impl Model for Scratch {
+    ghost use Rattle.std.specs.Prelude.{ℕ, length};
+    ghost use Rattle.class_tables.specs.Scratch.{AreLong};
+
+    ghost Value = { ℕ };
+
+    ghost view = { λ s. length s.heads.items };
+
+    ghost invariant = { λ s. AreLong
+        (length s.heads.items) s.next.items s.stamps.items s.marks.items s.first.items };
+}
+
+impl Scratch {
+    /// Rows for all class tables of a problem.
+    pub fn of(alloc: Global, problem: &Problem) -> Result<Scratch, AllocError>
+        ensures { IfOk result (λ s. s ≡ most_entries problem.now) }
+    {
+        let entries = (problem.outputs() as usize) << problem.inputs();
+        Ok(Scratch {
+            heads: vec![in alloc; 0u32; entries]?,
+            next: vec![in alloc; 0u32; entries]?,
+            stamps: vec![in alloc; 0u32; entries]?,
+            marks: vec![in alloc; 0u32; entries]?,
+            first: vec![in alloc; 0u32; entries]?,
+        })
+    }
+
+    /// How many distinct pairs have a mask with `x`.
+    pub fn count_joined(&mut self, numbers: &[u32], rank: u32, x: u8, masks: &[u16]) -> u32
+        requires table { IsPairTable numbers.now rank (length masks.now) }
+        requires variable { x < 16 }
+        requires few { length masks.now ≤ length numbers.now }
+        requires long { length numbers.now ≤ self.old }
+        ensures count { CountsMasks masks.now x (places.pairs numbers.now (2 ^ rank)) result }
+        ensures same { self.new ≡ self.old }
+    {
+        let entries = EntryPairs::of_table(numbers, rank);
+        let pairs = MaskedPairs {
+            entries: &entries,
+            masks,
+            x,
+        };
+        count_in(
+            &pairs,
+            &mut self.heads,
+            &mut self.next,
+            &mut self.stamps,
+            &mut self.marks,
+            &mut self.first,
+        )
+    }
+}
+
+/// How many distinct pairs have a mask with `x`, in rows that are long enough.
+fn count_in(
+    pairs: &MaskedPairs<'_>,
+    heads: &mut [u32],
+    next: &mut [u32],
+    stamps: &mut [u32],
+    marks: &mut [u32],
+    first: &mut [u32],
+) -> u32
+    requires table { IsPairTable pairs.now.entries.now.numbers pairs.now.entries.now.rank
+        (length pairs.now.masks.now) }
+    requires few { length pairs.now.masks.now ≤ length pairs.now.entries.now.numbers }
+    requires rows { AreLong (length heads.old) next.old stamps.old marks.old first.old }
+    requires long { length pairs.now.entries.now.numbers ≤ length heads.old }
+    ensures { CountsMasks pairs.now.masks.now pairs.now.x
+        (places.pairs pairs.now.entries.now.numbers (2 ^ pairs.now.entries.now.rank)) result }
+{
+    let classes = pairs.masks.len();
+    let half = pairs.entries.len();
+    let heads = &mut heads[..classes];
+    let next = &mut next[..half];
+    let stamps = &mut stamps[..classes];
+    let marks = &mut marks[..classes];
+    let first = &mut first[..half];
+    first_pairs(pairs.entries, heads, next, stamps, marks, first);
+    count_firsts(pairs, first)
+}
+
+/// How many pairs that are the first of their kind have a mask with `x`.
+fn count_firsts(pairs: &MaskedPairs<'_>, first: &[u32]) -> u32
+    requires table { IsPairTable pairs.now.entries.now.numbers pairs.now.entries.now.rank
+        (length pairs.now.masks.now) }
+    requires first { AreFirsts pairs.now.entries.now first.now }
+    ensures { CountsMasks pairs.now.masks.now pairs.now.x
+        (places.pairs pairs.now.entries.now.numbers (2 ^ pairs.now.entries.now.rank)) result }
+{
+    let masks = pairs.masks;
+    let x = pairs.x;
+    let mut count = 0;
+    for (j, f) in first.iter().enumerate() {
+        if *f as usize == j {
+            let mask = join_mask(masks, x, pairs.entries.pair(j));
+            count += u32::from(contains(mask, x));
+        }
+    }
+    count
+}

@@ -1,8 +1,0 @@
-use Rattle.std.proofs.Common.{◌∙◌, subst}
-use Rattle.class_laws.specs.Table.{ClassesOf, HoldsClasses}
-use Rattle.compaction.proofs.classes.Classes.numbers.Goals as goal
-
-pub returns : goal.returns
-returns c =
-    let h = subst (λ (z : ClassesOf). HoldsClasses z c.self.inside.numbers.items c.self.inside.masks.items) c.self.view_is c.self.invariant in
-    c.as_slice.ensures.value ∙ h.classes

@@ -1,6 +1,0 @@
-use Rattle.std.proofs.Common.{◌≡◌, ◌%◌, ◌^◌}
-use Rattle.class_laws.specs.Table.{classes_of}
-use Rattle.compaction.proofs.classes.Classes.of_set.Given as goal
-
-abbrev pub invariant-loop-y : goal.invariant-loop-y
-invariant-loop-y l = l.classes ≡ classes_of l.problem (l.mask % 2 ^ l.y)

@@ -1,7 +1,0 @@
-use Rattle.std.proofs.Common.{◌^◌}
-use Rattle.class_laws.specs.Places as places
-use Rattle.pair_numbering.proofs.CountedFirsts.{Counting}
-use Rattle.pair_numbering.proofs.scratch.count_firsts.Given as goal
-
-abbrev pub invariant-loop-j : goal.invariant-loop-j
-invariant-loop-j l = Counting (places.pairs l.pairs.entries.now.numbers (2 ^ l.pairs.entries.now.rank)) l.pairs.masks.now l.pairs.x l.count l.j
