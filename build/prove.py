@@ -197,7 +197,7 @@ class Plan:
     use a processor. One job more than there are processors keeps them busy while one of the chain has work for one job."""
 
     def __init__(self, libraries, uses, seconds, answer=None):
-        """`answer` is the preview beside it, which may still be about to take its memory."""
+        """`answer` is the preview beside it. Until it ends it has a processor, and may still be about to take its memory."""
         self.answer = answer
         self.chain = longest_chain(libraries, uses, seconds)
         passed = {it: seconds[it] / (CHAIN_SPEED if it in self.chain else 1) for it in libraries}
@@ -209,11 +209,12 @@ class Plan:
     def next(self, done):
         """A library to start, with its jobs; None if none is to start before another one has ended."""
         ready = [it for it in self.left if all(dep in done for dep in self.uses[it])]
-        memory = free_gigabytes() - preview.GIGABYTES * bool(self.answer and self.answer.is_running())
+        is_answering = bool(self.answer and self.answer.is_running())
+        memory = free_gigabytes() - preview.GIGABYTES * is_answering
         if not ready or (self.running and memory < GIGABYTES_A_JOB):
             return None
         crate = ready[0]
-        idle = processors() - sum(self.running.values())
+        idle = processors() - is_answering - sum(self.running.values())
         spare = idle - len(ready) + 1
         if crate in self.chain:
             jobs = max(CHAIN_JOBS, spare)

@@ -134,6 +134,31 @@ class Estimates(unittest.TestCase):
         self.assertTrue(8 * 60 < left < 30 * 60, left)
 
 
+class Plans(unittest.TestCase):
+    uses = {"base": [], "short": [], "middle": ["base"], "program": ["middle", "short"]}
+    seconds = {"base": 90, "short": 20, "middle": 90, "program": 10}
+
+    def jobs(self, processors, answer):
+        """The crates that begin at once, with their jobs."""
+        room = {"processors": lambda: processors, "free_gigabytes": lambda: 20}
+        with unittest.mock.patch.multiple(prove, **room):
+            plan = prove.Plan(list(self.uses)[:-1], self.uses, self.seconds, answer)
+            while started := plan.next([]):
+                plan.start(*started)
+        return plan.running
+
+    def test_the_answer_has_a_processor(self):
+        answering = unittest.mock.Mock(is_running=lambda: True)
+        self.assertEqual(self.jobs(4, answering), {"base": 2, "short": 1})
+        self.assertEqual(self.jobs(2, answering), {"base": 2})
+
+    def test_a_proof_without_an_answer_has_all(self):
+        over = unittest.mock.Mock(is_running=lambda: False)
+        for answer in (None, over):
+            self.assertEqual(self.jobs(4, answer), {"base": 3, "short": 1})
+            self.assertEqual(self.jobs(2, answer), {"base": 2, "short": 1})
+
+
 def heed_signals():
     """A shell's background command, as .ci/run begins these tests, ignores interrupts, and what it begins does, too."""
     for it in (signal.SIGINT, signal.SIGTERM, signal.SIGHUP):
