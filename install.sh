@@ -23,9 +23,17 @@ programs() {
     [ -e "$top/lib/libminorder.a" ] || tools+=(ar ld objcopy)
     need "${tools[@]}"
     for program in minorder ordercheck; do
-        "$top/$program" --help > /dev/null || fail "$program can't be built"
+        build "$program can't be built" "$top/$program" --help
     done
-    "$top/libminorder" > /dev/null || fail "the library can't be built by ${compiler[*]}"
+    build "the library can't be built by ${compiler[*]}" "$top/libminorder"
+}
+
+# build FAULT COMMAND..: a command that doesn't find its tools has said so
+build() {
+    local status=0
+    "${@:2}" > /dev/null || status=$?
+    ((status != 127)) || exit 127
+    ((status == 0)) || fail "$1"
 }
 
 # The folder of the .pc file leads to the prefix, so that the tree can be moved.

@@ -255,6 +255,11 @@ def is_library(name):
     return listed()[name].partition(":")[0].split() == [name, "staticlib"]
 
 
+def command_of(name):
+    """The script at the top that has a program or a static library built."""
+    return "libminorder" if is_library(name) else name
+
+
 def kit():
     """The folder of the Rattle kit."""
     return os.path.dirname(subprocess.run(["rt", "doc"], check=True, stdout=subprocess.PIPE, text=True).stdout.strip())
@@ -308,15 +313,15 @@ def begin(report, crates, words):
     if obstacle is not None:
         return contextlib.nullcontext()
     rows = listed()
-    return preview.beside(TOP, report.name, {it: rows[it] for it in crates}, passed, report.say)
+    return preview.beside(TOP, crates[-1], {it: rows[it] for it in crates}, passed, report.say)
 
 
 def build(name, made, words):
-    tools.need("rt", *["ar"] * is_library(name), of=name, instead='a release needs none (README.md, "Install")')
+    tools.need("rt", *["ar"] * is_library(name), of=command_of(name), instead='a release needs none (README.md, "Install")')
     uses = named()
     crates = needed(name, uses)
     seconds = seconds_of(TOP, crates)
-    report = Report(name, seconds, Estimate(seconds, uses, processors()))
+    report = Report(command_of(name), seconds, Estimate(seconds, uses, processors()))
     # what this build leaves in a folder that was there before is someone's work
     own = [it for it in crates if not os.path.isdir(f"{TOP}/crates/{it}/out/incremental")]
     answer = None
