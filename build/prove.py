@@ -45,10 +45,14 @@ def named():
     return {crate: [it for it in row.partition(":")[2].split() if it in rows] for crate, row in rows.items()}
 
 
+def refuse_unknown(name, crates):
+    if name not in crates:
+        sys.exit(f"{name}: no crate of crates.txt")
+
+
 def needed(name, uses):
     """The crates of the repository that a crate builds on, lowest first; itself last."""
-    if name not in uses:
-        sys.exit(f"{name}: no crate of crates.txt")
+    refuse_unknown(name, uses)
     found = []
 
     def visit(crate):
@@ -252,7 +256,9 @@ def prove_all(plan, report, lanes):
 
 
 def is_library(name):
-    return listed()[name].partition(":")[0].split() == [name, "staticlib"]
+    rows = listed()
+    refuse_unknown(name, rows)
+    return rows[name].partition(":")[0].split() == [name, "staticlib"]
 
 
 def command_of(name):
