@@ -1,6 +1,7 @@
 """How far a build is, on standard error."""
 from __future__ import annotations
 
+import contextlib
 import shutil
 import sys
 import threading
@@ -29,8 +30,12 @@ class Report:
 
     def say(self, *lines: str) -> None:
         clear = "\r\x1b[K" if self.is_terminal else ""
-        with self.writing:
-            print(clear + "\n".join(f"{self.name}: {line}" for line in lines), file=sys.stderr, flush=True)
+        self.write(clear + "".join(f"{self.name}: {line}\n" for line in lines))
+
+    def write(self, text: str) -> None:
+        """A build goes on where nobody takes what it says."""
+        with self.writing, contextlib.suppress(OSError):
+            print(text, end="", file=sys.stderr, flush=True)
 
     def passed(self) -> float:
         return time.monotonic() - self.start
@@ -51,8 +56,7 @@ class Report:
         if self.is_terminal:
             width = shutil.get_terminal_size().columns - 1
             line = f"{self.name}: {self.so_far()}, proving {', '.join(self.running)}"
-            with self.writing:
-                print(f"\r\x1b[K{line[:width]}", end="", file=sys.stderr, flush=True)
+            self.write(f"\r\x1b[K{line[:width]}")
 
     def start_crate(self, crate: str, jobs: int) -> None:
         self.running[crate] = time.monotonic(), jobs

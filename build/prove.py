@@ -113,6 +113,14 @@ def end_on_signals():
             signal.signal(it, end)
 
 
+def fill_streams():
+    """Opens those of the three streams that are closed, so that no file takes their place. The program finds them closed."""
+    while (opened := os.open(os.devnull, os.O_RDWR)) < 3:
+        pass
+    os.close(opened)
+    sys.stderr = sys.stderr or open(2, "w", closefd=False)
+
+
 def go_on():
     if interrupts:
         raise Interrupt(interrupts[0])
@@ -467,6 +475,7 @@ def called_with(words):
 
 
 if __name__ == "__main__":
+    fill_streams()
     end_on_signals()
     try:
         called_with(sys.argv[1:])

@@ -183,11 +183,16 @@ class Builds(unittest.TestCase):
             (self.room / it).mkdir()
         (self.room / "work" / "a.pla").touch()
 
-    def begin(self, *words, **given):
+    def begin(self, *words, closed=(), through=(), **given):
+        def prepare():
+            heed_signals()
+            for it in closed:
+                os.close(it)
+
         env = {it: value for it, value in os.environ.items() if it != preview.SWITCH}
         env.update({"PATH": f"{HERE}:{os.environ['PATH']}", "TMPDIR": f"{self.room}/temporary", **given})
-        return subprocess.Popen([f"{self.room}/top/minorder", *words], cwd=self.room / "work", env=env, text=True,
-                                stdin=subprocess.DEVNULL, stdout=subprocess.PIPE, stderr=subprocess.PIPE, preexec_fn=heed_signals)
+        return subprocess.Popen([*through, f"{self.room}/top/minorder", *words], cwd=self.room / "work", env=env, text=True,
+                                stdin=subprocess.DEVNULL, stdout=subprocess.PIPE, stderr=subprocess.PIPE, preexec_fn=prepare)
 
     def assert_clean(self):
         self.assertEqual(os.listdir(self.room / "temporary"), [])
@@ -206,6 +211,20 @@ class Builds(unittest.TestCase):
         self.assert_clean()
         with self.begin("a.pla") as ran:
             self.assertEqual(ran.communicate(), ("proved: a.pla\n", ""))
+
+    def test_closed_streams_stay_closed(self):
+        for closed in ((0,), (1,), (2,), (0, 1, 2)):
+            shutil.rmtree(self.room / "top/crates/minorder/out", ignore_errors=True)
+            with self.subTest(closed=closed), self.begin("a.pla", closed=closed) as ran:
+                out, said = ran.communicate()
+                self.assertEqual((out, ran.returncode), ("" if 1 in closed else "proved: a.pla\n", 7))
+                self.assertEqual("minorder is proved" in said, 2 not in closed)
+                self.assert_clean()
+
+    def test_a_full_standard_error_ends_no_build(self):
+        with self.begin("a.pla", through=("bash", "-c", '"$@" 2> /dev/full', "")) as ran:
+            self.assertEqual((*ran.communicate(), ran.returncode), ("proved: a.pla\n", "", 7))
+        self.assert_clean()
 
     def test_none_is_tried_where_it_is_turned_off(self):
         with self.begin("a.pla", MINORDER_PREVIEW="no", TRY_SECONDS="60") as ran:
