@@ -10,6 +10,7 @@ import errno
 import fcntl
 import hashlib
 import os
+import resource
 import shutil
 import signal
 import subprocess
@@ -27,7 +28,7 @@ TOP = os.path.dirname(os.path.dirname(os.path.abspath(__file__)))
 GIGABYTES_A_JOB = 3
 GIGABYTES_A_FURTHER_JOB = 1
 MOST_JOBS = 3
-SIGNALS = (signal.SIGINT, signal.SIGTERM, signal.SIGHUP)
+SIGNALS = (signal.SIGINT, signal.SIGTERM, signal.SIGHUP, signal.SIGQUIT)
 # over more libraries than these three jobs take no less than two
 FEW_LIBRARIES = 8
 
@@ -483,4 +484,5 @@ if __name__ == "__main__":
         with contextlib.suppress(OSError):
             print("\n" * sys.stderr.isatty(), end="", file=sys.stderr, flush=True)
         signal.signal(interrupts[0], signal.SIG_DFL)
+        resource.setrlimit(resource.RLIMIT_CORE, (0, 0))
         os.kill(os.getpid(), interrupts[0])

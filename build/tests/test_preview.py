@@ -161,7 +161,7 @@ class Plans(unittest.TestCase):
 
 def heed_signals():
     """A shell's background command, as .ci/run begins these tests, ignores interrupts, and what it begins does, too."""
-    for it in (signal.SIGINT, signal.SIGTERM, signal.SIGHUP):
+    for it in prove.SIGNALS:
         signal.signal(it, signal.SIG_DFL)
 
 
@@ -250,7 +250,7 @@ class Builds(unittest.TestCase):
     def test_an_interrupt_ends_both(self):
         phases = {"try": {"TRY_SECONDS": "60", "PROOF_SECONDS": "60"}, "proof": {"PROOF_SECONDS": "60"}}
         for phase, given in phases.items():
-            for number in (signal.SIGINT, signal.SIGTERM, signal.SIGHUP):
+            for number in prove.SIGNALS:
                 with self.subTest(phase=phase, signal=number), self.begin("--cert", "out", "a.pla", **given) as ran:
                     time.sleep(1.5)
                     ran.send_signal(number)
