@@ -34,11 +34,19 @@ lay() {
     (cd "$tree" && cp -a "${@:3}" "$made/$1/$2")
 }
 
+# clean_modules PACKAGE: what Python keeps of the package's modules goes with them
+clean_modules() {
+    install -d "$made/$1/DEBIAN"
+    printf '#!/bin/sh\nset -e\nif command -v py3clean > /dev/null 2>&1; then py3clean -p %s; fi\n' "$1" > "$made/$1/DEBIAN/prerm"
+    chmod 755 "$made/$1/DEBIAN/prerm"
+}
+
 programs() {
     lay minorder usr/bin bin/{minorder,ordercheck}
     lay minorder usr/share/man/man1 share/man/man1/{minorder,ordercheck}.1
     lay minorder usr/share share/minorder
     lay minorder usr/share/doc share/doc/minorder
+    clean_modules minorder
 }
 
 shared_library() {
@@ -65,10 +73,9 @@ python_package() {
     sed -i '1s|.*|#!/usr/bin/python3|' "$made"/python3-minorder/usr/bin/*
     commands=("${commands[@]/%/.1}")
     lay python3-minorder usr/share/man/man1 "${commands[@]/#/share/man/man1/}"
-    install -d "$made/python3-minorder/DEBIAN"
+    clean_modules python3-minorder
     printf '#!/bin/sh\nset -e\nif command -v py3compile > /dev/null 2>&1; then py3compile -p python3-minorder; fi\n' > "$made/python3-minorder/DEBIAN/postinst"
-    printf '#!/bin/sh\nset -e\nif command -v py3clean > /dev/null 2>&1; then py3clean -p python3-minorder; fi\n' > "$made/python3-minorder/DEBIAN/prerm"
-    chmod 755 "$made"/python3-minorder/DEBIAN/p*
+    chmod 755 "$made/python3-minorder/DEBIAN/postinst"
 }
 
 # package NAME ARCHITECTURE SECTION WORDS FIELD..: the package of what was laid for it, with these fields of its control file
