@@ -1,7 +1,7 @@
 #!/usr/bin/env python3
 """house.py [-v]      counts what makes the crates hard to live in: long contracts, functions of many parameters, code that stands
-                twice, proofs beside code, long lines. The crates that hold tests alone are left out. With -v it names the
-                places."""
+                twice, proofs beside code, long lines, and lines of crates.txt and files of proofs that nothing uses. The crates
+                that hold tests alone are left out of the first five. With -v it names the places."""
 import os
 import re
 import sys
@@ -13,10 +13,19 @@ NO_CODE = ("//", "use ", "ghost use ", "pub use ", "mod ", "pub mod ", "#!")
 FUNCTION = re.compile(r"^\s*(pub(\([a-z]+\))? )?(const )?(unsafe )?(extern \"C\" )?fn (\w+)")
 
 
-def crates():
+# values by computation, which the prover checks and nothing cites
+WORKED = "Worked"
+
+
+def listed():
+    """The crates of crates.txt, with what each uses."""
     with open(f"{TOP}/crates.txt") as lines:
         rows = [line.partition("#")[0].strip() for line in lines]
-    return [it for it in (re.split(r"[ :]", row)[0] for row in rows if row) if not it.endswith("_tests")]
+    return {re.split(r"[ :]", row)[0]: row.partition(":")[2].split() for row in rows if row}
+
+
+def crates():
+    return [it for it in listed() if not it.endswith("_tests")]
 
 
 def files(folder, ending):
@@ -95,6 +104,23 @@ def windows():
     return [" ~ ".join(place for _, place in places) for places in twice]
 
 
+def unused():
+    """What crates.txt says that a crate uses, and its sources don't name; and files of lemmas that nothing cites."""
+    rows = listed()
+    paths = (path for crate in rows for end in (".rt", ".antt") for path in files(f"{TOP}/crates/{crate}", end))
+    texts = {path: "\n".join(lines_of(path)) for path in paths}
+    for crate, uses in rows.items():
+        own = "\n".join(text for path, text in texts.items() if path.startswith(f"{TOP}/crates/{crate}/"))
+        yield from (f"crates.txt: {crate} on {it}" for it in uses if not re.search(rf"\b{it}::|\bRattle\.{it}\.", own))
+    cited = set(re.findall(r"Rattle\.(\w+)\.proofs\.(\w+)", "\n".join(texts.values())))
+    for path, text in texts.items():
+        crate, _, place = os.path.relpath(path, f"{TOP}/crates").partition("/proofs/")
+        name = place.removesuffix(".antt")
+        if place and "/" not in place and name != "Lib" and not name.startswith(WORKED) and (crate, name) not in cited:
+            if not any(f"crate::proofs::{name}" in it for at, it in texts.items() if at.startswith(f"{TOP}/crates/{crate}/")):
+                yield f"crates/{crate}/proofs/{place}"
+
+
 def wide_lines():
     for crate in crates():
         for path in files(f"{TOP}/crates/{crate}/src", ".rt"):
@@ -124,6 +150,7 @@ def main(is_told):
     proofs = sum(len(lines_of(path)) for crate in crates() for path in files(f"{TOP}/crates/{crate}", ".antt"))
     rust = sum(len(lines_of(path)) for crate in crates() for path in files(f"{TOP}/crates/{crate}", ".rt"))
     print(f"lines of .antt to lines of .rt: {proofs} to {rust}, {proofs / rust:.2f}")
+    say("lines of crates.txt and files of lemmas that nothing uses", list(unused()), is_told)
     say(f"comments over {COMMENT_COLUMNS} columns, and Python lines over {PYTHON_COLUMNS}", list(wide_lines()), is_told)
 
 

@@ -1,2 +1,1 @@
 pub mod Leveled
-pub mod Sifted
