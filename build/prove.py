@@ -210,7 +210,7 @@ class Plan:
     use a processor. One job more than there are processors keeps them busy while one of the chain has work for one job."""
 
     def __init__(self, libraries, uses, seconds, answer=None):
-        """`answer` is the preview beside it. Until it ends it has a processor, and may still be about to take its memory."""
+        """`answer` is the preview beside it. Until it ends it has its processors, and may still be about to take its memory."""
         self.answer = answer
         self.chain = longest_chain(libraries, uses, seconds)
         passed = {it: seconds[it] / (CHAIN_SPEED if it in self.chain else 1) for it in libraries}
@@ -227,12 +227,13 @@ class Plan:
         if not ready or (self.running and memory < GIGABYTES_A_JOB):
             return None
         crate = ready[0]
-        idle = processors() - is_answering - sum(self.running.values())
+        idle = processors() - preview.PROCESSORS * is_answering - sum(self.running.values())
         spare = idle - len(ready) + 1
         if crate in self.chain:
             jobs = max(CHAIN_JOBS, spare)
         else:
-            jobs = max(spare, min(1, idle + any(it in self.chain for it in self.running)))
+            more = not is_answering and any(it in self.chain for it in self.running)
+            jobs = max(spare, min(1, idle + more), 0 if self.running else 1)
         most = MOST_JOBS if len(self.below[crate]) <= FEW_LIBRARIES else CHAIN_JOBS
         jobs = min(jobs, most, 1 + max(0, memory - GIGABYTES_A_JOB) // GIGABYTES_A_FURTHER_JOB)
         return (crate, jobs) if jobs > 0 else None

@@ -16,6 +16,8 @@ import preview  # noqa: E402
 import prove  # noqa: E402
 from costs import Estimate, seconds_of  # noqa: E402
 
+BARE = "/usr/bin:/bin"
+IS_BARE = shutil.which("python3", path=BARE) and not shutil.which("rt", path=BARE)
 HAS_ROOM = prove.processors() > 1 and prove.free_gigabytes() >= prove.GIGABYTES_A_JOB + preview.GIGABYTES
 
 
@@ -138,19 +140,22 @@ class Plans(unittest.TestCase):
     uses = {"base": [], "short": [], "middle": ["base"], "program": ["middle", "short"]}
     seconds = {"base": 90, "short": 20, "middle": 90, "program": 10}
 
-    def jobs(self, processors, answer):
-        """The crates that begin at once, with their jobs."""
+    def jobs(self, processors, answer, done=()):
+        """The crates that begin at once behind those that are done, with their jobs."""
         room = {"processors": lambda: processors, "free_gigabytes": lambda: 20}
         with unittest.mock.patch.multiple(prove, **room):
             plan = prove.Plan(list(self.uses)[:-1], self.uses, self.seconds, answer)
-            while started := plan.next([]):
+            plan.left = [it for it in plan.left if it not in done]
+            while started := plan.next(done):
                 plan.start(*started)
         return plan.running
 
-    def test_the_answer_has_a_processor(self):
+    def test_the_answer_has_its_processors(self):
         answering = unittest.mock.Mock(is_running=lambda: True)
-        self.assertEqual(self.jobs(4, answering), {"base": 2, "short": 1})
+        self.assertEqual(self.jobs(4, answering), {"base": 2})
+        self.assertEqual(self.jobs(5, answering), {"base": 2, "short": 1})
         self.assertEqual(self.jobs(2, answering), {"base": 2})
+        self.assertEqual(self.jobs(2, answering, ["base", "middle"]), {"short": 1})
 
     def test_a_proof_without_an_answer_has_all(self):
         over = unittest.mock.Mock(is_running=lambda: False)
@@ -224,6 +229,14 @@ class Builds(unittest.TestCase):
     def test_a_full_standard_error_ends_no_build(self):
         with self.begin("a.pla", through=("bash", "-c", '"$@" 2> /dev/full', "")) as ran:
             self.assertEqual((*ran.communicate(), ran.returncode), ("proved: a.pla\n", "", 7))
+        self.assert_clean()
+
+    @unittest.skipUnless(IS_BARE, "the kit is beside Debian's Python, or this isn't there")
+    def test_without_the_kit_one_line_says_so(self):
+        with self.begin("a.pla", PATH=BARE) as ran:
+            out, said = ran.communicate()
+        self.assertEqual((out, said.count("\n"), ran.returncode), ("", 1, 127))
+        self.assertTrue(said.startswith("minorder: not found: rt (the Rattle kit); a release needs none"), said)
         self.assert_clean()
 
     def test_none_is_tried_where_it_is_turned_off(self):
