@@ -3,14 +3,16 @@
 --     ChecksAs file text before after outcome      what a check writes
 --     Verdicts before after outcome      what it writes, whatever is known of its files
 --     MayEndCheck fault      the faults that standard error may name
-use Rattle.std.specs.Prelude.{◌≡◌, ◌⊎◌, ℕ, ◌<◌, ◌≤◌, List, [], length, take, Option, Result, Ok, Err, Some, codes}
+--     CheckEnds file cert before after outcome, OrdercheckEnds words status before after      how a check and ordercheck end
+use Rattle.std.specs.Prelude.{◌≡◌, ◌⊎◌, ℕ, ◌<◌, ◌≤◌, List, [], length, take, Option, Result, Ok, Err, IfSome}
 use Rattle.std.specs.Io.KnownBytes.{Appends}
 use Rattle.order_model.specs.Certificates.{Certificate, Reason, IsGood, IsFirstReason}
 use Rattle.certificate.specs.Faults.{FirstCertFault}
 use Rattle.certificate.specs.Heads.{most_bytes}
 use Rattle.pla_reader.specs.Covers.{NamedCover, functions_of}
 use Rattle.pla_reader.specs.Reading.{FirstFault}
-use Rattle.command_line.specs.Lines.{faults_of, ordercheck, value_of}
+use Rattle.command_line.specs.declared.check_line.CheckLine.{CheckLine}
+use Rattle.command_line.specs.Lines.{IsCheckLineOf, ordercheck}
 use Rattle.command_line.specs.Usages.{AsksForHelp}
 use Rattle.counted_io.specs.declared.whole.Refused.{Refused as NoBytes}
 use Rattle.counted_io.specs.declared.whole.Refused.TheVariants as refused
@@ -18,7 +20,11 @@ use Rattle.outcomes.specs.declared.outcome.Fault.{Fault}
 use Rattle.outcomes.specs.declared.outcome.Outcome.{Outcome}
 use Rattle.outcomes.specs.declared.outcome.Outcome.TheVariants.{Done, Invalid, Refused}
 use Rattle.outcomes.specs.declared.outcome.Fault.TheVariants.{Line, TooLong, OutOfMemory, Device, StoreFull, Pairs, CertificateLine, CertificateTooLong}
+use Rattle.outcomes.specs.declared.fault_lines.Program.TheVariants.{Ordercheck}
+use Rattle.outcomes.specs.Headline.{AcceptsTruly}
 use Rattle.outcomes.specs.Limits.{ReadsWithin, SpellsWithin}
+use Rattle.outcomes.specs.Programs.{ProgramEnds, Streams}
+use Rattle.outcomes.specs.Statuses.{FailsOnlyByDevice}
 use Rattle.pla_reader.specs.Answering.{longest}
 use Rattle.checks.specs.VerdictTexts.{invalid_line, valid_line}
 
@@ -93,11 +99,9 @@ Verdicts before after (Refused fault) = after ≡ before
 Verdicts before after outcome = (cover : NamedCover) × (cert : Certificate) × (line : List ℕ)
     × HasVerdict cover cert outcome line × Appends before after line
 
--- clap takes the words, and they name a file and a certificate
-pub record IsCheckOf (words : List (List ℕ)) : Type 0 where
-  pub taken : faults_of ordercheck words ≡ []
-  pub file : (path : List ℕ) × (value_of ordercheck words (codes "FILE") ≡ Some path)
-  pub cert : (path : List ℕ) × (value_of ordercheck words (codes "CERT") ≡ Some path)
+-- the words ask for a check
+abbrev pub IsCheckOf : List (List ℕ) → Type 0
+IsCheckOf words = (line : CheckLine) × IsCheckLineOf words line
 
 -- the words ask for a check, and this is what it leaves
 abbrev pub Checks : List (List ℕ) → Option (List ℕ) → Option (List ℕ) → Outcome → Type 0
@@ -120,3 +124,34 @@ abbrev pub MayEndCheck : Fault → Type 0
 MayEndCheck StoreFull = ⊥
 MayEndCheck (Pairs fault) = ⊥
 MayEndCheck fault = Unit {0}
+
+-- what a check's output holds, if it is known, and how many calls of its devices have failed
+pub record Devices : Type 0 where
+  pub out : Option (List ℕ)
+  pub failed : ℕ
+
+abbrev pub devices : Option (List ℕ) → ℕ → Devices
+devices out failed = record { out = out; failed = failed }
+
+-- how a check ends, by the bytes of the file and of the certificate, if they are known, and by what its devices were before and after
+pub record CheckEnds (file cert : Option (List ℕ)) (before after : Devices) (outcome : Outcome) : Type 0 where
+  -- 0, the headline: an accepted certificate states truly that its order has its total and none has fewer nodes
+  pub truth : IfSome file (λ bytes. IfSome cert (λ text. AcceptsTruly bytes text outcome))
+  -- 0 and 1: the line of the verdict is written; 3: the first fault of the file, else of the certificate; 3 and 4: nothing is written
+  pub checks : IfSome file (λ bytes. IfSome cert (λ text. ChecksAs bytes text before.out after.out outcome))
+  pub verdicts_whatever_is_read : Verdicts before.out after.out outcome
+  -- 5: only if a call of a device fails
+  pub fails_only_by_device : FailsOnlyByDevice before.failed after.failed outcome
+
+-- how ordercheck ends: its exit status, and what its streams hold before and after
+pub record OrdercheckEnds (words : List (List ℕ)) (status : ℕ) (before after : Streams) : Type 0 where
+  -- 0: help was asked for, or the line of a good certificate of some cover is written
+  pub done : status ≡ 0 → ChecksWell words before.out after.out
+  -- 1: the line of the first reason why a certificate is not good is written
+  pub certificate_is_invalid : status ≡ 1 → IsInvalid words before.out after.out
+  -- 3: the words name a file and a certificate
+  pub input_is_refused : status ≡ 3 → IsCheckOf words
+  -- 5: so they do, and nothing is written or a beginning of the line of a verdict
+  pub device_failed : status ≡ 5 → ChecksInPart words before.out after.out
+  -- 2 and 4, and what standard error gets
+  pub as_both_programs : ProgramEnds Ordercheck MayEndCheck words status before after

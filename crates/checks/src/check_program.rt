@@ -1,12 +1,10 @@
 //! The program ordercheck: words, files and messages.
 
-ghost use Rattle.std.specs.Prelude.{◌≡◌, ◌≢◌, ◌<◌, ◌≤◌, ◌^◌, IsTrue};
-ghost use Rattle.order_model.specs.Orders.{has};
-ghost use Rattle.command_line.specs.Lines.{LacksPaths, ordercheck as ordercheck_line, texts};
-ghost use Rattle.command_line.specs.Usages.{AreFaulty, TurnsAway};
-ghost use Rattle.checks.specs.Judging.{ChecksInPart, ChecksWell, IsCheckOf, IsInvalid, MayEndCheck, Verdicts};
-ghost use Rattle.outcomes.specs.Messages.{IsTold, writer};
-ghost use Rattle.outcomes.specs.Statuses.{check_exits};
+ghost use Rattle.std.specs.Prelude.{◌<◌, ◌^◌};
+ghost use Rattle.command_line.specs.Lines.{texts};
+ghost use Rattle.checks.specs.Judging.{OrdercheckEnds, Verdicts};
+ghost use Rattle.outcomes.specs.Messages.{writer};
+ghost use Rattle.outcomes.specs.Programs.{streams};
 
 use crate::checks::run_check;
 use command_line::CheckLine;
@@ -48,25 +46,9 @@ pub fn ordercheck<'a, R: Files + AllocGlobal + Threads + Sync, W: CountedWrite, 
 ) -> u8
     requires out { W.failures out.old < 2 ^ 32 }
     requires err { E.failures err.old < 2 ^ 32 }
-    ensures status { IsTrue (has check_exits result) }
-    ensures refused { result ≡ 2 → AreFaulty ordercheck_line LacksPaths (texts words.now) }
-    ensures faulty { AreFaulty ordercheck_line LacksPaths (texts words.now) →
-        TurnsAway ordercheck_line (texts words.now) result }
-    ensures valid { result ≡ 0 →
-        ChecksWell (texts words.now) (W.contents out.old) (W.contents out.new) }
-    ensures invalid { result ≡ 1 →
-        IsInvalid (texts words.now) (W.contents out.old) (W.contents out.new) }
-    ensures part { result ≡ 5 →
-        ChecksInPart (texts words.now) (W.contents out.old) (W.contents out.new) }
-    ensures check { result ≡ 3 → IsCheckOf (texts words.now) }
-    ensures quiet { result ≤ 1 → E.contents err.new ≡ E.contents err.old }
-    ensures silent { result ≢ 0 → result ≢ 1 → result ≢ 5 →
-        W.contents out.new ≡ W.contents out.old }
-    // the line of a fault with that status
-    ensures told { result ≢ 0 → result ≢ 1 → result ≢ 2 →
-        IsTold Program.Ordercheck MayEndCheck result
-        (writer (E.contents err.old) (E.failures err.old))
-        (writer (E.contents err.new) (E.failures err.new)) }
+    ensures { OrdercheckEnds (texts words.now) result
+        (streams (W.contents out.old) (writer (E.contents err.old) (E.failures err.old)))
+        (streams (W.contents out.new) (writer (E.contents err.new) (E.failures err.new))) }
 {
     let line = match CheckLine::of_words(rt.alloc(), words) {
         Ok(line) => line,

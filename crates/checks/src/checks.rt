@@ -1,10 +1,8 @@
 //! Checks of certificates, over any readers and writer.
 
 ghost use Rattle.std.specs.Prelude.{◌≡◌, ◌+◌, ◌<◌, ◌^◌, IfOk, IfErr, IfSome, string_bytes};
-ghost use Rattle.outcomes.specs.Headline.{AcceptsTruly};
-ghost use Rattle.checks.specs.Judging.{ChecksAs, HasVerdict, IsRefusedText, IsTextFault, Verdicts, bytes_fault, failed_reads};
+ghost use Rattle.checks.specs.Judging.{CheckEnds, HasVerdict, IsRefusedText, IsTextFault, bytes_fault, devices, failed_reads};
 ghost use Rattle.outcomes.specs.Limits.{SpellsWithin};
-ghost use Rattle.outcomes.specs.Statuses.{FailsOnlyByDevice};
 
 use crate::verdict_texts::{invalid_text, valid_text};
 use cert_check::{Verdict, check};
@@ -77,16 +75,11 @@ pub fn run_check<R: Threads + Sync, F: CountedRead, C: CountedRead, W: CountedWr
     requires file { F.failures file.old < 2 ^ 32 }
     requires cert { C.failures cert.old < 2 ^ 32 }
     requires out { W.failures out.old < 2 ^ 32 }
-    ensures checks { IfSome (F.remaining file.old)
-        (λ bytes. IfSome (C.remaining cert.old)
-        (λ text. ChecksAs bytes text (W.contents out.old) (W.contents out.new) result)) }
-    ensures verdicts { Verdicts (W.contents out.old) (W.contents out.new) result }
-    // an accepted certificate states truly that its order has its total and none has fewer nodes
-    ensures truth { IfSome (F.remaining file.old)
-        (λ bytes. IfSome (C.remaining cert.old) (λ text. AcceptsTruly bytes text result)) }
-    ensures devices { FailsOnlyByDevice
-        (F.failures file.old + C.failures cert.old + W.failures out.old)
-        (F.failures file.new + C.failures cert.new + W.failures out.new) result }
+    ensures { CheckEnds (F.remaining file.old) (C.remaining cert.old)
+        (devices (W.contents out.old)
+        (F.failures file.old + C.failures cert.old + W.failures out.old))
+        (devices (W.contents out.new)
+        (F.failures file.new + C.failures cert.new + W.failures out.new)) result }
 {
     let cover = match read_cover(alloc, file) {
         Ok(cover) => cover,

@@ -1,5 +1,5 @@
 -- The matches of either command line are those of a simple command, and their errors have that command's kinds.
-use Rattle.std.proofs.Common.{◌≡◌, ◌≢◌, ◌⊎◌, inl, inr, List, [], ◌∷◌, true, refl, sym, subst, ap, ◌∙◌}
+use Rattle.std.proofs.Common.{◌≡◌, ◌≢◌, ◌⊎◌, inl, inr, List, [], ◌∷◌, true, codes, refl, sym, subst, ap, ◌∙◌}
 use Rattle.clap.specs.Words.{App, HasKind, HasMatchesOf, IsAmong, Kinds, Text, fault_of, first_of, first_value, found_of, is_simple, is_simple_and_free, kind_of, matches_of, one_of, one_text}
 use Rattle.clap.specs.declared.error.Error.{Error}
 use Rattle.clap.specs.declared.error.kind.ErrorKind.{ErrorKind}
@@ -7,9 +7,11 @@ use Rattle.clap.specs.declared.error.kind.ErrorKind.TheVariants as kinds
 use Rattle.clap.specs.declared.parser.matches.ArgMatches.{ArgMatches}
 use Rattle.clap.proofs.OnLiterals.{clap_on_literals}
 use Rattle.clap.proofs.WalkLemmas.{first_value-rows, one_text-rows}
+use Rattle.command_line.specs.declared.check_line.CheckLine.{CheckLine}
+use Rattle.command_line.specs.declared.line.Line.{Line}
 use Rattle.command_line.specs.declared.usage.Usage.{Usage}
 use Rattle.command_line.specs.declared.usage.Usage.TheVariants.{Help, Refused, OutOfMemory}
-use Rattle.command_line.specs.Lines.{faults_of, minorder, ordercheck, read_of, value_of}
+use Rattle.command_line.specs.Lines.{IsCheckLineBy, IsCheckLineOf, IsFlag, IsLineBy, IsLineOf, IsNumber, faults_of, minorder, ordercheck, read_of, value_of}
 use Rattle.command_line.specs.Usages.{Explains, IsNoHelp, usage_kind, usage_of_kind}
 
 pub minorder_is_simple : is_simple minorder ≡ true
@@ -46,6 +48,35 @@ pub taken_faultless : (built app : App) (words : List Text) → built ≡ app �
     (is_simple_and_free built ≡ true → fault_of built words ≡ []) → faults_of app words ≡ []
 unfolding faults_of
 taken_faultless built app words is free none = subst (λ a. fault_of a words ≡ []) is (none (ap is_simple_and_free is ∙ free))
+
+-- what the matches of words that clap takes hold is the line of the words
+module _ (built : App) (words : List Text) (m : ArgMatches) (h : HasMatchesOf built words m) where
+  pub line_taken : (line : Line) → built ≡ minorder → (is_simple_and_free built ≡ true → fault_of built words ≡ []) →
+      IsLineBy (first_value (found_of m)) (one_text (found_of m)) line → IsLineOf words line
+  line_taken line is none by =
+      let value = value_matched built minorder is minorder_is_simple words m h in
+      let read = read_matched built minorder is minorder_is_simple words m h in
+      record {
+        taken = taken_faultless built minorder words is minorder_is_free none;
+        values = record {
+          file = value (codes "FILE") ∙ by.file;
+          cert = value (codes "cert") ∙ by.cert;
+          above = value (codes "above") ∙ by.above;
+          count = subst (λ v. IsFlag v line.plan.count) (sym (read (codes "count"))) by.count;
+          workers = subst (λ v. IsNumber v line.plan.workers) (sym (read (codes "workers"))) by.workers;
+          some_workers = by.some_workers;
+          most_workers = by.most_workers;
+        };
+      }
+
+  pub check_line_taken : (line : CheckLine) → built ≡ ordercheck → (is_simple_and_free built ≡ true → fault_of built words ≡ []) →
+      IsCheckLineBy (first_value (found_of m)) line → IsCheckLineOf words line
+  check_line_taken line is none by =
+      let value = value_matched built ordercheck is ordercheck_is_simple words m h in
+      record {
+        taken = taken_faultless built ordercheck words is ordercheck_is_free none;
+        values = record { file = value (codes "FILE") ∙ by.file; cert = value (codes "CERT") ∙ by.cert };
+      }
 
 among_some : (k : ErrorKind) (ks : Kinds) → IsAmong k ks → ks ≢ []
 among_some k [] h = absurd h

@@ -3,14 +3,17 @@
 --     ordercheck      FILE CERT
 --     value_of app words id, read_of app words id      the value of an argument, as it was written and as it is read
 --     IsFlag, IsNumber      what a read value means
+--     IsLineOf words line, IsCheckLineOf words line      clap takes the words, and their values make the line
 --     LacksValues file number, LacksFiles file cert      an argument that is needed is missing
 --     faults_of app words      the kinds of error that clap may give at the words, none if it takes them
-use Rattle.std.specs.Prelude.{◌≡◌, ◌⊎◌, ◌≤◌, ℕ, Bool, List, [], ◌∷◌, map, Option, Some, None, codes, true, false, pos}
+use Rattle.std.specs.Prelude.{◌≡◌, ◌⊎◌, ◌≤◌, ℕ, Bool, List, [], ◌∷◌, map, Option, Some, None, codes, option_map, true, false, pos}
 use Rattle.std.specs.Borrow.{Bor}
 use Rattle.std.specs.Str.Parse.{IsNumeral, digits_value, without_leading_plus}
 use Rattle.clap.specs.Words.{App, Kinds, Rule, Text, fault_of, first_of, one_of, matches_of, new_app, new_rule, with_rule}
 use Rattle.clap.specs.declared.builder.action.ArgAction.TheVariants.{SetTrue}
 use Rattle.clap.specs.declared.builder.value_parser.ValueParser.TheVariants as parser
+use Rattle.command_line.specs.declared.check_line.CheckLine.{CheckLine}
+use Rattle.command_line.specs.declared.line.Line.{Line}
 
 -- an option with one value
 abbrev pub option : Text → Rule
@@ -84,3 +87,28 @@ LacksPaths words = LacksFiles (value_of ordercheck words (codes "FILE")) (value_
 -- the kinds of error that clap may give at the words, none if it takes them
 unfoldable pub faults_of : App → List Text → Kinds
 faults_of app words = fault_of app words
+
+-- the values of minorder's arguments, as they were written and as they are read, make the line
+pub record IsLineBy (value read : Text → Option Text) (line : Line) : Type 0 where
+  pub file : value (codes "FILE") ≡ Some line.file.now
+  pub cert : value (codes "cert") ≡ option_map (λ s. s.now) line.cert
+  pub above : value (codes "above") ≡ option_map (λ s. s.now) line.plan.above
+  pub count : IsFlag (read (codes "count")) line.plan.count
+  pub workers : IsNumber (read (codes "workers")) line.plan.workers
+  pub some_workers : 1 ≤ line.plan.workers
+  pub most_workers : line.plan.workers ≤ 64
+
+-- clap takes the words of minorder, and their values make the line
+pub record IsLineOf (words : List Text) (line : Line) : Type 0 where
+  pub taken : faults_of minorder words ≡ []
+  pub values : IsLineBy (value_of minorder words) (read_of minorder words) line
+
+-- the values of ordercheck's arguments make the line
+pub record IsCheckLineBy (value : Text → Option Text) (line : CheckLine) : Type 0 where
+  pub file : value (codes "FILE") ≡ Some line.file.now
+  pub cert : value (codes "CERT") ≡ Some line.cert.now
+
+-- clap takes the words of ordercheck, and their values make the line
+pub record IsCheckLineOf (words : List Text) (line : CheckLine) : Type 0 where
+  pub taken : faults_of ordercheck words ≡ []
+  pub values : IsCheckLineBy (value_of ordercheck words) line

@@ -1,8 +1,8 @@
 //! What the words after ordercheck's name ask for.
 
-ghost use Rattle.std.specs.Prelude.{◌≡◌, IfErr, IfOk, IfSome, IsNone, Some, [], codes};
+ghost use Rattle.std.specs.Prelude.{◌≡◌, IfErr, IfOk, IfSome, IsNone, codes};
 ghost use Rattle.clap.specs.Words.{app_of, first_value, found_of};
-ghost use Rattle.command_line.specs.Lines.{LacksFiles, LacksPaths, faults_of, ordercheck, texts, value_of};
+ghost use Rattle.command_line.specs.Lines.{IsCheckLineBy, IsCheckLineOf, LacksFiles, LacksPaths, ordercheck, texts};
 ghost use Rattle.command_line.specs.Usages.{Explains};
 
 use crate::arguments::{missing_argument, required_path};
@@ -39,10 +39,7 @@ fn command<'a>(alloc: Global) -> Result<Command<'a>, AllocError>
 
 /// What the matches of the command hold.
 fn line_of<'a>(matches: &ArgMatches<'a>) -> Option<CheckLine<'a>>
-    ensures file { IfSome result
-        (λ line. first_value (found_of matches.now) (codes "FILE") ≡ Some line.file.now) }
-    ensures cert { IfSome result
-        (λ line. first_value (found_of matches.now) (codes "CERT") ≡ Some line.cert.now) }
+    ensures line { IfSome result (IsCheckLineBy (first_value (found_of matches.now))) }
     ensures lacks { IsNone result →
         LacksFiles (first_value (found_of matches.now) (codes "FILE"))
         (first_value (found_of matches.now) (codes "CERT")) }
@@ -55,11 +52,7 @@ fn line_of<'a>(matches: &ArgMatches<'a>) -> Option<CheckLine<'a>>
 impl<'a> CheckLine<'a> {
     /// What the words after the program's name ask for, by clap's rules.
     pub fn of_words(alloc: Global, words: &'a [&'a str]) -> Result<CheckLine<'a>, Usage>
-        ensures file { IfOk result
-            (λ line. value_of ordercheck (texts words.now) (codes "FILE") ≡ Some line.file.now) }
-        ensures cert { IfOk result
-            (λ line. value_of ordercheck (texts words.now) (codes "CERT") ≡ Some line.cert.now) }
-        ensures taken { IfOk result (λ _. faults_of ordercheck (texts words.now) ≡ []) }
+        ensures line { IfOk result (IsCheckLineOf (texts words.now)) }
         ensures refused { IfErr result (Explains ordercheck LacksPaths (texts words.now)) }
     {
         let mut command = match command(alloc) {

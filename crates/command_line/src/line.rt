@@ -1,8 +1,8 @@
 //! What the words after minorder's name ask for.
 
-ghost use Rattle.std.specs.Prelude.{◌≡◌, IfErr, IfOk, IfSome, IsNone, Some, [], codes, false, option_map};
+ghost use Rattle.std.specs.Prelude.{◌≡◌, IfErr, IfOk, IfSome, IsNone, codes, false};
 ghost use Rattle.clap.specs.Words.{app_of, first_value, found_of, one_text, rule_of};
-ghost use Rattle.command_line.specs.Lines.{IsFlag, IsNumber, LacksArguments, LacksValues, count_rule, faults_of, minorder, option as option_rule, read_of, texts, value_of, with_options as options_of, workers_rule};
+ghost use Rattle.command_line.specs.Lines.{IsLineBy, IsLineOf, LacksArguments, LacksValues, count_rule, minorder, option as option_rule, texts, with_options as options_of, workers_rule};
 ghost use Rattle.command_line.specs.Usages.{Explains};
 
 use crate::arguments::{missing_argument, required_path};
@@ -112,18 +112,8 @@ fn command<'a>(alloc: Global) -> Result<Command<'a>, AllocError>
 
 /// What the matches of the command hold.
 fn line_of<'a>(matches: &ArgMatches<'a>) -> Option<Line<'a>>
-    ensures file { IfSome result
-        (λ line. first_value (found_of matches.now) (codes "FILE") ≡ Some line.file.now) }
-    ensures cert { IfSome result
-        (λ line. first_value (found_of matches.now) (codes "cert") ≡ option_map (λ s. s.now)
-        line.cert) }
-    ensures above { IfSome result
-        (λ line. first_value (found_of matches.now) (codes "above") ≡ option_map (λ s. s.now)
-        line.plan.above) }
-    ensures count { IfSome result
-        (λ line. IsFlag (one_text (found_of matches.now) (codes "count")) line.plan.count) }
-    ensures workers { IfSome result
-        (λ line. IsNumber (one_text (found_of matches.now) (codes "workers")) line.plan.workers) }
+    ensures line { IfSome result
+        (IsLineBy (first_value (found_of matches.now)) (one_text (found_of matches.now))) }
     ensures lacks { IsNone result →
         LacksValues (first_value (found_of matches.now) (codes "FILE"))
         (one_text (found_of matches.now) (codes "workers")) }
@@ -149,20 +139,7 @@ impl<'a> Line<'a> {
     /// Options stand before or after the file, each at most once. An option's value may stand in
     /// the same word, as in `--workers=2`.
     pub fn of_words(alloc: Global, words: &'a [&'a str]) -> Result<Line<'a>, Usage>
-        ensures file { IfOk result
-            (λ line. value_of minorder (texts words.now) (codes "FILE") ≡ Some line.file.now) }
-        ensures cert { IfOk result
-            (λ line. value_of minorder (texts words.now) (codes "cert") ≡ option_map (λ s. s.now)
-            line.cert) }
-        ensures above { IfOk result
-            (λ line. value_of minorder (texts words.now) (codes "above") ≡ option_map (λ s. s.now)
-            line.plan.above) }
-        ensures count { IfOk result
-            (λ line. IsFlag (read_of minorder (texts words.now) (codes "count")) line.plan.count) }
-        ensures workers { IfOk result
-            (λ line. IsNumber (read_of minorder (texts words.now) (codes "workers"))
-            line.plan.workers) }
-        ensures taken { IfOk result (λ _. faults_of minorder (texts words.now) ≡ []) }
+        ensures line { IfOk result (IsLineOf (texts words.now)) }
         ensures refused { IfErr result (Explains minorder LacksArguments (texts words.now)) }
     {
         let mut command = match command(alloc) {

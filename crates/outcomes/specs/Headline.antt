@@ -1,10 +1,11 @@
 -- The headline of this repository, line by line.
 --
 -- Where a run ends with status 0, the printed order is the first under which the file's functions have an ordered shared diagram with the
--- printed number of decision nodes, and no ordered shared diagram of them under any order has fewer (`PrintsOptimum`, the clause
--- `optimum` of `run`);
+-- printed number of decision nodes, and no ordered shared diagram of them under any order has fewer (`PrintsOptimum`, the line
+-- `optimum` of `RunEnds`, which `run` promises);
 -- and each certificate that the checker accepts states truly that its order has its total and none has fewer (`AcceptsTruly`,
--- the clause `truth` of `run_check`). Neither clause speaks of the number of workers or of a schedule: both hold for each.
+-- the line `truth` of `CheckEnds`, which `run_check` promises).
+-- Neither line speaks of the number of workers or of a schedule: both hold for each.
 -- What is printed is the same for each (the law `texts_are_determined`).
 -- With pairs, "any order" and "first" range over the orders that keep them.
 use Rattle.std.specs.Prelude.{◌≡◌, ◌≢◌, ℕ, ◌≤◌, false, List, ◌++◌, length, sum, Option, Ok}

@@ -3,4 +3,5 @@ pub mod Plans
 pub mod Limits
 pub mod Texts
 pub mod Messages
+pub mod Programs
 pub mod Headline

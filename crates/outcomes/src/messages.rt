@@ -1,9 +1,8 @@
 //! What programs do with their words and their messages.
 
-ghost use Rattle.std.specs.Prelude.{◌≡◌, ◌≢◌, ◌<◌, ◌^◌, IsTrue};
-ghost use Rattle.order_model.specs.Orders.{has};
+ghost use Rattle.std.specs.Prelude.{◌<◌, ◌^◌};
 ghost use Rattle.outcomes.specs.Messages.{Receives, fault_line as line_of, writer};
-ghost use Rattle.outcomes.specs.Statuses.{IsHelp, IsRefusal, usage_exits};
+ghost use Rattle.outcomes.specs.Programs.{UsageEnds, streams};
 
 use crate::fault_lines::{Program, fault_line};
 use crate::outcome::Fault;
@@ -63,15 +62,9 @@ pub fn write_usage<W: CountedWrite, E: CountedWrite>(
 ) -> u8
     requires out { W.failures out.old < 2 ^ 32 }
     requires err { E.failures err.old < 2 ^ 32 }
-    ensures status { IsTrue (has usage_exits result) }
-    ensures help { result ≡ 0 → IsHelp usage.now }
-    ensures refused { result ≡ 2 → IsRefusal usage.now }
-    ensures quiet { result ≡ 0 → E.contents err.new ≡ E.contents err.old }
-    ensures silent { result ≢ 0 → W.contents out.new ≡ W.contents out.old }
-    ensures told { result ≡ 4 →
-        Receives (line_of program Fault.OutOfMemory)
-        (writer (E.contents err.old) (E.failures err.old))
-        (writer (E.contents err.new) (E.failures err.new)) }
+    ensures { UsageEnds program usage.now result
+        (streams (W.contents out.old) (writer (E.contents err.old) (E.failures err.old)))
+        (streams (W.contents out.new) (writer (E.contents err.new) (E.failures err.new))) }
 {
     let text = match usage {
         Usage::Help(error) | Usage::Refused(error) => format!(in alloc; "{error}").ok(),

@@ -1,13 +1,11 @@
 //! The program minorder: words, files and messages.
 
-ghost use Rattle.std.specs.Prelude.{◌≡◌, ◌≢◌, ◌<◌, ◌^◌, IsTrue, None};
-ghost use Rattle.order_model.specs.Orders.{has};
-ghost use Rattle.command_line.specs.Lines.{LacksArguments, minorder as minorder_line, texts};
-ghost use Rattle.command_line.specs.Usages.{AreFaulty, TurnsAway};
+ghost use Rattle.std.specs.Prelude.{◌<◌, ◌^◌, None};
+ghost use Rattle.command_line.specs.Lines.{texts};
 ghost use Rattle.pla_reader.specs.Covers.{IsCover};
-ghost use Rattle.run_texts.specs.Runs.{DeliversReport, EndsInPart, EndsWell, IsFaultyRunOf, IsHindered, IsRunOf, MayEndRun};
-ghost use Rattle.outcomes.specs.Messages.{IsTold, writer};
-ghost use Rattle.outcomes.specs.Statuses.{exits};
+ghost use Rattle.run_texts.specs.Runs.{DeliversReport, IsHindered, MinorderEnds};
+ghost use Rattle.outcomes.specs.Messages.{writer};
+ghost use Rattle.outcomes.specs.Programs.{streams};
 
 use crate::runs::run;
 use command_line::Line;
@@ -58,24 +56,9 @@ pub fn minorder<'a, R: Files + AllocGlobal + Threads + Sync, W: CountedWrite, E:
 ) -> u8
     requires out { W.failures out.old < 2 ^ 32 }
     requires err { E.failures err.old < 2 ^ 32 }
-    ensures status { IsTrue (has exits result) }
-    ensures refused { result ≡ 2 → AreFaulty minorder_line LacksArguments (texts words.now) }
-    ensures faulty { AreFaulty minorder_line LacksArguments (texts words.now) →
-        TurnsAway minorder_line (texts words.now) result }
-    ensures answered { result ≡ 0 →
-        EndsWell (texts words.now) (W.contents out.old) (W.contents out.new) }
-    ensures part { result ≡ 5 →
-        EndsInPart (texts words.now) (W.contents out.old) (W.contents out.new) }
-    // 3 is a run's fault, 8 that of a list of pairs that is faulty for some cover
-    ensures run { result ≡ 3 → IsRunOf (texts words.now) }
-    ensures pairs { result ≡ 8 → IsFaultyRunOf (texts words.now) }
-    ensures quiet { result ≡ 0 → E.contents err.new ≡ E.contents err.old }
-    ensures silent { result ≢ 0 → result ≢ 5 → W.contents out.new ≡ W.contents out.old }
-    // the line of a fault with that status
-    ensures told { result ≢ 0 → result ≢ 2 →
-        IsTold Program.Minorder (MayEndRun (texts words.now)) result
-        (writer (E.contents err.old) (E.failures err.old))
-        (writer (E.contents err.new) (E.failures err.new)) }
+    ensures { MinorderEnds (texts words.now) result
+        (streams (W.contents out.old) (writer (E.contents err.old) (E.failures err.old)))
+        (streams (W.contents out.new) (writer (E.contents err.new) (E.failures err.new))) }
 {
     let line = match Line::of_words(rt.alloc(), words) {
         Ok(line) => line,

@@ -1,14 +1,8 @@
 //! Runs of minorder, over any reader and writers.
 
-ghost use Rattle.std.specs.Prelude.{◌≢◌, ◌+◌, ◌<◌, ◌^◌, IfOk, IfErr, IfSome, option_map, string_bytes};
-ghost use Rattle.pla_reader.specs.Covers.{IsCover};
-ghost use Rattle.pla_reader.specs.Reading.{Reads};
+ghost use Rattle.std.specs.Prelude.{◌+◌, ◌<◌, ◌^◌, IfOk, IfErr, option_map, string_bytes};
 ghost use Rattle.run_texts.specs.Answers.{HasCertificate, Hinders, IsTextOf};
-ghost use Rattle.outcomes.specs.Headline.{PrintsOptimum};
-ghost use Rattle.outcomes.specs.declared.outcome.Outcome.TheVariants.{Refused};
-ghost use Rattle.outcomes.specs.declared.outcome.Fault.TheVariants.{StoreFull};
-ghost use Rattle.run_texts.specs.Runs.{Delivers, IsHindered, Tells, WritesGood, failures_in, held};
-ghost use Rattle.outcomes.specs.Statuses.{FailsOnlyByDevice};
+ghost use Rattle.run_texts.specs.Runs.{RunEnds, devices, failures_in, held};
 
 use crate::answers::{answer_texts, pairs_of};
 use command_line::RunPlan;
@@ -68,27 +62,11 @@ pub fn run<'a, R: Threads + Sync, F: CountedRead, W: CountedWrite, C: CountedWri
     requires file { F.failures file.old < 2 ^ 32 }
     requires out { W.failures out.old < 2 ^ 32 }
     requires cert { failures_in C.failures cert.old < 2 ^ 32 }
-    ensures tells { IfSome (F.remaining file.old) (λ bytes. Tells plan.now bytes result) }
-    ensures writes { IfSome (F.remaining file.old)
-        (λ bytes. Delivers plan.now (Reads bytes)
-        (held (W.contents out.old) (option_map C.contents cert.old))
-        (held (W.contents out.new) (option_map C.contents cert.new)) result) }
-    ensures answers { Delivers plan.now IsCover
-        (held (W.contents out.old) (option_map C.contents cert.old))
-        (held (W.contents out.new) (option_map C.contents cert.new)) result }
-    ensures hindered { IsHindered plan.now IsCover result }
-    // no run ends with status 6
-    ensures never_full { result ≢ Refused StoreFull }
-    // what the certificate's writer got reads as a good certificate
-    ensures good { IfSome (F.remaining file.old)
-        (λ bytes. WritesGood plan.now bytes (option_map C.contents cert.old)
-        (option_map C.contents cert.new) result) }
-    // the printed order is the first under which the file's functions have the fewest nodes
-    ensures optimum { IfSome (F.remaining file.old)
-        (λ bytes. PrintsOptimum plan.now bytes (W.contents out.old) (W.contents out.new) result) }
-    ensures devices { FailsOnlyByDevice
-        (F.failures file.old + W.failures out.old + failures_in C.failures cert.old)
-        (F.failures file.new + W.failures out.new + failures_in C.failures cert.new) result }
+    ensures { RunEnds plan.now (F.remaining file.old)
+        (devices (held (W.contents out.old) (option_map C.contents cert.old))
+        (F.failures file.old + W.failures out.old + failures_in C.failures cert.old))
+        (devices (held (W.contents out.new) (option_map C.contents cert.new))
+        (F.failures file.new + W.failures out.new + failures_in C.failures cert.new)) result }
 {
     let cover = match read_cover(alloc, file) {
         Ok(cover) => cover,

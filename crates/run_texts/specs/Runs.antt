@@ -3,11 +3,12 @@
 --     Sends report text before after outcome      what the writers get of a report and of a certificate's text
 --     Tells plan file outcome      what the outcome says of the bytes of the file
 --     Delivers plan IsRead before after outcome      what the writers get, by what is known of the cover that was read
---     IsPlanOf words plan, EndsWell words before after      the plan of words; what a program writes that ends with status 0
+--     EndsWell words before after, EndsInPart words before after      what minorder writes that ends with the statuses 0 and 5
 --     IsHindered plan IsRead outcome      which faults need a cover that was read
 --     IsRunOf words, IsFaultyRunOf words      what words ask for that end with the statuses 3 and 8
 --     MayEndRun words fault      the faults that standard error may name
-use Rattle.std.specs.Prelude.{◌≡◌, ◌⊎◌, ℕ, ◌<◌, ◌≤◌, Bool, true, false, List, [], length, take, Option, Some, None, Err, String, codes, option_map, string_bytes}
+--     RunEnds plan file before after outcome, MinorderEnds words status before after      how a run and minorder end
+use Rattle.std.specs.Prelude.{◌≡◌, ◌≢◌, ◌⊎◌, ℕ, ◌<◌, ◌≤◌, Bool, true, false, List, length, take, Option, Some, None, Err, IfSome, String, option_map, string_bytes}
 use Rattle.std.specs.Borrow.{Bor}
 use Rattle.std.specs.Global.{Global}
 use Rattle.std.specs.Io.KnownBytes.{Appends}
@@ -18,15 +19,20 @@ use Rattle.pla_reader.specs.Covers.{NamedCover, IsCover, functions_of}
 use Rattle.pla_reader.specs.Answering.{longest}
 use Rattle.pla_reader.specs.Reading.{Reads, FirstFault}
 use Rattle.command_line.specs.declared.line.RunPlan.{RunPlan}
-use Rattle.command_line.specs.Lines.{IsFlag, IsNumber, faults_of, minorder, read_of, value_of}
+use Rattle.command_line.specs.declared.line.Line.{Line as CommandLine}
+use Rattle.command_line.specs.Lines.{IsLineOf, minorder}
 use Rattle.command_line.specs.Usages.{AsksForHelp}
 use Rattle.outcomes.specs.declared.outcome.Fault.{Fault}
 use Rattle.outcomes.specs.declared.outcome.Outcome.{Outcome}
 use Rattle.outcomes.specs.declared.outcome.Outcome.TheVariants.{Done, Invalid, Refused}
 use Rattle.outcomes.specs.declared.outcome.Fault.TheVariants.{Line, TooLong, OutOfMemory, Device, StoreFull, Pairs, CertificateLine, CertificateTooLong}
 use Rattle.run_texts.specs.Answers.{IsTextOf, IsCertificateOf, Hinders}
+use Rattle.outcomes.specs.Headline.{PrintsOptimum}
 use Rattle.outcomes.specs.Limits.{SpellsWithin}
 use Rattle.outcomes.specs.Plans.{PairsAre}
+use Rattle.outcomes.specs.Programs.{ProgramEnds, Streams}
+use Rattle.outcomes.specs.Statuses.{FailsOnlyByDevice}
+use Rattle.outcomes.specs.declared.fault_lines.Program.TheVariants.{Minorder}
 
 -- what the writers hold, if it is known: that of the report, and that of the certificate, if there is one
 pub record Held : Type 0 where
@@ -121,23 +127,12 @@ WritesGood plan file before after Done = plan.count ≡ false →
 WritesGood plan file before after (Refused fault) = Unit {0}
 WritesGood plan file before after Invalid = Unit {0}
 
--- clap takes the words, they name a file, and the plan has their values
-pub record IsPlanOf (words : List (List ℕ)) (plan : RunPlan) : Type 0 where
-  pub taken : faults_of minorder words ≡ []
-  pub file : (path : List ℕ) × (value_of minorder words (codes "FILE") ≡ Some path)
-  pub above : value_of minorder words (codes "above") ≡ option_map (λ s. s.now) plan.above
-  pub count : IsFlag (read_of minorder words (codes "count")) plan.count
-  pub workers : IsNumber (read_of minorder words (codes "workers")) plan.workers
-  pub some_workers : 1 ≤ plan.workers
-  pub most_workers : plan.workers ≤ 64
-
 -- what a program writes to its output that ends with status 0: help, if clap answers the words with it, else the text of some cover
 abbrev pub EndsWell : List (List ℕ) → Option (List ℕ) → Option (List ℕ) → Type 0
 EndsWell words before after =
     AsksForHelp minorder words ⊎
-    ((plan : RunPlan) × IsPlanOf words plan × (cover : NamedCover) × (text : List ℕ) × IsCover cover
-    × IsTextOf plan cover text
-    × Appends before after text)
+    ((line : CommandLine) × IsLineOf words line × (cover : NamedCover) × (text : List ℕ) × IsCover cover
+    × IsTextOf line.plan cover text × Appends before after text)
 
 -- the same of the report alone
 abbrev pub DeliversReport : RunPlan → (NamedCover → Type 0) → Option (List ℕ) → Option (List ℕ) → Outcome → Type 0
@@ -154,9 +149,9 @@ DeliversReport plan IsRead before after (Refused fault) = after ≡ before
 
 -- what it leaves on its output if a device failed, which the words ask for: nothing, or a beginning of the text of some cover
 abbrev pub EndsInPart : List (List ℕ) → Option (List ℕ) → Option (List ℕ) → Type 0
-EndsInPart words before after = (plan : RunPlan) × IsPlanOf words plan
+EndsInPart words before after = (line : CommandLine) × IsLineOf words line
     × ((after ≡ before) ⊎ ((cover : NamedCover) × (text : List ℕ) × (n : ℕ) × IsCover cover
-    × IsTextOf plan cover text × Appends before after (take n text)))
+    × IsTextOf line.plan cover text × Appends before after (take n text)))
 
 -- no run meets a full store, and one whose pairs are faulty has read a cover that is hindered so
 abbrev pub IsHindered : RunPlan → (NamedCover → Type 0) → Outcome → Type 0
@@ -166,20 +161,19 @@ IsHindered plan IsRead _ = Unit {0}
 
 -- the words ask for a run
 abbrev pub IsRunOf : List (List ℕ) → Type 0
-IsRunOf words = (plan : RunPlan) × IsPlanOf words plan
+IsRunOf words = (line : CommandLine) × IsLineOf words line
 
 -- the words ask for a run without count, with a list of pairs that is faulty for some cover
 abbrev pub IsFaultyRunOf : List (List ℕ) → Type 0
 IsFaultyRunOf words =
-    (plan : RunPlan) × IsPlanOf words plan × (plan.count ≡ false) × (cover : NamedCover) × IsCover cover
-    × (fault : PairsFault)
-    × PairsAre plan.above cover.inputs (Err fault)
+    (line : CommandLine) × IsLineOf words line × (line.plan.count ≡ false) × (cover : NamedCover) × IsCover cover
+    × (fault : PairsFault) × PairsAre line.plan.above cover.inputs (Err fault)
 
 -- the faults that may end a run of the words: of pairs those of their list for some cover, and none of a certificate or a full store
 abbrev pub MayEndRun : List (List ℕ) → Fault → Type 0
 MayEndRun words (Pairs fault) =
-    (plan : RunPlan) × IsPlanOf words plan × (cover : NamedCover) × IsCover cover
-    × PairsAre plan.above cover.inputs (Err fault)
+    (line : CommandLine) × IsLineOf words line × (cover : NamedCover) × IsCover cover
+    × PairsAre line.plan.above cover.inputs (Err fault)
 MayEndRun words StoreFull = ⊥
 MayEndRun words (CertificateLine line fault) = ⊥
 MayEndRun words CertificateTooLong = ⊥
@@ -189,3 +183,41 @@ MayEndRun words fault = Unit {0}
 abbrev pub failures_in : {C : Type 0} → (C → ℕ) → Option C → ℕ
 failures_in count None = 0
 failures_in count (Some writer) = count writer
+
+-- what a run's writers hold, and how many calls of its devices have failed
+pub record Devices : Type 0 where
+  pub held : Held
+  pub failed : ℕ
+
+abbrev pub devices : Held → ℕ → Devices
+devices held failed = record { held = held; failed = failed }
+
+-- how a run ends, by the bytes of its file, if they are known, and by what its devices were before and after
+pub record RunEnds (plan : RunPlan) (file : Option (List ℕ)) (before after : Devices) (outcome : Outcome) : Type 0 where
+  -- 0, the headline: the printed order is the first under which the file's functions have the fewest nodes
+  pub optimum : IfSome file (λ bytes. PrintsOptimum plan bytes before.held.out after.held.out outcome)
+  -- 0: what the certificate's writer got reads as a good certificate
+  pub good : IfSome file (λ bytes. WritesGood plan bytes before.held.cert after.held.cert outcome)
+  -- 0: the writers got all texts; 5: nothing, or a part of them; 3, 4 and 8: nothing
+  pub writes : IfSome file (λ bytes. Delivers plan (Reads bytes) before.held after.held outcome)
+  pub writes_whatever_is_read : Delivers plan IsCover before.held after.held outcome
+  -- 3: the first fault of the file, or too many bytes; 8: the fault of the pairs
+  pub tells : IfSome file (λ bytes. Tells plan bytes outcome)
+  pub hindered_whatever_is_read : IsHindered plan IsCover outcome
+  -- 5: only if a call of a device fails
+  pub fails_only_by_device : FailsOnlyByDevice before.failed after.failed outcome
+  -- 6: never
+  pub never_full : outcome ≢ Refused StoreFull
+
+-- how minorder ends: its exit status, and what its streams hold before and after
+pub record MinorderEnds (words : List (List ℕ)) (status : ℕ) (before after : Streams) : Type 0 where
+  -- 0: help was asked for, or the text of some cover is written
+  pub done : status ≡ 0 → EndsWell words before.out after.out
+  -- 3: the words ask for a run
+  pub file_is_refused : status ≡ 3 → IsRunOf words
+  -- 5: so they do, and nothing is written or a beginning of such a text
+  pub device_failed : status ≡ 5 → EndsInPart words before.out after.out
+  -- 8: they ask for a run without count, and the list of pairs is faulty for some cover
+  pub pairs_are_refused : status ≡ 8 → IsFaultyRunOf words
+  -- 2 and 4, and what standard error gets
+  pub as_both_programs : ProgramEnds Minorder (MayEndRun words) words status before after

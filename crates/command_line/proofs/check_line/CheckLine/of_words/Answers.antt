@@ -1,20 +1,8 @@
-use Rattle.std.proofs.Common.{codes, refl, subst, sym, ◌∙◌}
+use Rattle.std.proofs.Common.{codes, refl, subst, sym}
 use Rattle.clap.specs.Words.{app_of}
 use Rattle.command_line.specs.Lines.{LacksFiles, LacksPaths, ordercheck, texts, value_of}
-use Rattle.command_line.proofs.Matched.{error_explained, lacking_explained, ordercheck_is_free, ordercheck_is_simple, taken_faultless, value_matched}
+use Rattle.command_line.proofs.Matched.{check_line_taken, error_explained, lacking_explained, ordercheck_is_free, ordercheck_is_simple, value_matched}
 use Rattle.command_line.proofs.check_line.CheckLine.of_words.Goals as goal
-
-pub returns-in-Some-clause-file : goal.returns-in-Some-clause-file
-returns-in-Some-clause-file c =
-    value_matched (app_of c.in-Ok.command) ordercheck c.in-Ok.ensures ordercheck_is_simple (texts c.args.words.now)
-    c.in-Ok-try_get_matches_from_mut.matches c.in-Ok-try_get_matches_from_mut.ensures.ok.2 (codes "FILE")
-    ∙ c.in-Some.ensures.file
-
-pub returns-in-Some-clause-cert : goal.returns-in-Some-clause-cert
-returns-in-Some-clause-cert c =
-    value_matched (app_of c.in-Ok.command) ordercheck c.in-Ok.ensures ordercheck_is_simple (texts c.args.words.now)
-    c.in-Ok-try_get_matches_from_mut.matches c.in-Ok-try_get_matches_from_mut.ensures.ok.2 (codes "CERT")
-    ∙ c.in-Some.ensures.cert
 
 pub returns-in-Err-try_get_matches_from_mut-clause-refused : goal.returns-in-Err-try_get_matches_from_mut-clause-refused
 returns-in-Err-try_get_matches_from_mut-clause-refused c =
@@ -32,7 +20,7 @@ returns-clause-refused c =
     (subst (λ v. LacksFiles v (value_of ordercheck words (codes "CERT"))) (sym file)
     (subst (LacksFiles _) (sym cert) (c.in-None.ensures.lacks refl)))
 
-pub returns-in-Some-clause-taken : goal.returns-in-Some-clause-taken
-returns-in-Some-clause-taken c =
-    taken_faultless (app_of c.in-Ok.command) ordercheck (texts c.args.words.now) c.in-Ok.ensures ordercheck_is_free
-    c.in-Ok-try_get_matches_from_mut.ensures.kinds
+pub returns-in-Some-clause-line : goal.returns-in-Some-clause-line
+returns-in-Some-clause-line c =
+    check_line_taken (app_of c.in-Ok.command) (texts c.args.words.now) c.in-Ok-try_get_matches_from_mut.matches
+    c.in-Ok-try_get_matches_from_mut.ensures.ok.2 c.in-Some.line c.in-Ok.ensures c.in-Ok-try_get_matches_from_mut.ensures.kinds c.in-Some.ensures.line
