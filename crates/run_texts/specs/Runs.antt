@@ -7,6 +7,7 @@
 --     IsHindered plan IsRead outcome      which faults need a cover that was read
 --     IsRunOf words, IsFaultyRunOf words      what words ask for that end with the statuses 3 and 8
 --     MayEndRun words fault      the faults that standard error may name
+--     LeaveTheSame plan other      what is written of a file by two plans is the same
 --     RunEnds plan file before after outcome, MinorderEnds words status before after      how a run and minorder end
 use Rattle.std.specs.Prelude.{◌≡◌, ◌≢◌, ◌⊎◌, ℕ, ◌<◌, ◌≤◌, Bool, true, false, List, length, take, Option, Some, None, Err, IfSome, String, option_map, string_bytes}
 use Rattle.std.specs.Borrow.{Bor}
@@ -183,6 +184,17 @@ MayEndRun words fault = Unit {0}
 abbrev pub failures_in : {C : Type 0} → (C → ℕ) → Option C → ℕ
 failures_in count None = 0
 failures_in count (Some writer) = count writer
+
+-- what runs of two plans leave: a cover has one text and one certificate, and if both are done, what is written of a file is the same
+pub record LeaveTheSame (plan other : RunPlan) : Type 0 where
+  pub reports : (cover : NamedCover) (a b : List ℕ) → IsTextOf plan cover a → IsTextOf other cover b → a ≡ b
+  pub certificates : (cover : NamedCover) (a b : List ℕ) → IsCertificateOf plan.above cover a → IsCertificateOf other.above cover b → a ≡ b
+  pub printed : (file before after later : List ℕ) (c d e f : Option (Option (List ℕ))) →
+      Delivers plan (Reads file) (held (Some before) c) (held (Some after) d) Done →
+      Delivers other (Reads file) (held (Some before) e) (held (Some later) f) Done → after ≡ later
+  pub certified : (file before after later : List ℕ) (c d e f : Option (List ℕ)) →
+      Delivers plan (Reads file) (held c (Some (Some before))) (held d (Some (Some after))) Done →
+      Delivers other (Reads file) (held e (Some (Some before))) (held f (Some (Some later))) Done → after ≡ later
 
 -- what a run's writers hold, and how many calls of its devices have failed
 pub record Devices : Type 0 where
