@@ -1,8 +1,8 @@
 //! Writing the texts of a run.
 
-ghost use Rattle.std.specs.Prelude.{◌≡◌, ◌+◌, ◌<◌, ◌^◌, ℕ, OnErr, OnOk, option_map, string_bytes, take};
+ghost use Rattle.std.specs.Prelude.{◌+◌, ◌<◌, ◌^◌, ℕ, OnErr, OnOk, option_map, string_bytes, take};
 ghost use Rattle.outcomes.specs.Statuses.{FailsOnlyByDevice};
-ghost use Rattle.run_texts.specs.Runs.{GetsText, Sends, failures_in, held};
+ghost use Rattle.run_texts.specs.Runs.{Puts, Sends, certificate_writer, failures_in, held, part_in, whole};
 
 use counted_io::{CountedWrite, Refused, write_whole};
 use outcomes::{Fault, Outcome};
@@ -20,16 +20,12 @@ fn write_certificate<C: CountedWrite>(
     text: &Option<String>,
 ) -> Result<(), Refused>
     requires { failures_in C.failures cert.old < 2 ^ 32 }
-    ensures ok { OnOk result
-        (GetsText (option_map (λ t. string_bytes t) text.now) (option_map C.contents cert.old)
-        (option_map C.contents cert.new)) }
-    ensures ok_calls { OnOk result
-        (failures_in C.failures cert.new ≡ failures_in C.failures cert.old) }
-    ensures err { OnErr result
-        ((n : ℕ) × GetsText (option_map (λ t. take n (string_bytes t)) text.now)
-        (option_map C.contents cert.old) (option_map C.contents cert.new)) }
-    ensures err_calls { OnErr result
-        (failures_in C.failures cert.new ≡ failures_in C.failures cert.old + 1) }
+    ensures ok { OnOk result (Puts (part_in whole text.now) 0
+        (certificate_writer (option_map C.contents cert.old) (failures_in C.failures cert.old))
+        (certificate_writer (option_map C.contents cert.new) (failures_in C.failures cert.new))) }
+    ensures err { OnErr result ((n : ℕ) × Puts (part_in (take n) text.now) 1
+        (certificate_writer (option_map C.contents cert.old) (failures_in C.failures cert.old))
+        (certificate_writer (option_map C.contents cert.new) (failures_in C.failures cert.new))) }
 {
     let Some(text) = text else {
         return Ok(());
