@@ -123,8 +123,10 @@ class Interrupts(unittest.TestCase):
         begins = "import random, minorder\ntables = [random.getrandbits(1 << 16) for _ in range(16)]\nprint(flush=True)\n"
         for call in ("exact(tables, 16)", "exact_many([tables] * 8, 16)", "certify(tables, 16)"):
             script = f"{begins}minorder.{call}\n"
+            # a shell's background command, as .ci/run begins these tests, ignores interrupts, and what it begins would, too
             pipes = {"stdout": subprocess.PIPE, "stderr": subprocess.PIPE}
-            with subprocess.Popen([sys.executable, "-c", script], text=True, **pipes) as running:
+            heed = {"preexec_fn": lambda: signal.signal(signal.SIGINT, signal.SIG_DFL)}
+            with subprocess.Popen([sys.executable, "-c", script], text=True, **pipes, **heed) as running:
                 running.stdout.readline()
                 time.sleep(0.5)
                 start = time.monotonic()
