@@ -14,14 +14,14 @@ use Rattle.order_model.specs.Orders.{has, variables, without}
 use Rattle.order_model.specs.Widths.{width}
 use Rattle.order_model.proofs.Bits.Masks.{has_members, members_small}
 use Rattle.order_model.proofs.Lists.Ranges.{range_at}
-use Rattle.class_laws.specs.Dependence.{joined_mask}
-use Rattle.class_laws.specs.Places.{low_place, pairs}
-use Rattle.class_laws.specs.Table.{functions_of, set_of}
-use Rattle.class_laws.proofs.Apart.{distinct_first}
-use Rattle.class_laws.proofs.Counted.{width_is_dependent_classes}
-use Rattle.class_laws.specs.Made.{Made}
-use Rattle.class_laws.proofs.Firsts.{made_none, made_first, made_numbers, made_many, made_told}
-use Rattle.class_laws.proofs.Index.{length-pairs, pair_listed, pair_within}
+use Rattle.subfunction_classes.specs.Dependence.{joined_mask}
+use Rattle.subfunction_classes.specs.Places.{low_place, pairs}
+use Rattle.subfunction_classes.specs.Table.{functions_of, set_of}
+use Rattle.subfunction_classes.proofs.Apart.{distinct_first}
+use Rattle.subfunction_classes.proofs.Counted.{width_is_dependent_classes}
+use Rattle.subfunction_classes.specs.Made.{Made}
+use Rattle.subfunction_classes.proofs.Firsts.{made_none, made_first, made_numbers, made_many, made_told}
+use Rattle.subfunction_classes.proofs.Index.{length-pairs, pair_listed, pair_within}
 use Rattle.cert_check.specs.Tables.{HoldsRows, IsFull, TableOf, classes_at, rows_with}
 use Rattle.cert_check.proofs.Shortened.{rows, rows_more}
 

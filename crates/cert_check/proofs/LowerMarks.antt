@@ -11,8 +11,8 @@ use Rattle.std.proofs.lemmas.List.FromFn.{fill_by_all}
 use Rattle.order_model.specs.Orders.{has, variables}
 use Rattle.order_model.proofs.Lists.Orders.{has_filter}
 use Rattle.order_model.proofs.Widths.Recurrence.{distinct_filter, distinct_variables}
-use Rattle.class_laws.specs.Dependence.{joined_mask}
-use Rattle.class_laws.proofs.Counted.{length_filter_map}
+use Rattle.subfunction_classes.specs.Dependence.{joined_mask}
+use Rattle.subfunction_classes.proofs.Counted.{length_filter_map}
 use Rattle.cert_check.specs.LowerClasses.{AreTold, pairs_with}
 use Rattle.cert_check.proofs.LowerPairs.{lowers_le}
 

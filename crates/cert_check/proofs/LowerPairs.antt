@@ -14,15 +14,15 @@ use Rattle.order_model.specs.Widths.{same_pair, width}
 use Rattle.order_model.proofs.Bits.Masks.{members_small}
 use Rattle.order_model.proofs.Lists.Sets.{Among, among_filter, among_map, among_unique, count_le, member_from_among, nat_decides}
 use Rattle.order_model.proofs.Widths.ClassPairs.{pair_decides}
-use Rattle.class_laws.specs.Dependence.{joined_mask}
-use Rattle.class_laws.specs.Numbering.{rank, ranks}
-use Rattle.class_laws.specs.Places.{pairs}
-use Rattle.class_laws.specs.Table.{functions_of, set_of}
-use Rattle.class_laws.proofs.Counted.{distinct_by_numbers, length_filter_map, same_at, width_is_dependent_classes}
-use Rattle.class_laws.proofs.DistinctPairs.{masks_many, masks_told}
-use Rattle.class_laws.proofs.Numbered.{numbers_told}
-use Rattle.class_laws.proofs.Progress.{take_among}
-use Rattle.class_laws.proofs.Ranks.{Numbers, numbers_none, numbers_push}
+use Rattle.subfunction_classes.specs.Dependence.{joined_mask}
+use Rattle.subfunction_classes.specs.Numbering.{rank, ranks}
+use Rattle.subfunction_classes.specs.Places.{pairs}
+use Rattle.subfunction_classes.specs.Table.{functions_of, set_of}
+use Rattle.subfunction_classes.proofs.Counted.{distinct_by_numbers, length_filter_map, same_at, width_is_dependent_classes}
+use Rattle.subfunction_classes.proofs.DistinctPairs.{masks_many, masks_told}
+use Rattle.subfunction_classes.proofs.Numbered.{numbers_told}
+use Rattle.subfunction_classes.proofs.Progress.{take_among}
+use Rattle.subfunction_classes.proofs.RankLaws.{Numbers, numbers_none, numbers_push}
 use Rattle.cert_check.specs.Tables.{HoldsRows, TableOf, classes_at, rows_with}
 use Rattle.cert_check.proofs.Shortened.{rows_more}
 use mathlib.Core.List.{map-map}

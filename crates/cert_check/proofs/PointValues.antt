@@ -13,7 +13,7 @@ use Rattle.std.proofs.lemmas.Nat.Bits.{same_from_bits_below}
 use Rattle.order_model.specs.Functions.{Point, weight, number, from_table, SameFunction}
 use Rattle.order_model.specs.Problems.{TruthTables, functions, packed_bit, table_at, table_in, value_at}
 use Rattle.order_model.proofs.Bits.PointNumbers.{number-small, bit-number}
-use Rattle.class_laws.proofs.ValueRows.{bit_in}
+use Rattle.subfunction_classes.proofs.ValueRows.{bit_in}
 use Rattle.symmetries.specs.Exchanges.{AreSymmetric, IsExchange, exchanged}
 use Rattle.cert_check.specs.Images.{AreImages, TellValues}
 use Rattle.cert_check.specs.Edges.{AreEdgeTables}

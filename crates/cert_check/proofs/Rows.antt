@@ -14,11 +14,11 @@ use Rattle.std.proofs.lemmas.Nat.{pow-add, div-mul-add, mod-mul-add, div-add-mod
 use Rattle.std.proofs.Math.Nat.{mod-lt}
 use Rattle.order_model.proofs.Lists.Sets.{Among, Within, among_left, among_right, among_cases, count_same}
 use Rattle.order_model.proofs.Lists.Ranges.{range_append}
-use Rattle.class_laws.specs.Numbering.{rank}
-use Rattle.class_laws.specs.Places.{low_place, pair_at, pairs}
-use Rattle.class_laws.proofs.Index.{length-pairs, pair_within}
-use Rattle.class_laws.proofs.Lists.{map_ranges}
-use Rattle.class_laws.proofs.Ranks.{among_or_not, rank_found}
+use Rattle.subfunction_classes.specs.Numbering.{rank}
+use Rattle.subfunction_classes.specs.Places.{low_place, pair_at, pairs}
+use Rattle.subfunction_classes.proofs.Index.{length-pairs, pair_within}
+use Rattle.subfunction_classes.proofs.Lists.{map_ranges}
+use Rattle.subfunction_classes.proofs.RankLaws.{among_or_not, rank_found}
 use Rattle.cert_check.specs.Rows.{AreWholeRows, IsShortened, IsWithout}
 
 -- ---- whole rows

@@ -9,14 +9,14 @@ use Rattle.order_model.specs.Widths.{same_pair}
 use Rattle.order_model.proofs.Lists.Maps.{map_same}
 use Rattle.order_model.proofs.Lists.Sets.{Among, nat_decides}
 use Rattle.order_model.proofs.Widths.ClassPairs.{pair_decides}
-use Rattle.class_laws.specs.Dependence.{joined_mask}
-use Rattle.class_laws.specs.Numbering.{rank, ranks}
-use Rattle.class_laws.specs.PairTables.{IsPairTable, NumbersPairs}
-use Rattle.class_laws.specs.Places.{pairs}
-use Rattle.class_laws.specs.Table.{free_below, set_of}
-use Rattle.class_laws.proofs.Counted.{same_at}
-use Rattle.class_laws.proofs.Extended.{IsReady, is_ready, holds_more}
-use Rattle.class_laws.proofs.Lists.{place_of}
+use Rattle.subfunction_classes.specs.Dependence.{joined_mask}
+use Rattle.subfunction_classes.specs.Numbering.{rank, ranks}
+use Rattle.subfunction_classes.specs.PairTables.{IsPairTable, NumbersPairs}
+use Rattle.subfunction_classes.specs.Places.{pairs}
+use Rattle.subfunction_classes.specs.Table.{free_below, set_of}
+use Rattle.subfunction_classes.proofs.Counted.{same_at}
+use Rattle.subfunction_classes.proofs.Extended.{IsReady, is_ready, holds_more}
+use Rattle.subfunction_classes.proofs.Lists.{place_of}
 use Rattle.cert_check.specs.Rows.{AreWholeRows, IsShortened}
 use Rattle.cert_check.specs.Tables.{HoldsRows, TableOf, classes_at, rows_with}
 use Rattle.pair_chains.proofs.HighSets.{free_all, high_new, step_down}

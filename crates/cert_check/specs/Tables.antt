@@ -7,7 +7,7 @@
 use Rattle.std.specs.Prelude.{ℕ, ◌^◌, List, replicate, bit_or, Option, Some, None}
 use Rattle.std.specs.List.{range_with_len}
 use Rattle.order_model.specs.Problems.{TruthTables}
-use Rattle.class_laws.specs.Table.{ClassesOf, HoldsClasses, classes_of}
+use Rattle.subfunction_classes.specs.Table.{ClassesOf, HoldsClasses, classes_of}
 use Rattle.cert_check.specs.Rows.{IsShortened}
 
 -- a problem, a set of its variables as a mask, and a bound below which no variable is in the set

@@ -2,13 +2,13 @@
 //! so that there are as many pairs as lower classes at least: no pair need be numbered to tell.
 
 ghost use Rattle.std.specs.Prelude.{◌≡◌, ℕ, ◌<◌, ◌≤◌, ◌^◌, length, slice_index, IfOk, IsTrue};
-ghost use Rattle.class_laws.specs.PairTables.{IsPairTable};
-ghost use Rattle.class_laws.specs.Places as places;
+ghost use Rattle.subfunction_classes.specs.PairTables.{IsPairTable};
+ghost use Rattle.subfunction_classes.specs.Places as places;
 ghost use Rattle.cert_check.specs.LowerClasses.{AreTold, pairs_with};
 
 use order_model::VarIx;
 use pair_chains::pair_at;
-use point_classes::{count_with, join_mask};
+use subfunction_classes::{count_with, join_mask};
 use std::alloc::{AllocError, Global};
 
 /// For each class the masks of the pairs whose lower class it is, joined.

@@ -5,12 +5,12 @@ use Rattle.std.specs.List.{filter}
 use Rattle.std.proofs.lemmas.Nat.Bits.{bit_at-lt}
 use Rattle.std.proofs.lemmas.List.{length-append}
 use Rattle.std.proofs.lemmas.List.Elements.{filter-append}
-use Rattle.class_laws.specs.Numbering.{IsFirstOccurrence}
-use Rattle.class_laws.specs.Dependence.{joined_mask}
+use Rattle.subfunction_classes.specs.Numbering.{IsFirstOccurrence}
+use Rattle.subfunction_classes.specs.Dependence.{joined_mask}
 use Rattle.class_tables.specs.Scratch.{CountsMasks}
-use Rattle.class_laws.proofs.Firsts.{joined_again, joined_first}
-use Rattle.class_laws.specs.Made.{Joined}
-use Rattle.class_laws.proofs.Joined.{joined_many, joined_told}
+use Rattle.subfunction_classes.proofs.Firsts.{joined_again, joined_first}
+use Rattle.subfunction_classes.specs.Made.{Joined}
+use Rattle.subfunction_classes.proofs.Joined.{joined_many, joined_told}
 
 module _ (ps : List (ℕ × ℕ)) (masks : List ℕ) (x : ℕ) where
   -- after j pairs

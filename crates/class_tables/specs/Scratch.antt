@@ -7,8 +7,8 @@ use Rattle.std.specs.List.{filter}
 use Rattle.std.specs.Int.{bit_at}
 use Rattle.order_model.specs.Problems.{TruthTables, outputs_of}
 use Rattle.order_model.specs.Widths.{same_pair}
-use Rattle.class_laws.specs.Numbering.{ranks}
-use Rattle.class_laws.specs.Dependence.{joined_mask}
+use Rattle.subfunction_classes.specs.Numbering.{ranks}
+use Rattle.subfunction_classes.specs.Dependence.{joined_mask}
 
 -- how many entries the largest class table of a problem has, that of the empty set
 abbrev pub most_entries : TruthTables → ℕ

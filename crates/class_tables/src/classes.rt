@@ -5,14 +5,14 @@ ghost use Rattle.std.specs.Int.{bit_at};
 ghost use Rattle.std.specs.List.{filter};
 ghost use Rattle.order_model.specs.Orders.{has, without};
 ghost use Rattle.order_model.specs.Widths.{class_numbers, width as width_over};
-ghost use Rattle.class_laws.specs.Table.{free_below};
+ghost use Rattle.subfunction_classes.specs.Table.{free_below};
 ghost use Rattle.class_tables.specs.Scratch.{most_entries};
 
 use crate::numbering::{number_pairs_by_index, number_pairs_with_masks};
 use crate::scratch::Scratch;
 use compaction::Tally;
 use order_model::{Mask, Problem, VarIx, contains};
-use point_classes::{count_with, no_dependence, rank_of, value_numbers};
+use subfunction_classes::{count_with, no_dependence, rank_of, value_numbers};
 use std::alloc::{AllocError, Global};
 use std::marker::Model;
 
@@ -28,7 +28,7 @@ pub struct Classes<'a> {
 }
 
 impl<'a> Model for Classes<'a> {
-    ghost use Rattle.class_laws.specs.Table.{ClassesOf, HoldsClasses, classes_of};
+    ghost use Rattle.subfunction_classes.specs.Table.{ClassesOf, HoldsClasses, classes_of};
 
     ghost Value = { ClassesOf };
 
@@ -39,7 +39,7 @@ impl<'a> Model for Classes<'a> {
 }
 
 impl<'a> Classes<'a> {
-    ghost use Rattle.class_laws.specs.Table.{set_of, functions_of, with_variable, classes_of};
+    ghost use Rattle.subfunction_classes.specs.Table.{set_of, functions_of, with_variable, classes_of};
 
     /// The classes of the empty set.
     pub fn of_problem(alloc: Global, problem: &'a Problem) -> Result<Classes<'a>, AllocError>

@@ -2,9 +2,9 @@
 
 ghost use Rattle.std.specs.Prelude.{◌≡◌, ℕ, ◌*◌, ◌^◌, ◌<◌, ◌≤◌, length, IfOk};
 ghost use Rattle.order_model.specs.Widths.{same_pair};
-ghost use Rattle.class_laws.specs.Numbering.{ranks};
-ghost use Rattle.class_laws.specs.Places as places;
-ghost use Rattle.class_laws.specs.PairTables.{IsPairTable, NumbersPairs};
+ghost use Rattle.subfunction_classes.specs.Numbering.{ranks};
+ghost use Rattle.subfunction_classes.specs.Places as places;
+ghost use Rattle.subfunction_classes.specs.PairTables.{IsPairTable, NumbersPairs};
 ghost use Rattle.pair_numbering.specs.Numbers.{ArePairsNumbered};
 
 use indexmap::IndexSet;

@@ -2,13 +2,13 @@
 
 ghost use Rattle.std.specs.Prelude.{◌≡◌, ◌==◌, ℕ, ◌+◌, ◌*◌, ◌/◌, ◌^◌, ◌<◌, ◌≤◌, length, IfOk};
 ghost use Rattle.class_tables.specs.Scratch.{AreLong, CountsMasks, most_entries};
-ghost use Rattle.class_laws.specs.Places as places;
-ghost use Rattle.class_laws.specs.PairTables.{IsPairTable};
+ghost use Rattle.subfunction_classes.specs.Places as places;
+ghost use Rattle.subfunction_classes.specs.PairTables.{IsPairTable};
 ghost use Rattle.pair_numbering.specs.Chains.{AreFirsts};
 
 use order_model::{Problem, contains};
 use pair_numbering::{EntryPairs, MaskedPairs, first_pairs};
-use point_classes::join_mask;
+use subfunction_classes::join_mask;
 use std::alloc::{AllocError, Global};
 use std::marker::Model;
 

@@ -16,15 +16,15 @@ use Rattle.order_model.specs.Widths.{width}
 use Rattle.order_model.proofs.Bits.Masks.{has_members}
 use Rattle.order_model.proofs.Lists.Orders.{has_variables}
 use Rattle.order_model.proofs.Lists.Ranges.{range_at}
-use Rattle.class_laws.specs.Dependence.{joined_mask}
-use Rattle.class_laws.specs.Places.{low_place, pairs}
+use Rattle.subfunction_classes.specs.Dependence.{joined_mask}
+use Rattle.subfunction_classes.specs.Places.{low_place, pairs}
 use Rattle.compaction.specs.Rows.{width_wanted}
 use Rattle.pair_numbering.specs.Keys.{AreUsed, TellsPairs}
 use Rattle.pair_numbering.specs.Strips.{unrolled}
 use Rattle.compaction.specs.Strips.{AreDistinct, AreStrips, HoldsStrips, HoldsStripTable, masks_in_use, HoldsKeys}
-use Rattle.class_laws.specs.Table.{ClassesOf, with_variable, functions_of, set_of, free_below}
-use Rattle.class_laws.proofs.Counted.{length_filter_map}
-use Rattle.class_laws.proofs.Index.{length-pairs, pair_listed, pair_within}
+use Rattle.subfunction_classes.specs.Table.{ClassesOf, with_variable, functions_of, set_of, free_below}
+use Rattle.subfunction_classes.proofs.Counted.{length_filter_map}
+use Rattle.subfunction_classes.proofs.Index.{length-pairs, pair_listed, pair_within}
 use Rattle.compaction.proofs.Keyed.{keys_ready, keys_by_names}
 use Rattle.compaction.proofs.Stripped.{parts_of}
 use Rattle.compaction.proofs.Unrolled.{same_by_places, length_unrolled, unrolled_at}

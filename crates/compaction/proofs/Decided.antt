@@ -15,9 +15,9 @@ use Rattle.std.proofs.lemmas.Bool.{cases_eq, cases_lt}
 use Rattle.std.proofs.lemmas.Nat.{and_mask, and_assoc, and_comm, or_comm, and_or_self, and_or_apart}
 use Rattle.std.proofs.lemmas.Nat.Bits.{bit_at_and, bit_at_or, bit_at-pow_same, bit_at-pow_other, bit_at-lt, bit_at_above, bit_at_ones, bit_at_ones_above, same_from_bits, and_pow, shr_and_one}
 use Rattle.order_model.specs.Orders.{has, members}
-use Rattle.class_laws.specs.Table.{free_below}
-use Rattle.class_laws.proofs.LowSets.{bit_unset}
-use Rattle.class_laws.proofs.Extended.{free_none, free_more, free_same, free_le}
+use Rattle.subfunction_classes.specs.Table.{free_below}
+use Rattle.subfunction_classes.proofs.LowSets.{bit_unset}
+use Rattle.subfunction_classes.proofs.Extended.{free_none, free_more, free_same, free_le}
 use Rattle.compaction.proofs.HeldStrips.{free_less}
 
 in_more : (mask d y i : ℕ) → bit_at (bit_and mask (bit_or d (2 ^ y))) i ≡ min (bit_at mask i) (max (bit_at d i) (bit_at (2 ^ y) i))

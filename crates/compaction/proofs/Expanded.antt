@@ -17,9 +17,9 @@ use Rattle.order_model.specs.Problems.{TruthTables, packed_bit}
 use Rattle.compaction.specs.Columns.{low_numbers, packed_numbers}
 use Rattle.pair_numbering.specs.Strips.{strip, unrolled}
 use Rattle.compaction.specs.Strips.{AreStrips}
-use Rattle.class_laws.specs.Values.{values_of, number_of}
-use Rattle.class_laws.proofs.StartClasses.{length_values}
-use Rattle.class_laws.proofs.Lists.{map_ranges}
+use Rattle.subfunction_classes.specs.Values.{values_of, number_of}
+use Rattle.subfunction_classes.proofs.StartClasses.{length_values}
+use Rattle.subfunction_classes.proofs.Lists.{map_ranges}
 use Rattle.pair_numbering.proofs.Unrolled.{length_strip, strip_at}
 use Rattle.compaction.proofs.Unrolled.{length_unrolled, unrolled_at, same_by_places}
 

@@ -16,8 +16,8 @@ use Rattle.std.proofs.lemmas.List.{length-append, length-map, append-nil, append
 use Rattle.std.proofs.lemmas.List.FromFn.{map-range_with_len_more, get_or-map-range_with_len, length-map-range_with_len}
 use Rattle.order_model.specs.Orders.{has, members}
 use Rattle.order_model.specs.Problems.{TruthTables}
-use Rattle.class_laws.specs.Table.{ClassesOf, classes_of, with_variable}
-use Rattle.class_laws.proofs.LowSets.{low_new}
+use Rattle.subfunction_classes.specs.Table.{ClassesOf, classes_of, with_variable}
+use Rattle.subfunction_classes.proofs.LowSets.{low_new}
 use Rattle.compaction.specs.Strips.{AreOfFirstSets, CanTakeLow, low_variables}
 
 -- the table at a place

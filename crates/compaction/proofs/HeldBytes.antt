@@ -5,14 +5,14 @@ use Rattle.std.proofs.Common.{◌≡◌, ℕ, ◌*◌, ◌^◌, ◌<◌, ◌≤�
 use Rattle.std.proofs.lemmas.Nat.{pow_pos}
 use Rattle.order_model.specs.Orders.{has}
 use Rattle.order_model.specs.Problems.{TruthTables}
-use Rattle.class_laws.specs.PairTables.{AllBelow, IsPairTable}
-use Rattle.class_laws.specs.Places.{pairs}
+use Rattle.subfunction_classes.specs.PairTables.{AllBelow, IsPairTable}
+use Rattle.subfunction_classes.specs.Places.{pairs}
 use Rattle.pair_numbering.specs.Strips.{AreNamed, unrolled}
 use Rattle.compaction.specs.Strips.{HoldsBytes, HoldsStrips, HoldsValues}
 use Rattle.pair_numbering.specs.Keys.{TellsPairs}
-use Rattle.class_laws.specs.Table.{ClassesOf, classes_of, with_variable, set_of, free_below}
+use Rattle.subfunction_classes.specs.Table.{ClassesOf, classes_of, with_variable, set_of, free_below}
 use Rattle.compaction.proofs.HeldStrips.{rest, parts, less, rank_few, holds_low, holds_values}
-use Rattle.class_laws.proofs.Index.{length-pairs}
+use Rattle.subfunction_classes.proofs.Index.{length-pairs}
 use Rattle.compaction.proofs.Keyed.{free_zero}
 use Rattle.pair_numbering.proofs.Names.{names_below, length_names}
 use Rattle.compaction.proofs.Stripped.{low_named, low_tells}

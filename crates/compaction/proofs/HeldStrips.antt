@@ -11,18 +11,18 @@ use Rattle.std.proofs.lemmas.Nat.Bits.{bit_at_or, bit_at-pow_same, bit_at-pow_ot
 use Rattle.order_model.specs.Orders.{has}
 use Rattle.order_model.proofs.Bits.Masks.{has_members}
 use Rattle.order_model.proofs.Lists.Orders.{has_variables}
-use Rattle.class_laws.specs.PairTables.{IsPairTable}
-use Rattle.class_laws.specs.Places.{pairs}
+use Rattle.subfunction_classes.specs.PairTables.{IsPairTable}
+use Rattle.subfunction_classes.specs.Places.{pairs}
 use Rattle.pair_numbering.specs.Strips.{unrolled}
 use Rattle.compaction.specs.Strips.{AreStrips, GrowsStrips, HoldsStrips, HoldsValues, IsStripTable, HoldsKeys}
 use Rattle.pair_numbering.specs.Keys.{TellsPairs}
-use Rattle.class_laws.specs.Table.{ClassesOf, classes_of, with_variable, set_of, free_below}
-use Rattle.class_laws.proofs.Extended.{free_none, free_step, rank_small}
+use Rattle.subfunction_classes.specs.Table.{ClassesOf, classes_of, with_variable, set_of, free_below}
+use Rattle.subfunction_classes.proofs.Extended.{free_none, free_step, rank_small}
 use Rattle.order_model.specs.Problems.{TruthTables}
 use Rattle.compaction.proofs.Keyed.{keys_ready, free_zero, value_keys, keys_by_names}
 use Rattle.pair_numbering.proofs.Names.{names_below, length_names}
 use Rattle.compaction.proofs.Stripped.{parts_of, below_product, low_strips, low_tells}
-use Rattle.class_laws.proofs.Index.{length-pairs}
+use Rattle.subfunction_classes.proofs.Index.{length-pairs}
 use Rattle.compaction.proofs.Unrolled.{named_of, length_unrolled, unrolled_at}
 
 -- one step of the count

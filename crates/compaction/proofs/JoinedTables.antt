@@ -11,8 +11,8 @@ use Rattle.std.proofs.Math.Seq.{drop-nil}
 use Rattle.std.proofs.lemmas.Bool.{cases_lt}
 use Rattle.std.proofs.lemmas.Nat.{div-add-mod'}
 use Rattle.std.proofs.lemmas.List.{drop_all, take-append-drop, map-append}
-use Rattle.class_laws.proofs.BlockPlaces.{block_next}
-use Rattle.class_laws.specs.Table.{ClassesOf}
+use Rattle.subfunction_classes.proofs.BlockPlaces.{block_next}
+use Rattle.subfunction_classes.specs.Table.{ClassesOf}
 use Rattle.compaction.specs.Joining.{AreJoined}
 
 -- the first part is put behind those that are joined

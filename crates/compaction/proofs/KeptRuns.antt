@@ -15,8 +15,8 @@ use Rattle.order_model.specs.Problems.{TruthTables, packed_bit, table_in, words_
 use Rattle.compaction.specs.Columns.{KeepsRuns, packed_numbers}
 use Rattle.pair_numbering.specs.Strips.{unrolled}
 use Rattle.compaction.specs.Strips.{AreStrips}
-use Rattle.class_laws.specs.Values.{row, values_of, number_of}
-use Rattle.class_laws.proofs.StartClasses.{length_row}
+use Rattle.subfunction_classes.specs.Values.{row, values_of, number_of}
+use Rattle.subfunction_classes.proofs.StartClasses.{length_row}
 use Rattle.compaction.proofs.Expanded.{bit_in_word, length_packed, packed_at, place_parts}
 use Rattle.compaction.proofs.Unrolled.{length_unrolled, unrolled_at, same_by_places}
 

@@ -17,24 +17,24 @@ use Rattle.order_model.specs.Widths.{same_pair, entries, class_of, class_numbers
 use Rattle.order_model.proofs.Lists.Sets.{Among, among_from_map, nat_decides}
 use Rattle.order_model.proofs.Functions.Tables.{same_table_decides, depends_same}
 use Rattle.order_model.proofs.Widths.ClassPairs.{pair_decides, rank_apart, depends_by_classes}
-use Rattle.class_laws.specs.Dependence.{dependence, joined_mask}
-use Rattle.class_laws.specs.Numbering.{rank, ranks}
-use Rattle.class_laws.specs.Places.{low_place, pairs}
+use Rattle.subfunction_classes.specs.Dependence.{dependence, joined_mask}
+use Rattle.subfunction_classes.specs.Numbering.{rank, ranks}
+use Rattle.subfunction_classes.specs.Places.{low_place, pairs}
 use Rattle.std.proofs.lemmas.Nat.Bits.{shr_and_one, bit_at-zero}
 use Rattle.order_model.specs.Problems.{TruthTables, value_at}
-use Rattle.class_laws.specs.Values.{values_of, number_of}
-use Rattle.class_laws.proofs.StartClasses.{holds_start}
-use Rattle.class_laws.specs.Table.{classes_of, ClassesOf, HoldsClasses, functions_of, set_of, free_below, with_variable}
+use Rattle.subfunction_classes.specs.Values.{values_of, number_of}
+use Rattle.subfunction_classes.proofs.StartClasses.{holds_start}
+use Rattle.subfunction_classes.specs.Table.{classes_of, ClassesOf, HoldsClasses, functions_of, set_of, free_below, with_variable}
 use Rattle.compaction.specs.Strips.{HoldsKeys}
 use Rattle.pair_numbering.specs.Keys.{TellsPairs}
 use Rattle.pair_numbering.proofs.Names.{length_names, names_below, names_masks, names_ranked}
 use Rattle.order_model.proofs.Precedence.Masks.{among_at}
-use Rattle.class_laws.proofs.Ranks.{ranks_alike}
-use Rattle.class_laws.proofs.Index.{length-pairs, pair_within}
-use Rattle.class_laws.proofs.DependenceMasks.{dependence_joined}
+use Rattle.subfunction_classes.proofs.RankLaws.{ranks_alike}
+use Rattle.subfunction_classes.proofs.Index.{length-pairs, pair_within}
+use Rattle.subfunction_classes.proofs.DependenceMasks.{dependence_joined}
 use Rattle.order_model.proofs.Lists.Maps.{map_same}
-use Rattle.class_laws.proofs.Compacted.{step_of, tops, length_numbers, pairs_told, pairs_of_classes, compacted, counted, class_numbers_same, class_pair_same}
-use Rattle.class_laws.proofs.Extended.{members_more, step_is, class_below, few_masks, IsReady, rank_small, free_none, free_more}
+use Rattle.subfunction_classes.proofs.Compacted.{step_of, tops, length_numbers, pairs_told, pairs_of_classes, compacted, counted, class_numbers_same, class_pair_same}
+use Rattle.subfunction_classes.proofs.Extended.{members_more, step_is, class_below, few_masks, IsReady, rank_small, free_none, free_more}
 use mathlib.Core.List.{map-map}
 
 -- ---- lists

@@ -2,13 +2,13 @@
 --     ordered_whole      whole pairs of entries
 --     ordered_strips, ordered_tells      one more variable above the strips
 use Rattle.std.proofs.Common.{◌≡◌, ℕ, ◌*◌, ◌/◌, ◌<◌, List, length, get_or, sym, ap, ◌∙◌, subst, arith}
-use Rattle.class_laws.specs.Places.{pairs}
+use Rattle.subfunction_classes.specs.Places.{pairs}
 use Rattle.pair_numbering.specs.Strips.{unrolled}
 use Rattle.compaction.specs.Strips.{AreStrips}
 use Rattle.pair_numbering.specs.Keys.{TellsPairs}
 use Rattle.compaction.proofs.AllDistinct.{own_count}
 use Rattle.compaction.proofs.Expanded.{whole_are, whole_values}
-use Rattle.class_laws.proofs.Index.{length-pairs}
+use Rattle.subfunction_classes.proofs.Index.{length-pairs}
 use Rattle.pair_numbering.proofs.Names.{length_names}
 
 module _ (outer numbers : List ℕ) (len s : ℕ) (strips : AreStrips outer numbers len) (some : 0 < len)

@@ -8,11 +8,11 @@ use Rattle.std.proofs.lemmas.Map.Made.{distinct_count-le}
 use Rattle.order_model.specs.Widths.{same_pair}
 use Rattle.pair_numbering.specs.Chains.{lower_at, upper_at}
 use Rattle.pair_numbering.specs.Numbers.{ArePairsNumbered}
-use Rattle.class_laws.specs.Places as places
+use Rattle.subfunction_classes.specs.Places as places
 use Rattle.pair_numbering.specs.Strips.{AreNamed, names_of, unrolled}
 use Rattle.compaction.specs.Strips.{AreStrips}
-use Rattle.class_laws.proofs.DistinctPairs.{met_classes, number_below, pair_numbered}
-use Rattle.class_laws.proofs.Index.{length-pairs, pair_listed}
+use Rattle.subfunction_classes.proofs.DistinctPairs.{met_classes, number_below, pair_numbered}
+use Rattle.subfunction_classes.proofs.Index.{length-pairs, pair_listed}
 use Rattle.pair_numbering.proofs.Unrolled.{length_named, length_names_of, name_high, name_low, named_at}
 
 pub names_of_below : (count : ℕ) (pairs : List (ℕ × ℕ)) →

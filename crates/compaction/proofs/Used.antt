@@ -24,21 +24,21 @@ use Rattle.order_model.proofs.Widths.ClassPairs.{count_alike, rank_apart}
 use Rattle.order_model.proofs.Widths.Recurrence.{distinct_filter, distinct_variables}
 use Rattle.order_model.proofs.Lists.Sets.{Among, Within, among_filter, among_from_filter, among_from_member, member_from_among, count_same, nat_decides}
 use Rattle.order_model.proofs.Functions.Tables.{same_table_decides}
-use Rattle.class_laws.specs.Dependence.{AreMasks, dependence}
-use Rattle.class_laws.specs.Numbering.{rank, ranks}
+use Rattle.subfunction_classes.specs.Dependence.{AreMasks, dependence}
+use Rattle.subfunction_classes.specs.Numbering.{rank, ranks}
 use Rattle.compaction.specs.Rows.{width_wanted}
 use Rattle.pair_numbering.specs.Strips.{unrolled}
 use Rattle.compaction.specs.Strips.{AreStrips, HoldsStrips, masks_in_use}
 use Rattle.pair_numbering.specs.Keys.{AreUsed}
-use Rattle.class_laws.specs.Table.{ClassesOf, functions_of, set_of, free_below}
-use Rattle.class_laws.proofs.Compacted.{filter_range_same}
-use Rattle.class_laws.proofs.Counted.{among_variables, distinct_by_numbers, length_filter_map, width_is_dependent_classes}
+use Rattle.subfunction_classes.specs.Table.{ClassesOf, functions_of, set_of, free_below}
+use Rattle.subfunction_classes.proofs.Compacted.{filter_range_same}
+use Rattle.subfunction_classes.proofs.Counted.{among_variables, distinct_by_numbers, length_filter_map, width_is_dependent_classes}
 use Rattle.order_model.proofs.Lists.Maps.{map_same}
-use Rattle.class_laws.proofs.Lists.{place_of}
+use Rattle.subfunction_classes.proofs.Lists.{place_of}
 use Rattle.order_model.proofs.Precedence.Masks.{among_at}
 use Rattle.compaction.proofs.Stripped.{parts_of, below_product}
 use Rattle.compaction.proofs.Unrolled.{length_unrolled, unrolled_at}
-use Rattle.class_laws.proofs.Ranks.{rank_below, rank_reached}
+use Rattle.subfunction_classes.proofs.RankLaws.{rank_below, rank_reached}
 use mathlib.Core.List.{map-map}
 use Rattle.order_model.proofs.Lists.Ranges.{range_append, filter_at_most}
 

@@ -10,7 +10,7 @@ use Rattle.std.specs.Prelude.{◌≡◌, ℕ, ◌+◌, ◌*◌, ◌/◌, ◌<◌
 use Rattle.std.specs.Int.{bit_at}
 use Rattle.std.specs.List.{range_with_len}
 use Rattle.order_model.specs.Problems.{packed_bit}
-use Rattle.class_laws.specs.Values.{number_of}
+use Rattle.subfunction_classes.specs.Values.{number_of}
 use Rattle.pair_numbering.specs.Strips.{strip}
 use Rattle.compaction.specs.declared.columns.Columns.{Columns}
 

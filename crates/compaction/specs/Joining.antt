@@ -3,7 +3,7 @@
 use Rattle.std.specs.Prelude.{◌≡◌, List, [], ◌∷◌, ◌++◌, Result, Ok, Err, Vec}
 use Rattle.std.specs.Global.{Global}
 use Rattle.std.specs.declared.alloc.AllocError.{AllocError}
-use Rattle.class_laws.specs.Table.{ClassesOf}
+use Rattle.subfunction_classes.specs.Table.{ClassesOf}
 
 -- no part lacks memory, and these are the tables of all of them
 unfoldable pub AreJoined : List (Result (Vec ClassesOf Global) AllocError) → List ClassesOf → Type 0

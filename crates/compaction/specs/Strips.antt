@@ -19,12 +19,12 @@ use Rattle.order_model.specs.Orders.{has, variables}
 use Rattle.order_model.specs.Problems.{TruthTables, value_at}
 use Rattle.order_model.specs.Levels.{reach}
 use Rattle.order_model.specs.Widths.{class_numbers, outside}
-use Rattle.class_laws.specs.Numbering.{ranks}
-use Rattle.class_laws.specs.PairTables.{AllBelow}
-use Rattle.class_laws.specs.Places.{pairs}
-use Rattle.class_laws.specs.Values.{values_of, number_of}
-use Rattle.class_laws.specs.Dependence.{dependence}
-use Rattle.class_laws.specs.Table.{ClassesOf, classes_of, functions_of, set_of, free_below}
+use Rattle.subfunction_classes.specs.Numbering.{ranks}
+use Rattle.subfunction_classes.specs.PairTables.{AllBelow}
+use Rattle.subfunction_classes.specs.Places.{pairs}
+use Rattle.subfunction_classes.specs.Values.{values_of, number_of}
+use Rattle.subfunction_classes.specs.Dependence.{dependence}
+use Rattle.subfunction_classes.specs.Table.{ClassesOf, classes_of, functions_of, set_of, free_below}
 use Rattle.pair_numbering.specs.Keys.{AreUsed, TellsPairs}
 use Rattle.pair_numbering.specs.Strips.{AreNamed, unrolled}
 

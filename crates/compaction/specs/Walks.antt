@@ -10,7 +10,7 @@
 use Rattle.std.specs.Prelude.{◌≡◌, ◌≢◌, ℕ, ◌+◌, ◌*◌, ◌^◌, ◌<◌, ◌≤◌, List, length, slice_index, bit_and}
 use Rattle.std.specs.Int.{bit_at}
 use Rattle.order_model.specs.Problems.{TruthTables}
-use Rattle.class_laws.specs.Table.{ClassesOf}
+use Rattle.subfunction_classes.specs.Table.{ClassesOf}
 use Rattle.subset_layers.specs.Layers.{BlockOf, block_masks}
 use Rattle.compaction.specs.Ahead.{AheadOf, widths_ahead}
 use Rattle.compaction.specs.HighBytes.{HasByte}

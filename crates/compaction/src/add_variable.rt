@@ -1,7 +1,7 @@
 //! One more variable in strips: pairs of strips, whose entries are told apart.
 
 ghost use Rattle.std.specs.Prelude.{◌≡◌, ℕ, ◌+◌, ◌*◌, ◌^◌, ◌<◌, ◌≤◌, length, slice_index, IfOk, IsTrue};
-ghost use Rattle.class_laws.specs.PairTables.{AreOwn};
+ghost use Rattle.subfunction_classes.specs.PairTables.{AreOwn};
 ghost use Rattle.pair_numbering.specs.Keys.{AreUsed};
 ghost use Rattle.compaction.specs.Strips.{GrowsStrips};
 

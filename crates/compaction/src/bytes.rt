@@ -10,7 +10,7 @@ use crate::columns::{ByteStrips, byte_strips};
 use crate::strips::Strips;
 use order_model::{Mask, Problem, VarIx};
 use pair_numbering::label_pairs;
-use point_classes::rank_of;
+use subfunction_classes::rank_of;
 use std::alloc::{AllocError, Global};
 use std::marker::Model;
 
@@ -27,7 +27,7 @@ pub(crate) struct ByteKeys<'a> {
 }
 
 impl<'a> Model for ByteKeys<'a> {
-    ghost use Rattle.class_laws.specs.Table.{ClassesOf, classes_of};
+    ghost use Rattle.subfunction_classes.specs.Table.{ClassesOf, classes_of};
     ghost use Rattle.compaction.specs.Strips.{HoldsBytes};
 
     ghost Value = { ClassesOf };
@@ -79,7 +79,7 @@ fn unroll(
 }
 
 impl<'a> ByteKeys<'a> {
-    ghost use Rattle.class_laws.specs.Table.{set_of, with_variable, classes_of};
+    ghost use Rattle.subfunction_classes.specs.Table.{set_of, with_variable, classes_of};
 
     /// The keys of the empty set: the values.
     pub(crate) fn of_problem(

@@ -7,11 +7,11 @@ ghost use Rattle.order_model.specs.Problems.{outputs_of};
 ghost use Rattle.compaction.specs.Columns.{AddsRuns, AreByteRows, IsChained, KeepsValues, low_numbers, packed_numbers};
 ghost use Rattle.pair_numbering.specs.Strips.{AreNamed, unrolled};
 ghost use Rattle.compaction.specs.Strips.{HoldsValues};
-ghost use Rattle.class_laws.specs.PairTables.{AllBelow};
-ghost use Rattle.class_laws.specs.Values.{values_of, number_of as number};
+ghost use Rattle.subfunction_classes.specs.PairTables.{AllBelow};
+ghost use Rattle.subfunction_classes.specs.Values.{values_of, number_of as number};
 
 use order_model::Problem;
-use point_classes::value_numbers;
+use subfunction_classes::value_numbers;
 use std::alloc::{AllocError, Global};
 
 /// How many chains there are.

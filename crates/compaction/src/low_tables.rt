@@ -2,7 +2,7 @@
 
 ghost use Rattle.std.specs.Prelude.{◌≡◌, ◌%◌, ◌^◌, ◌<◌, ◌≤◌, IfOk};
 ghost use Rattle.compaction.specs.Strips.{low_variables as low_of};
-ghost use Rattle.class_laws.specs.Table.{classes_of};
+ghost use Rattle.subfunction_classes.specs.Table.{classes_of};
 
 use crate::bytes::ByteKeys;
 use crate::shared_tables::SharedTables;

@@ -2,7 +2,7 @@
 //! so serve all blocks.
 
 ghost use Rattle.std.specs.Prelude.{◌≡◌, ℕ, ◌*◌, ◌^◌, ◌<◌, ◌≤◌, IfOk, IsTrue};
-ghost use Rattle.class_laws.specs.PairTables.{AllBelow, IsPairTable};
+ghost use Rattle.subfunction_classes.specs.PairTables.{AllBelow, IsPairTable};
 ghost use Rattle.pair_numbering.specs.Numbers.{ArePairsNumbered};
 
 use crate::add_variable::are_in_order;

@@ -2,7 +2,7 @@
 
 ghost use Rattle.std.specs.Prelude.{◌≡◌, ◌<◌, ◌≤◌, map, IfOk, IfSome};
 ghost use Rattle.std.specs.List.{All};
-ghost use Rattle.class_laws.specs.Table.{classes_of, with_variable};
+ghost use Rattle.subfunction_classes.specs.Table.{classes_of, with_variable};
 ghost use Rattle.compaction.specs.Strips.{AreOfFirstSets, CanTakeLow};
 ghost use Rattle.compaction.specs.Joining.{AreJoined};
 

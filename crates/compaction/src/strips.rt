@@ -5,7 +5,7 @@ ghost use Rattle.std.specs.Prelude.{◌≡◌, ℕ, ◌^◌, ◌<◌, ◌≤◌,
 ghost use Rattle.std.specs.Int.{bit_at};
 ghost use Rattle.std.specs.List.{filter};
 ghost use Rattle.order_model.specs.Orders.{has};
-ghost use Rattle.class_laws.specs.PairTables.{AllBelow, AreOwn};
+ghost use Rattle.subfunction_classes.specs.PairTables.{AllBelow, AreOwn};
 ghost use Rattle.compaction.specs.Strips.{masks_in_use, low_variables as low_of};
 
 use crate::add_variable::{StripParts, StripTable, add_above, are_in_order};
@@ -13,7 +13,7 @@ use crate::columns::{ValueStrips, whole_strips};
 use crate::names::NamePairs;
 use order_model::{Mask, Problem, VarIx, contains};
 use pair_numbering::label_pairs;
-use point_classes::{count_with, rank_of};
+use subfunction_classes::{count_with, rank_of};
 use std::alloc::{AllocError, Global};
 use std::marker::Model;
 
@@ -34,7 +34,7 @@ pub(crate) struct Strips<'a> {
 }
 
 impl<'a> Model for Strips<'a> {
-    ghost use Rattle.class_laws.specs.Table.{ClassesOf, classes_of};
+    ghost use Rattle.subfunction_classes.specs.Table.{ClassesOf, classes_of};
     ghost use Rattle.compaction.specs.Strips.{HoldsStripTable, low_variables};
 
     ghost Value = { ClassesOf };
@@ -140,7 +140,7 @@ fn same_row(width: u32, wanted: Mask) -> [u32; 16]
 impl<'a> Strips<'a> {
     ghost use Rattle.compaction.specs.Rows.{IsWidthRow};
     ghost use Rattle.compaction.specs.Strips.{AreDistinct, HoldsStrips, low_variables};
-    ghost use Rattle.class_laws.specs.Table.{set_of, with_variable, classes_of};
+    ghost use Rattle.subfunction_classes.specs.Table.{set_of, with_variable, classes_of};
 
     /// A table of strips, or the count alone if all subfunctions are distinct and depend on the
     /// whole set.

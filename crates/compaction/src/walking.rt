@@ -2,7 +2,7 @@
 
 ghost use Rattle.std.specs.Prelude.{◌≡◌, ℕ, ◌+◌, ◌-◌, ◌^◌, ◌<◌, ◌≤◌, length, IfOk, IfSome, IsNone, OnOk, bit_or};
 ghost use Rattle.std.specs.Int.{bit_at};
-ghost use Rattle.class_laws.specs.Table.{classes_of, free_below};
+ghost use Rattle.subfunction_classes.specs.Table.{classes_of, free_below};
 ghost use Rattle.compaction.specs.Rows.{AreByteRows, HoldsRows, most_compactions};
 ghost use Rattle.compaction.specs.Strips.{low_variables as low_of};
 ghost use Rattle.compaction.specs.Walks.{AreWanted, FillsOwn, FillsRows, HasDecided};

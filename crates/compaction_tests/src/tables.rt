@@ -6,7 +6,7 @@ use crate::problems::{MULTIPLEXER, PROBLEMS, problem_of};
 use class_tables::{Classes, Scratch};
 use compaction::Tally;
 use order_model::{Mask, Problem};
-use point_classes::count_with;
+use subfunction_classes::count_with;
 use std::alloc::Global;
 use std::process::Abort;
 

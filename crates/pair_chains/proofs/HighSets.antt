@@ -12,9 +12,9 @@ use Rattle.std.proofs.lemmas.Bool.{cases_eq}
 use Rattle.std.proofs.lemmas.Nat.{pow_pos, or_disjoint, mod-pow-add, mod-mul-add, div-add-mod', pow-add}
 use Rattle.std.proofs.lemmas.Nat.Bits.{shr_and_one, and_pow, bit_at-lt}
 use Rattle.order_model.specs.Orders.{has, members}
-use Rattle.class_laws.specs.Table.{free_below}
-use Rattle.class_laws.proofs.Extended.{free_none, free_more}
-use Rattle.class_laws.proofs.LowSets.{bit_unset}
+use Rattle.subfunction_classes.specs.Table.{free_below}
+use Rattle.subfunction_classes.proofs.Extended.{free_none, free_more}
+use Rattle.subfunction_classes.proofs.LowSets.{bit_unset}
 
 pub low_bits : (mask x : ℕ) → mask % 2 ^ (x + 1) ≡ (mask / 2 ^ x % 2) * 2 ^ x + mask % 2 ^ x
 low_bits mask x = ap (λ k. mask % 2 ^ k) (let s : x + 1 ≡ 1 + x = omega arith in s) ∙ mod-pow-add mask 1 x

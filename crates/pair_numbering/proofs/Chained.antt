@@ -2,9 +2,9 @@
 use Rattle.std.proofs.Common.{◌≡◌, ◌≢◌, ℕ, suc, ◌+◌, ◌<◌, ◌≤◌, inl, inr, List, length, get_or, set, refl, sym, ap, ◌∙◌, subst, arith}
 use Rattle.std.proofs.lemmas.Bool.{cases_eq, cases_lt}
 use Rattle.std.proofs.lemmas.List.{length-set, get_or-set_same, get_or-set_other}
-use Rattle.class_laws.specs.Numbering.{IsFirstOccurrence}
+use Rattle.subfunction_classes.specs.Numbering.{IsFirstOccurrence}
 use Rattle.pair_numbering.specs.Chains.{IsNext, lower_at, upper_at}
-use Rattle.class_laws.specs.Places.{pair_at}
+use Rattle.subfunction_classes.specs.Places.{pair_at}
 
 -- ---- chains
 

@@ -5,10 +5,10 @@
 --     pair_inside      both halves of a pair are classes
 use Rattle.std.proofs.Common.{◌≡◌, ℕ, ◌+◌, ◌*◌, ◌/◌, ◌%◌, ◌^◌, ◌<◌, ◌≤◌, List, length, sym, ap, ◌∙◌, subst, arith}
 use Rattle.std.proofs.lemmas.Nat.{one_shl, pow_pos}
-use Rattle.class_laws.specs.PairTables.{AllBelow, IsPaired}
-use Rattle.class_laws.specs.Places.{pairs, pair_at, low_place}
-use Rattle.class_laws.proofs.BlockPlaces.{block_all, block_inside}
-use Rattle.class_laws.proofs.Index.{length-pairs, pair_within}
+use Rattle.subfunction_classes.specs.PairTables.{AllBelow, IsPaired}
+use Rattle.subfunction_classes.specs.Places.{pairs, pair_at, low_place}
+use Rattle.subfunction_classes.proofs.BlockPlaces.{block_all, block_inside}
+use Rattle.subfunction_classes.proofs.Index.{length-pairs, pair_within}
 
 -- pair i of a block is one of the table
 pub record InBlock (numbers : List ℕ) (rank block i : ℕ) : Type 0 where

@@ -8,7 +8,7 @@
 use Rattle.std.proofs.Common.{◌≡◌, ℕ, suc, ◌+◌, ◌*◌, ◌/◌, ◌^◌, ◌<◌, ◌≤◌, List, Option, None, Some, IfSome, length, get_or, sym, ap, ◌∙◌, subst, arith}
 use Rattle.std.proofs.Math.Nat.{div-lt_iff_lt-mul, mul-le-mul_right}
 use Rattle.std.proofs.lemmas.Nat.{div-mul-add, pow_pos}
-use Rattle.class_laws.specs.PairTables.{AllBelow, IsPaired, IsPairTable}
+use Rattle.subfunction_classes.specs.PairTables.{AllBelow, IsPaired, IsPairTable}
 use Rattle.pair_numbering.specs.Strips.{AreNamed, IsLaid, laid_out, names_of, strips_at, unrolled}
 use Rattle.pair_numbering.proofs.Unrolled.{length_named, length_names_of, name_low, name_high, named_at, named_inside, unrolled_below}
 

@@ -12,16 +12,16 @@ use Rattle.std.proofs.lemmas.Map.Made.{distinct_count-le}
 use Rattle.order_model.specs.Widths.{same_pair}
 use Rattle.order_model.proofs.Lists.Sets.{Among, among_map, member_from_among, nat_decides}
 use Rattle.order_model.proofs.Widths.ClassPairs.{pair_decides, rank_apart}
-use Rattle.class_laws.specs.Dependence.{joined_mask}
-use Rattle.class_laws.specs.Numbering.{rank, ranks}
-use Rattle.class_laws.specs.PairTables.{IsPairTable, NumbersPairs}
-use Rattle.class_laws.specs.Places.{pairs}
+use Rattle.subfunction_classes.specs.Dependence.{joined_mask}
+use Rattle.subfunction_classes.specs.Numbering.{rank, ranks}
+use Rattle.subfunction_classes.specs.PairTables.{IsPairTable, NumbersPairs}
+use Rattle.subfunction_classes.specs.Places.{pairs}
 use Rattle.pair_numbering.specs.Keys.{AreUsed, TellsPairs, joined_key, joined_key_mask}
-use Rattle.class_laws.proofs.Ranks.{ranks_alike, rank_below, rank_reached}
-use Rattle.class_laws.proofs.Index.{length-pairs, pair_listed}
-use Rattle.class_laws.proofs.Joined.{pair_classes}
+use Rattle.subfunction_classes.proofs.RankLaws.{ranks_alike, rank_below, rank_reached}
+use Rattle.subfunction_classes.proofs.Index.{length-pairs, pair_listed}
+use Rattle.subfunction_classes.proofs.Joined.{pair_classes}
 use Rattle.order_model.proofs.Lists.Maps.{map_same}
-use Rattle.class_laws.proofs.Lists.{place_of}
+use Rattle.subfunction_classes.proofs.Lists.{place_of}
 use Rattle.order_model.proofs.Precedence.Masks.{among_at}
 use mathlib.Core.List.{map-map}
 

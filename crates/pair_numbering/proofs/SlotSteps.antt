@@ -6,10 +6,10 @@ use Rattle.std.proofs.Common.{◌≡◌, ◌≢◌, ℕ, ◌+◌, ◌*◌, ◌<�
 use Rattle.std.proofs.Math.Nat.{min-eq_left, min-eq_right}
 use Rattle.std.proofs.lemmas.Bool.{cases_eq, cases_lt}
 use Rattle.std.proofs.lemmas.List.{get_or-set_same, get_or-set_other, length-set, length-take, take-set, take_more_set}
-use Rattle.class_laws.specs.Numbering.{IsFirstOccurrence}
+use Rattle.subfunction_classes.specs.Numbering.{IsFirstOccurrence}
 use Rattle.pair_numbering.specs.Slots.{Found, IsSlot, Slotted, slot_number}
-use Rattle.class_laws.specs.Made.{Made}
-use Rattle.class_laws.proofs.Firsts.{made_none, made_first, made_again}
+use Rattle.subfunction_classes.specs.Made.{Made}
+use Rattle.subfunction_classes.proofs.Firsts.{made_none, made_first, made_again}
 
 module _ (ps : List (ℕ × ℕ)) (home : ℕ × ℕ → ℕ) where
   pub slotted_none : (slots : List ℕ) (keys : List (ℕ × ℕ)) (out : List ℕ) → length keys ≡ length ps → length out ≡ length ps →

@@ -4,9 +4,9 @@
 --     Fronted masks x numbers rank cells out all count j      the same of the pairs of a table, with the masks met so far at the front of a list
 --     AreCelled pairs block cells out all count      the same at the beginning of a block
 use Rattle.std.specs.Prelude.{◌≡◌, ◌≢◌, ℕ, ◌+◌, ◌*◌, ◌/◌, ◌^◌, ◌<◌, ◌≤◌, List, take, length, get_or}
-use Rattle.class_laws.specs.Dependence.{joined_mask}
-use Rattle.class_laws.specs.Places.{pairs}
-use Rattle.class_laws.specs.Made.{Made}
+use Rattle.subfunction_classes.specs.Dependence.{joined_mask}
+use Rattle.subfunction_classes.specs.Places.{pairs}
+use Rattle.subfunction_classes.specs.Made.{Made}
 use Rattle.pair_numbering.specs.declared.masks.MaskedPairs.{MaskedPairs}
 
 module _ (classes : ℕ) where

@@ -4,7 +4,7 @@
 --     AreUsed numbers masks      each mask is that of a number that occurs
 use Rattle.std.specs.Prelude.{◌≡◌, ℕ, ◌+◌, ◌*◌, ◌/◌, ◌%◌, ◌^◌, ◌<◌, ◌≤◌, IsTrue, List, map, length, slice_index, get_or}
 use Rattle.order_model.specs.Orders.{has}
-use Rattle.class_laws.specs.Dependence.{joined_mask}
+use Rattle.subfunction_classes.specs.Dependence.{joined_mask}
 
 -- the number of a pair of numbers below base
 abbrev pub joined_key : ℕ → ℕ × ℕ → ℕ

@@ -5,8 +5,8 @@
 use Rattle.std.specs.Prelude.{◌≡◌, ◌≢◌, ℕ, ◌/◌, ◌^◌, ◌<◌, List, map, length, get_or}
 use Rattle.std.specs.Set.{distinct_count}
 use Rattle.order_model.specs.Widths.{same_pair}
-use Rattle.class_laws.specs.Numbering.{ranks}
-use Rattle.class_laws.specs.Places as places
+use Rattle.subfunction_classes.specs.Numbering.{ranks}
+use Rattle.subfunction_classes.specs.Places as places
 
 -- both classes of each pair
 abbrev pub ArePairsBelow : List (ℕ × ℕ) → ℕ → Type 0

@@ -8,7 +8,7 @@
 --     IsLaid now names numbers rank      these entries are paired by a variable
 use Rattle.std.specs.Prelude.{◌≡◌, ℕ, ◌+◌, ◌*◌, ◌^◌, ◌<◌, ◌≤◌, List, [], ◌∷◌, Option, None, Some, take, drop, length, slice_index, get_or}
 use Rattle.std.specs.List.{flat_map}
-use Rattle.class_laws.specs.PairTables.{IsPaired}
+use Rattle.subfunction_classes.specs.PairTables.{IsPaired}
 
 -- the k-th strip of `len` entries
 unfoldable pub strip : List ℕ → ℕ → ℕ → List ℕ

@@ -1,14 +1,14 @@
 //! Numbers of pairs by first occurrence, by a cell for each pair of classes.
 
 ghost use Rattle.std.specs.Prelude.{◌≡◌, ℕ, ◌+◌, ◌*◌, ◌/◌, ◌^◌, ◌<◌, ◌≤◌, length, slice_index, take, IfOk};
-ghost use Rattle.class_laws.specs.Places as places;
-ghost use Rattle.class_laws.specs.PairTables.{IsPairTable, NumbersPairs};
+ghost use Rattle.subfunction_classes.specs.Places as places;
+ghost use Rattle.subfunction_classes.specs.PairTables.{IsPairTable, NumbersPairs};
 ghost use Rattle.pair_numbering.specs.Cells.{AreCelled};
 
 use crate::entries::{Block, EntryPairs};
 use crate::masks::MaskedPairs;
 use crate::numbering::Numbered;
-use point_classes::join_mask;
+use subfunction_classes::join_mask;
 use std::alloc::{AllocError, Global};
 
 /// Numbers the pairs of a block, with a branch on whether a pair is new. The answer is how many

@@ -2,7 +2,7 @@
 
 ghost use Rattle.std.specs.Prelude.{◌≡◌, ℕ, ◌+◌, ◌*◌, ◌/◌, ◌^◌, ◌<◌, ◌≤◌, length, slice_index, IfOk};
 ghost use Rattle.pair_numbering.specs.Chains.{AreHeads, AreLinks, AreFirsts, AreFirstsOf, KeepsOthers};
-ghost use Rattle.class_laws.specs.PairTables.{AllBelow, IsPaired, IsPairTable};
+ghost use Rattle.subfunction_classes.specs.PairTables.{AllBelow, IsPaired, IsPairTable};
 ghost use Rattle.pair_numbering.specs.Numbers.{ArePairsNumbered};
 
 use crate::entries::EntryPairs;

@@ -1,13 +1,13 @@
 //! Numbers of pairs if all classes are distinct.
 
 ghost use Rattle.std.specs.Prelude.{◌≡◌, ◌≢◌, ℕ, ◌*◌, ◌/◌, ◌^◌, ◌<◌, ◌≤◌, length, IfOk, IsTrue, ◌↔◌};
-ghost use Rattle.class_laws.specs.Places as places;
-ghost use Rattle.class_laws.specs.PairTables.{AllBelow, IsPairTable, NumbersPairs};
+ghost use Rattle.subfunction_classes.specs.Places as places;
+ghost use Rattle.subfunction_classes.specs.PairTables.{AllBelow, IsPairTable, NumbersPairs};
 ghost use Rattle.pair_numbering.specs.Numbers.{AreLowersApart};
 
 use crate::entries::EntryPairs;
 use crate::numbering::Numbered;
-use point_classes::join_mask;
+use subfunction_classes::join_mask;
 use std::alloc::{AllocError, Global};
 
 /// Whether no lower class occurs twice. All are below `bound`.

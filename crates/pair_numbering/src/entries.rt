@@ -1,8 +1,8 @@
 //! Pairs of entries where they stand: in a table, or in the strips of pairs of strips.
 
 ghost use Rattle.std.specs.Prelude.{◌≡◌, ℕ, ◌+◌, ◌*◌, ◌/◌, ◌^◌, ◌<◌, ◌≤◌, length, slice_index, get_or, IfSome};
-ghost use Rattle.class_laws.specs.Places as places;
-ghost use Rattle.class_laws.specs.PairTables.{IsPaired};
+ghost use Rattle.subfunction_classes.specs.Places as places;
+ghost use Rattle.subfunction_classes.specs.PairTables.{IsPaired};
 ghost use Rattle.pair_numbering.specs.Strips.{AreNamed, names_of, strips_at, unrolled};
 
 use std::marker::Model;

@@ -3,14 +3,14 @@
 
 ghost use Rattle.std.specs.Prelude.{◌≡◌, ℕ, ◌+◌, ◌*◌, ◌/◌, ◌^◌, ◌<◌, ◌≤◌, map, length, IfOk, IsTrue};
 ghost use Rattle.std.specs.List.{range_with_len};
-ghost use Rattle.class_laws.specs.Places as places;
+ghost use Rattle.subfunction_classes.specs.Places as places;
 ghost use Rattle.pair_numbering.specs.Keys.{AreUsed, TellsPairs, joined_key, joined_key_mask};
-ghost use Rattle.class_laws.specs.PairTables.{AllBelow, IsPaired, IsPairTable};
+ghost use Rattle.subfunction_classes.specs.PairTables.{AllBelow, IsPaired, IsPairTable};
 ghost use Rattle.pair_numbering.specs.Strips.{AreNamed, names_of, unrolled};
 
 use crate::entries::{Block, EntryPairs};
 use crate::numbering::number_with_masks;
-use point_classes::join_mask;
+use subfunction_classes::join_mask;
 use std::alloc::{AllocError, Global};
 
 /// Pairs of more keys than these are numbered by first occurrence.

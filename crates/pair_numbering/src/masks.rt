@@ -1,11 +1,11 @@
 //! What the functions of a class depend on, as a mask for each class.
 
 ghost use Rattle.std.specs.Prelude.{◌≡◌, ℕ, ◌<◌, map, length, IfOk};
-ghost use Rattle.class_laws.specs.Dependence.{joined_mask};
+ghost use Rattle.subfunction_classes.specs.Dependence.{joined_mask};
 ghost use Rattle.pair_numbering.specs.Numbers.{ArePairsBelow};
 
 use crate::entries::EntryPairs;
-use point_classes::join_mask;
+use subfunction_classes::join_mask;
 use std::alloc::{AllocError, Global};
 
 /// The pairs of a class table's entries that differ in variable `x`, and the mask of each class.

@@ -13,12 +13,12 @@ use Rattle.order_model.specs.Orders.{has}
 use Rattle.order_model.specs.Problems.{TruthTables}
 use Rattle.order_model.specs.Widths.{same_pair}
 use Rattle.std.specs.Set.{distinct_count}
-use Rattle.class_laws.specs.Numbering.{ranks}
-use Rattle.class_laws.specs.Dependence.{joined_mask}
-use Rattle.class_laws.specs.PairTables.{NumbersPairs}
-use Rattle.class_laws.specs.Places.{pairs}
-use Rattle.class_laws.specs.Table.{ClassesOf, HoldsClasses, classes_of, free_below, set_of}
-use Rattle.class_laws.proofs.Extended.{IsReady, is_ready, holds_more}
+use Rattle.subfunction_classes.specs.Numbering.{ranks}
+use Rattle.subfunction_classes.specs.Dependence.{joined_mask}
+use Rattle.subfunction_classes.specs.PairTables.{NumbersPairs}
+use Rattle.subfunction_classes.specs.Places.{pairs}
+use Rattle.subfunction_classes.specs.Table.{ClassesOf, HoldsClasses, classes_of, free_below, set_of}
+use Rattle.subfunction_classes.proofs.Extended.{IsReady, is_ready, holds_more}
 use Rattle.pair_chains.specs.declared.numbering.Numbered.{Numbered}
 use Rattle.pair_chains.proofs.HighSets.{free_all, high_new, high_or, step_down}
 use Rattle.small_search.specs.Paths.{HoldPath}

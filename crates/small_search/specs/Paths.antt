@@ -2,7 +2,7 @@
 --     HoldPath p set tables      for each set that has the variables of `set` from some bound on, the table of its size is its class table
 use Rattle.std.specs.Prelude.{◌≡◌, ℕ, ◌+◌, ◌*◌, ◌/◌, ◌^◌, List, count_ones, length, slice_index_or}
 use Rattle.order_model.specs.Problems.{TruthTables}
-use Rattle.class_laws.specs.Table.{HoldsClasses, classes_of}
+use Rattle.subfunction_classes.specs.Table.{HoldsClasses, classes_of}
 use Rattle.pair_chains.specs.declared.numbering.Numbered.{Numbered}
 
 pub record HoldPath (p : TruthTables) (set : ℕ) (tables : List Numbered) : Type 0 where

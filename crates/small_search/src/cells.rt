@@ -3,13 +3,13 @@
 ghost use Rattle.std.specs.Prelude.{◌≡◌, ◌+◌, ◌^◌, ◌<◌, ◌≤◌, length};
 ghost use Rattle.order_model.specs.Orders.{members};
 ghost use Rattle.order_model.specs.Problems.{functions};
-ghost use Rattle.class_laws.specs.Dependence.{AreMasks};
+ghost use Rattle.subfunction_classes.specs.Dependence.{AreMasks};
 ghost use Rattle.layer_core.specs.Pairing.{pair_of};
 ghost use Rattle.layer_core.specs.Settings.{cell_for};
 ghost use Rattle.small_search.specs.FirstCells.{AreFirstCells};
 
 use order_model::{Mask, contains};
-use point_classes::count_with;
+use subfunction_classes::count_with;
 use solutions::Setting;
 use subset_layers::{Cell, cell_from};
 

@@ -6,7 +6,7 @@ ghost use Rattle.small_search.specs.Paths.{HoldPath};
 
 use order_model::{Mask, Problem, VarIx};
 use pair_chains::{Numbered, PairNumbers, number_pairs};
-use point_classes::{no_dependence, value_numbers};
+use subfunction_classes::{no_dependence, value_numbers};
 use std::alloc::{AllocError, Global};
 use std::mem::replace;
 

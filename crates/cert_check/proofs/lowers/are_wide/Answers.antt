@@ -2,7 +2,7 @@ use Rattle.std.proofs.Common.{◌≤◌, ◌^◌, eqb, inl, inr, length, get_or,
 use Rattle.std.specs.Int.{bit_at}
 use Rattle.std.specs.List.{filter}
 use Rattle.std.proofs.lemmas.Bool.{cases_lt}
-use Rattle.class_laws.specs.Places as places
+use Rattle.subfunction_classes.specs.Places as places
 use Rattle.cert_check.specs.LowerClasses.{pairs_with}
 use Rattle.cert_check.proofs.LowerMarks.{told_le}
 use Rattle.cert_check.proofs.lowers.are_wide.Goals as goal

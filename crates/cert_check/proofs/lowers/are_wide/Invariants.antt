@@ -1,5 +1,5 @@
 use Rattle.std.proofs.Common.{ℕ, ◌<◌, ◌≤◌, ◌^◌, get_or}
-use Rattle.class_laws.specs.Places as places
+use Rattle.subfunction_classes.specs.Places as places
 use Rattle.cert_check.specs.LowerClasses.{pairs_with}
 use Rattle.cert_check.proofs.lowers.are_wide.Given as goal
 

@@ -1,7 +1,7 @@
 use Rattle.std.proofs.Common.{ℕ, ◌<◌, ◌^◌, bit_or, length, set, refl, sym, ap, subst, ◌∙◌, arith}
 use Rattle.std.proofs.lemmas.List.{length-set, get_or_default}
-use Rattle.class_laws.specs.Places as places
-use Rattle.class_laws.proofs.Index.{length-pairs, pair_listed}
+use Rattle.subfunction_classes.specs.Places as places
+use Rattle.subfunction_classes.proofs.Index.{length-pairs, pair_listed}
 use Rattle.cert_check.specs.LowerClasses.{AreTold}
 use Rattle.cert_check.proofs.LowerMarks.{one_told}
 use Rattle.cert_check.proofs.lowers.lower_masks.Goals as goal

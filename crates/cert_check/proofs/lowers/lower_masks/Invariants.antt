@@ -1,5 +1,5 @@
 use Rattle.std.proofs.Common.{◌≡◌, ◌^◌, length}
-use Rattle.class_laws.specs.Places as places
+use Rattle.subfunction_classes.specs.Places as places
 use Rattle.cert_check.specs.LowerClasses.{AreTold}
 use Rattle.cert_check.proofs.lowers.lower_masks.Given as goal
 

@@ -1,9 +1,9 @@
 use Rattle.std.proofs.Common.{ℕ, ◌+◌, ◌^◌, ◌<◌, map, length, get_or, sym, ap, ◌∙◌, subst, arith, Vec, Global}
-use Rattle.class_laws.specs.Places as places
+use Rattle.subfunction_classes.specs.Places as places
 use Rattle.std.proofs.lemmas.List.{map-id}
-use Rattle.class_laws.proofs.Index.{pair_listed, length-pairs}
-use Rattle.class_laws.specs.Made.{Joined}
-use Rattle.class_laws.proofs.Joined.{joined_new, joined_old, joined_many, joined_told, number_at, numbered_place}
+use Rattle.subfunction_classes.proofs.Index.{pair_listed, length-pairs}
+use Rattle.subfunction_classes.specs.Made.{Joined}
+use Rattle.subfunction_classes.proofs.Joined.{joined_new, joined_old, joined_many, joined_told, number_at, numbered_place}
 use Rattle.class_tables.proofs.numbering.distinct_pairs.Goals as goal
 use Rattle.class_tables.proofs.numbering.distinct_pairs.Goals.{then-number-len+in_ok-push, else-number-len}
 

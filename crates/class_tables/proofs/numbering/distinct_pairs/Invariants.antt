@@ -1,6 +1,6 @@
 use Rattle.std.proofs.Common.{◌^◌}
-use Rattle.class_laws.specs.Places as places
-use Rattle.class_laws.specs.Made.{Joined}
+use Rattle.subfunction_classes.specs.Places as places
+use Rattle.subfunction_classes.specs.Made.{Joined}
 use Rattle.class_tables.proofs.numbering.distinct_pairs.Given as goal
 
 abbrev pub invariant-loop-j : goal.invariant-loop-j

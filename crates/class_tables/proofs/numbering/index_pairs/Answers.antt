@@ -2,10 +2,10 @@ use Rattle.std.proofs.Common.{◌+◌, ◌^◌, ◌<◌, length, take, ◌/◌, 
 use Rattle.std.specs.List.{list_any, position_or_len}
 use Rattle.order_model.specs.Widths.{same_pair}
 use Rattle.order_model.proofs.Widths.ClassPairs.{pair_decides}
-use Rattle.class_laws.specs.Numbering.{rank}
-use Rattle.class_laws.specs.Places as places
-use Rattle.class_laws.proofs.Ranks.{Numbers, numbers_none}
-use Rattle.class_laws.proofs.Index.{number_is, seen_more, done_more, number_small, all_done}
+use Rattle.subfunction_classes.specs.Numbering.{rank}
+use Rattle.subfunction_classes.specs.Places as places
+use Rattle.subfunction_classes.proofs.RankLaws.{Numbers, numbers_none}
+use Rattle.subfunction_classes.proofs.Index.{number_is, seen_more, done_more, number_small, all_done}
 use Rattle.class_tables.proofs.numbering.index_pairs.Goals as goal
 
 pub loop-j-init : goal.loop-j-init

@@ -1,8 +1,8 @@
 use Rattle.std.proofs.Common.{◌≡◌, ◌^◌, map, take}
 use Rattle.order_model.specs.Widths.{same_pair}
-use Rattle.class_laws.specs.Numbering.{rank}
-use Rattle.class_laws.specs.Places as places
-use Rattle.class_laws.proofs.Ranks.{Numbers}
+use Rattle.subfunction_classes.specs.Numbering.{rank}
+use Rattle.subfunction_classes.specs.Places as places
+use Rattle.subfunction_classes.proofs.RankLaws.{Numbers}
 use Rattle.order_model.proofs.Widths.ClassPairs.{pair_decides}
 use Rattle.class_tables.proofs.numbering.index_pairs.Given as goal
 

@@ -1,10 +1,10 @@
 use Rattle.std.proofs.Common.{◌^◌, get_or, length, map, sym, ap, ◌∙◌, subst}
-use Rattle.class_laws.specs.Dependence.{joined_mask}
-use Rattle.class_laws.specs.Places as places
+use Rattle.subfunction_classes.specs.Dependence.{joined_mask}
+use Rattle.subfunction_classes.specs.Places as places
 use Rattle.order_model.specs.Widths.{same_pair}
-use Rattle.class_laws.specs.Numbering.{ranks}
+use Rattle.subfunction_classes.specs.Numbering.{ranks}
 use Rattle.pair_numbering.specs.Numbers.{ArePairsBelow, ArePairsNumbered}
-use Rattle.class_laws.proofs.DistinctPairs.{met_classes, masks_many, masks_told}
+use Rattle.subfunction_classes.proofs.DistinctPairs.{met_classes, masks_many, masks_told}
 use Rattle.class_tables.proofs.numbering.number_pairs_by_index.Goals as goal
 
 pub join_masks-requires-clause-classes : goal.join_masks-requires-clause-classes

@@ -1,9 +1,9 @@
 use Rattle.std.proofs.Common.{◌+◌, ◌/◌, ◌<◌, ◌^◌, get_or, length, sym, ap, ◌∙◌, subst, arith}
-use Rattle.class_laws.specs.Numbering.{IsFirstOccurrence}
-use Rattle.class_laws.specs.Dependence.{joined_mask}
-use Rattle.class_laws.specs.Places as places
+use Rattle.subfunction_classes.specs.Numbering.{IsFirstOccurrence}
+use Rattle.subfunction_classes.specs.Dependence.{joined_mask}
+use Rattle.subfunction_classes.specs.Places as places
 use Rattle.class_tables.proofs.CountedFirsts.{Counting, counting_first, counting_again, counting_all}
-use Rattle.class_laws.proofs.Index.{first_listed, pair_listed, length-pairs}
+use Rattle.subfunction_classes.proofs.Index.{first_listed, pair_listed, length-pairs}
 use Rattle.class_tables.proofs.scratch.count_firsts.Goals as goal
 use Rattle.class_tables.proofs.scratch.count_firsts.Goals.{then-f-j, else-f-j}
 

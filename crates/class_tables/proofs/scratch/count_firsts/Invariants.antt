@@ -1,5 +1,5 @@
 use Rattle.std.proofs.Common.{◌^◌}
-use Rattle.class_laws.specs.Places as places
+use Rattle.subfunction_classes.specs.Places as places
 use Rattle.class_tables.proofs.CountedFirsts.{Counting}
 use Rattle.class_tables.proofs.scratch.count_firsts.Given as goal
 

@@ -3,8 +3,8 @@ use Rattle.std.proofs.Math.Nat.{add-mul-div_right, div-eq_of_lt, mul-le-mul_left
 use Rattle.std.proofs.lemmas.Nat.{pow_pos}
 use Rattle.pair_numbering.specs.Strips.{AreNamed, names_of, unrolled}
 use Rattle.pair_numbering.specs.Keys.{TellsPairs}
-use Rattle.class_laws.specs.Places as places
-use Rattle.class_laws.proofs.Index.{length-pairs}
+use Rattle.subfunction_classes.specs.Places as places
+use Rattle.subfunction_classes.proofs.Index.{length-pairs}
 use Rattle.pair_numbering.proofs.Names.{names_below, length_names}
 use Rattle.pair_numbering.proofs.Unrolled.{length_named, length_names_of}
 use Rattle.compaction.specs.Strips.{GrowsStrips, StripTableOf}

@@ -1,10 +1,10 @@
 use Rattle.std.proofs.Common.{◌+◌, ◌*◌, ◌^◌, sym, ap, ◌∙◌, subst, arith}
 use Rattle.std.proofs.lemmas.Nat.{pow_pos, pow-add}
-use Rattle.class_laws.specs.Places as places
-use Rattle.class_laws.specs.PairTables.{AreOwn}
+use Rattle.subfunction_classes.specs.Places as places
+use Rattle.subfunction_classes.specs.PairTables.{AreOwn}
 use Rattle.pair_numbering.specs.Keys.{TellsPairs}
 use Rattle.compaction.specs.Strips.{GrowsStrips, StripTableOf}
-use Rattle.class_laws.proofs.Index.{length-pairs}
+use Rattle.subfunction_classes.proofs.Index.{length-pairs}
 use Rattle.pair_numbering.proofs.Names.{names_below, length_names}
 use Rattle.compaction.proofs.Ordered.{ordered_strips, ordered_tells, ordered_whole}
 use Rattle.compaction.proofs.add_variable.add_in_order.Goals as goal

@@ -2,9 +2,9 @@ use Rattle.std.proofs.Common.{◌≡◌, ◌*◌, length, sym, ap, ◌∙◌, ar
 use Rattle.order_model.specs.Problems.{value_at}
 use Rattle.compaction.specs.Columns.{packed_numbers}
 use Rattle.pair_numbering.specs.Strips.{unrolled}
-use Rattle.class_laws.specs.Values.{values_of}
+use Rattle.subfunction_classes.specs.Values.{values_of}
 use Rattle.compaction.proofs.Expanded.{length_packed}
-use Rattle.class_laws.proofs.StartClasses.{length_values}
+use Rattle.subfunction_classes.proofs.StartClasses.{length_values}
 use Rattle.compaction.proofs.KeptRuns.{kept_strips, kept_values}
 use Rattle.compaction.proofs.columns.byte_strips.Goals as goal
 

@@ -2,7 +2,7 @@ use Rattle.std.proofs.Common.{◌≡◌, ℕ, suc, ◌+◌, ◌*◌, ◌-◌, �
 use Rattle.std.proofs.lemmas.List.{get_or-replicate, length-replicate}
 use Rattle.std.proofs.Math.Nat.{suc-mul, mul-le-mul_left}
 use Rattle.order_model.specs.Problems.{outputs_of}
-use Rattle.class_laws.specs.Values.{values_of}
+use Rattle.subfunction_classes.specs.Values.{values_of}
 use Rattle.compaction.proofs.KeptRuns.{keeps_none, renamed, words_parted, table_bit, values_at}
 use Rattle.compaction.proofs.columns.columns_of.Goals as goal
 

@@ -1,6 +1,6 @@
 use Rattle.std.proofs.Common.{◌≡◌, ◌*◌, ◌-◌, ◌^◌, ◌≤◌, length}
 use Rattle.compaction.specs.Columns.{IsChained, KeepsValues}
-use Rattle.class_laws.specs.Values.{values_of}
+use Rattle.subfunction_classes.specs.Values.{values_of}
 use Rattle.compaction.proofs.columns.columns_of.Given as goal
 
 abbrev pub invariant-loop-output : goal.invariant-loop-output

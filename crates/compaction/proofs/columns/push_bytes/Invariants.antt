@@ -1,5 +1,5 @@
 use Rattle.std.proofs.Common.{◌≡◌, ◌*◌, ◌++◌, ℕ, List, Bool}
-use Rattle.class_laws.specs.PairTables.{AllBelow}
+use Rattle.subfunction_classes.specs.PairTables.{AllBelow}
 use Rattle.compaction.specs.Columns.{AreByteRows, low_numbers}
 use Rattle.pair_numbering.specs.Strips.{unrolled}
 use Rattle.compaction.proofs.columns.push_bytes.Given as goal

@@ -2,7 +2,7 @@ use Rattle.std.proofs.Common.{◌≡◌, ◌-◌, ◌*◌, ◌%◌, ◌^◌, len
 use Rattle.std.proofs.Math.Pow.{shl_exact}
 use Rattle.std.proofs.lemmas.Nat.{pow_pos}
 use Rattle.order_model.specs.Problems.{value_at, outputs_of}
-use Rattle.class_laws.specs.Values.{number_of}
+use Rattle.subfunction_classes.specs.Values.{number_of}
 use Rattle.compaction.proofs.Expanded.{whole_are, whole_values, length_numbers, few_numbers}
 use Rattle.compaction.proofs.columns.whole_strips.Goals as goal
 

@@ -2,8 +2,8 @@ use Rattle.std.proofs.Common.{sym, ap, ◌∙◌}
 use Rattle.std.proofs.lemmas.Bool.{iff_false}
 use Rattle.std.proofs.lemmas.Nat.Bits.{shr_and_one}
 use Rattle.order_model.specs.Orders.{has}
-use Rattle.class_laws.specs.Table.{ClassesOf, classes_of, set_of, with_variable}
-use Rattle.class_laws.proofs.LowSets.{low_more, low_same, low_new}
+use Rattle.subfunction_classes.specs.Table.{ClassesOf, classes_of, set_of, with_variable}
+use Rattle.subfunction_classes.proofs.LowSets.{low_more, low_same, low_new}
 use Rattle.compaction.proofs.low_tables.low_bytes.Goals as goal
 use Rattle.compaction.proofs.low_tables.low_bytes.Goals.{then-contains+in_ok-keys-2, else-contains}
 

@@ -1,5 +1,5 @@
 use Rattle.std.proofs.Common.{List, ◌++◌, vec_len}
-use Rattle.class_laws.specs.Table.{ClassesOf}
+use Rattle.subfunction_classes.specs.Table.{ClassesOf}
 use Rattle.compaction.specs.Joining.{AreJoined}
 use Rattle.compaction.proofs.shared_tables.concatenate.Given as goal
 

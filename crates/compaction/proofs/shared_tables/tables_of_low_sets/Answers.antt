@@ -1,7 +1,7 @@
 use Rattle.std.proofs.Common.{◌+◌, ◌^◌, ◌<◌, ◌++◌, length, map, add-one, sym, ap, ◌∙◌, subst, arith}
 use Rattle.std.specs.List.{All}
 use Rattle.std.proofs.lemmas.List.{length-append, length-map}
-use Rattle.class_laws.specs.Table.{with_variable}
+use Rattle.subfunction_classes.specs.Table.{with_variable}
 use Rattle.compaction.specs.Strips.{AreOfFirstSets, CanTakeLow, low_variables}
 use Rattle.compaction.proofs.FirstSets.{can_take, with_larger}
 use Rattle.compaction.proofs.shared_tables.tables_of_low_sets.Goals as goal

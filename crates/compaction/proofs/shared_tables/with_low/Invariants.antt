@@ -1,5 +1,5 @@
 use Rattle.std.proofs.Common.{◌≡◌, map, take}
-use Rattle.class_laws.specs.Table.{with_variable}
+use Rattle.subfunction_classes.specs.Table.{with_variable}
 use Rattle.compaction.proofs.shared_tables.with_low.Given as goal
 
 abbrev pub invariant-loop-table : goal.invariant-loop-table

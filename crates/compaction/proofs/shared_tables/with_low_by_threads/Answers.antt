@@ -1,5 +1,5 @@
 use Rattle.std.proofs.Common.{◌≡◌, ◌<◌, get_or, map, IfOk, subst, arith}
-use Rattle.class_laws.specs.Table.{ClassesOf, with_variable}
+use Rattle.subfunction_classes.specs.Table.{ClassesOf, with_variable}
 use Rattle.compaction.proofs.JoinedTables.{if_joined}
 use Rattle.compaction.proofs.shared_tables.with_low_by_threads.Goals as goal
 

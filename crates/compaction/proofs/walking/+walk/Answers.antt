@@ -1,6 +1,6 @@
 use Rattle.std.proofs.Common.{◌≤◌, ◌<◌, ◌+◌, ◌*◌, ◌^◌, ◌≡◌, ◌≢◌, ℕ, length, bit_or, bit_and, slice_index, refl, sym, ap, ◌∙◌, subst, arith}
 use Rattle.compaction.specs.Strips.{low_variables}
-use Rattle.class_laws.specs.Table.{ClassesOf, free_below}
+use Rattle.subfunction_classes.specs.Table.{ClassesOf, free_below}
 use Rattle.compaction.specs.HighBytes.{HasByte}
 use Rattle.compaction.specs.Rows.{AreRowsFilled}
 use Rattle.compaction.proofs.Filled.{filled_own, filled_unwanted, filled_both, few_compactions, fewer_compactions}

@@ -1,4 +1,4 @@
-use Rattle.class_laws.specs.Table.{free_below}
+use Rattle.subfunction_classes.specs.Table.{free_below}
 use Rattle.compaction.proofs.walking.+walk.Given as goal
 
 abbrev pub decreases-walk : goal.decreases-walk

@@ -1,8 +1,8 @@
 use Rattle.std.proofs.Common.{◌≡◌, ◌*◌, ◌^◌, ◌≤◌, length, take, sym, subst, arith}
-use Rattle.class_laws.specs.Dependence.{joined_mask}
-use Rattle.class_laws.specs.Places as places
-use Rattle.class_laws.proofs.Index.{length-pairs}
-use Rattle.class_laws.proofs.Firsts.{made_numbers, made_many, made_told}
+use Rattle.subfunction_classes.specs.Dependence.{joined_mask}
+use Rattle.subfunction_classes.specs.Places as places
+use Rattle.subfunction_classes.proofs.Index.{length-pairs}
+use Rattle.subfunction_classes.proofs.Firsts.{made_numbers, made_many, made_told}
 use Rattle.pair_numbering.proofs.InBlocks.{all_pairs}
 use Rattle.pair_numbering.proofs.CellSteps.{fronted_none}
 use Rattle.pair_numbering.proofs.cells.number_blocks.Goals as goal

@@ -1,10 +1,10 @@
 use Rattle.std.proofs.Common.{◌≡◌, ℕ, ◌+◌, ◌/◌, ◌^◌, ◌<◌, get_or, set, length, sym, ap, subst, ◌∙◌, arith, Vec, Global}
 use Rattle.std.proofs.lemmas.List.{get_or_default, map-id}
-use Rattle.class_laws.specs.Numbering.{IsFirstOccurrence}
-use Rattle.class_laws.specs.Places as places
-use Rattle.class_laws.proofs.Index.{first_listed, pair_listed, length-pairs}
-use Rattle.class_laws.specs.Made.{Made}
-use Rattle.class_laws.proofs.Firsts.{made_none, made_first, made_again, made_numbers, made_many, made_told}
+use Rattle.subfunction_classes.specs.Numbering.{IsFirstOccurrence}
+use Rattle.subfunction_classes.specs.Places as places
+use Rattle.subfunction_classes.proofs.Index.{first_listed, pair_listed, length-pairs}
+use Rattle.subfunction_classes.specs.Made.{Made}
+use Rattle.subfunction_classes.proofs.Firsts.{made_none, made_first, made_again, made_numbers, made_many, made_told}
 use Rattle.pair_numbering.proofs.chains.number_firsts.Goals as goal
 use Rattle.pair_numbering.proofs.chains.number_firsts.Goals.{then-f-j+in_ok-push, else-f-j}
 

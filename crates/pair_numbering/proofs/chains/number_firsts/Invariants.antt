@@ -1,6 +1,6 @@
 use Rattle.std.proofs.Common.{◌^◌}
-use Rattle.class_laws.specs.Places as places
-use Rattle.class_laws.specs.Made.{Made}
+use Rattle.subfunction_classes.specs.Places as places
+use Rattle.subfunction_classes.specs.Made.{Made}
 use Rattle.pair_numbering.proofs.chains.number_firsts.Given as goal
 
 abbrev pub invariant-loop-j : goal.invariant-loop-j

@@ -1,10 +1,10 @@
 use Rattle.std.proofs.Common.{◌≡◌, ◌≢◌, ℕ, ◌+◌, ◌/◌, ◌^◌, ◌<◌, ◌≤◌, List, get_or, set, length, sym, ap, subst, ◌∙◌, arith}
 use Rattle.std.proofs.lemmas.List.{get_or-set_other}
 use Rattle.std.proofs.lemmas.Nat.{pow_pos}
-use Rattle.class_laws.specs.PairTables.{AllBelow, IsPaired}
-use Rattle.class_laws.specs.Places as places
+use Rattle.subfunction_classes.specs.PairTables.{AllBelow, IsPaired}
+use Rattle.subfunction_classes.specs.Places as places
 use Rattle.pair_numbering.specs.Chains.{IsNext, lower_at, upper_at}
-use Rattle.class_laws.proofs.Index.{pair_within}
+use Rattle.subfunction_classes.proofs.Index.{pair_within}
 use Rattle.pair_numbering.proofs.InBlocks.{pair_inside}
 use Rattle.pair_numbering.proofs.Chained.{Walk, walk_again, walk_new}
 use Rattle.pair_numbering.proofs.chains.walk_chain.Goals as goal

@@ -1,5 +1,5 @@
 use Rattle.std.proofs.Common.{◌≡◌, ◌≢◌, ◌<◌, ◌^◌, ℕ, get_or, length}
-use Rattle.class_laws.specs.Places.{pair_at}
+use Rattle.subfunction_classes.specs.Places.{pair_at}
 use Rattle.pair_numbering.proofs.distinct.are_distinct.Given as goal
 
 abbrev pub invariant-loop-j : goal.invariant-loop-j

@@ -1,11 +1,11 @@
 use Rattle.std.proofs.Common.{◌≡◌, ℕ, ◌+◌, ◌/◌, ◌^◌, ◌<◌, get_or, refl, set, take, map, length, sym, ap, subst, ◌∙◌, arith}
 use Rattle.std.proofs.lemmas.List.{take_more_set, take_all, length-set, length-take}
-use Rattle.class_laws.specs.Dependence.{joined_mask}
-use Rattle.class_laws.specs.Places as places
-use Rattle.class_laws.specs.Numbering.{IsFirstOccurrence}
-use Rattle.class_laws.proofs.Index.{length-pairs, pair_listed}
-use Rattle.class_laws.specs.Made.{Made}
-use Rattle.class_laws.proofs.Firsts.{made_none, made_first, made_numbers, made_many, made_told}
+use Rattle.subfunction_classes.specs.Dependence.{joined_mask}
+use Rattle.subfunction_classes.specs.Places as places
+use Rattle.subfunction_classes.specs.Numbering.{IsFirstOccurrence}
+use Rattle.subfunction_classes.proofs.Index.{length-pairs, pair_listed}
+use Rattle.subfunction_classes.specs.Made.{Made}
+use Rattle.subfunction_classes.proofs.Firsts.{made_none, made_first, made_numbers, made_many, made_told}
 use Rattle.pair_numbering.proofs.InBlocks.{pair_inside}
 use Rattle.pair_numbering.proofs.distinct.number_distinct_pairs.Goals as goal
 

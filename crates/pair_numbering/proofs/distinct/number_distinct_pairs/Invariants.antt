@@ -1,7 +1,7 @@
 use Rattle.std.proofs.Common.{◌≡◌, ◌/◌, ◌^◌, take, length}
-use Rattle.class_laws.specs.Dependence.{joined_mask}
-use Rattle.class_laws.specs.Places as places
-use Rattle.class_laws.specs.Made.{Made}
+use Rattle.subfunction_classes.specs.Dependence.{joined_mask}
+use Rattle.subfunction_classes.specs.Places as places
+use Rattle.subfunction_classes.specs.Made.{Made}
 use Rattle.pair_numbering.proofs.distinct.number_distinct_pairs.Given as goal
 
 abbrev pub invariant-loop-j : goal.invariant-loop-j

@@ -2,11 +2,11 @@ use Rattle.std.proofs.Common.{◌≡◌, ℕ, List, ◌≤◌, ◌+◌, ◌*◌,
 use Rattle.std.proofs.lemmas.Nat.{one_shl}
 use Rattle.std.proofs.lemmas.List.{take_more_set, take_all, length-set}
 use Rattle.std.proofs.Math.Nat.{mul-le-mul}
-use Rattle.class_laws.specs.PairTables.{AllBelow, IsPaired}
-use Rattle.class_laws.specs.Places as places
+use Rattle.subfunction_classes.specs.PairTables.{AllBelow, IsPaired}
+use Rattle.subfunction_classes.specs.Places as places
 use Rattle.pair_numbering.specs.Keys.{joined_key}
-use Rattle.class_laws.proofs.Index.{done_more, length-pairs, pair_listed}
-use Rattle.class_laws.proofs.BlockPlaces.{block_inside, block_all, block_next, listed_classes}
+use Rattle.subfunction_classes.proofs.Index.{done_more, length-pairs, pair_listed}
+use Rattle.subfunction_classes.proofs.BlockPlaces.{block_inside, block_all, block_next, listed_classes}
 use Rattle.pair_numbering.proofs.InBlocks.{in_block, listed_inside, place_is}
 use Rattle.pair_numbering.proofs.keys.join_blocks.Goals as goal
 

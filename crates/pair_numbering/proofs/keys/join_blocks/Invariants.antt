@@ -1,5 +1,5 @@
 use Rattle.std.proofs.Common.{◌≡◌, ◌+◌, ◌*◌, ◌/◌, ◌^◌, map, take, length}
-use Rattle.class_laws.specs.Places as places
+use Rattle.subfunction_classes.specs.Places as places
 use Rattle.pair_numbering.specs.Keys.{joined_key}
 use Rattle.pair_numbering.proofs.keys.join_blocks.Given as goal
 

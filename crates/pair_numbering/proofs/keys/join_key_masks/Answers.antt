@@ -2,7 +2,7 @@ use Rattle.std.proofs.Common.{◌≡◌, ◌+◌, ◌*◌, ◌∷◌, ◌++◌, 
 use Rattle.std.proofs.lemmas.Nat.{div-mul-add, mod-mul-add}
 use Rattle.std.proofs.lemmas.List.FromFn.{map-range_with_len_more}
 use Rattle.std.specs.List.{range_with_len}
-use Rattle.class_laws.specs.Dependence.{joined_mask}
+use Rattle.subfunction_classes.specs.Dependence.{joined_mask}
 use Rattle.pair_numbering.specs.Keys.{joined_key_mask}
 use Rattle.pair_numbering.proofs.keys.join_key_masks.Goals as goal
 

@@ -1,5 +1,5 @@
 use Rattle.std.proofs.Common.{length, sym, subst}
-use Rattle.class_laws.specs.PairTables.{IsPairTable}
+use Rattle.subfunction_classes.specs.PairTables.{IsPairTable}
 use Rattle.pair_numbering.proofs.Laid.{strip_table}
 use Rattle.pair_numbering.proofs.keys.label_strip_pairs.Goals as goal
 

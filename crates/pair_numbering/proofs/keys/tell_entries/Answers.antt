@@ -1,6 +1,6 @@
 use Rattle.std.proofs.Common.{◌^◌, arith}
-use Rattle.class_laws.specs.Places as places
-use Rattle.class_laws.proofs.Index.{length-pairs}
+use Rattle.subfunction_classes.specs.Places as places
+use Rattle.subfunction_classes.proofs.Index.{length-pairs}
 use Rattle.pair_numbering.proofs.Names.{names_joined, names_numbered, ranks_used}
 use Rattle.pair_numbering.proofs.keys.tell_entries.Goals as goal
 

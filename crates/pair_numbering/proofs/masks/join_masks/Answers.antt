@@ -1,6 +1,6 @@
 use Rattle.std.proofs.Common.{◌∷◌, [], ◌++◌, get_or, map, take, sym, ap, ◌∙◌, arith}
 use Rattle.std.proofs.lemmas.List.{length-set, map-append, take_all, take_more, take_more_set}
-use Rattle.class_laws.specs.Dependence.{joined_mask}
+use Rattle.subfunction_classes.specs.Dependence.{joined_mask}
 use Rattle.pair_numbering.proofs.masks.join_masks.Goals as goal
 
 pub loop-k-preserved : goal.loop-k-preserved

@@ -1,5 +1,5 @@
 use Rattle.std.proofs.Common.{◌≡◌, length, map, take}
-use Rattle.class_laws.specs.Dependence.{joined_mask}
+use Rattle.subfunction_classes.specs.Dependence.{joined_mask}
 use Rattle.pair_numbering.proofs.masks.join_masks.Given as goal
 
 abbrev pub invariant-loop-k : goal.invariant-loop-k

@@ -1,8 +1,8 @@
 use Rattle.std.proofs.Common.{◌^◌, get_or, length, map, sym, ap, ◌∙◌, subst}
-use Rattle.class_laws.specs.Dependence.{joined_mask}
-use Rattle.class_laws.specs.Places as places
+use Rattle.subfunction_classes.specs.Dependence.{joined_mask}
+use Rattle.subfunction_classes.specs.Places as places
 use Rattle.pair_numbering.specs.Numbers.{ArePairsBelow}
-use Rattle.class_laws.proofs.DistinctPairs.{met_classes, masks_many, masks_told}
+use Rattle.subfunction_classes.proofs.DistinctPairs.{met_classes, masks_many, masks_told}
 use Rattle.pair_numbering.proofs.numbering.number_with_masks.Goals as goal
 
 pub join_masks-requires-clause-classes : goal.join_masks-requires-clause-classes

@@ -1,9 +1,9 @@
 use Rattle.std.proofs.Common.{◌≡◌, ℕ, ◌+◌, ◌-◌, ◌*◌, ◌/◌, ◌^◌, ◌<◌, ◌≤◌, List, get_or, set, length, sym, ap, subst, ◌∙◌, arith}
 use Rattle.std.proofs.lemmas.List.{length-set}
 use Rattle.pair_numbering.specs.Slots.{IsSlot, Slotted, home_of, slot_number}
-use Rattle.class_laws.specs.Places as places
-use Rattle.class_laws.proofs.BlockPlaces.{block_next}
-use Rattle.class_laws.proofs.Index.{length-pairs}
+use Rattle.subfunction_classes.specs.Places as places
+use Rattle.subfunction_classes.proofs.BlockPlaces.{block_next}
+use Rattle.subfunction_classes.proofs.Index.{length-pairs}
 use Rattle.pair_numbering.proofs.InBlocks.{in_step, listed_inside, place_is, step_is}
 use Rattle.pair_numbering.proofs.SlotSteps.{slotted_new, slotted_old}
 use Rattle.pair_numbering.proofs.slots.number_block.Goals as goal

@@ -1,6 +1,6 @@
 use Rattle.std.proofs.Common.{◌+◌, ◌*◌, ◌/◌, ◌^◌, length}
 use Rattle.pair_numbering.specs.Slots.{Slotted, home_of}
-use Rattle.class_laws.specs.Places as places
+use Rattle.subfunction_classes.specs.Places as places
 use Rattle.pair_numbering.proofs.slots.number_block.Given as goal
 
 abbrev pub invariant-loop-i : goal.invariant-loop-i

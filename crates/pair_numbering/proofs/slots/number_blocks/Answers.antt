@@ -1,8 +1,8 @@
 use Rattle.std.proofs.Common.{◌*◌, ◌^◌, ◌≤◌, length, take, sym, subst, ◌∙◌, arith}
 use Rattle.std.proofs.lemmas.List.{map-id}
-use Rattle.class_laws.specs.Places as places
-use Rattle.class_laws.proofs.Index.{length-pairs}
-use Rattle.class_laws.proofs.Firsts.{made_numbers, made_many, made_told}
+use Rattle.subfunction_classes.specs.Places as places
+use Rattle.subfunction_classes.proofs.Index.{length-pairs}
+use Rattle.subfunction_classes.proofs.Firsts.{made_numbers, made_many, made_told}
 use Rattle.pair_numbering.proofs.InBlocks.{all_pairs}
 use Rattle.pair_numbering.proofs.SlotSteps.{slotted_none}
 use Rattle.pair_numbering.proofs.slots.number_blocks.Goals as goal

@@ -8,7 +8,7 @@ use Rattle.order_model.specs.KeptPairs.{KeptPairs}
 use Rattle.order_model.specs.Reserves.{ReservesOf}
 use Rattle.order_model.specs.Cells.{AreForCell, cell_of}
 use Rattle.order_model.specs.declared.reserve.Limit.{Limit}
-use Rattle.class_laws.proofs.Counted.{width_is_dependent_classes}
+use Rattle.subfunction_classes.proofs.Counted.{width_is_dependent_classes}
 use Rattle.subset_layers.specs.Costs.{as_pair}
 use Rattle.subset_layers.proofs.CostLists.{bit_from_member, member_from_bit}
 use Rattle.solutions.specs.FlatCells.{no_cell}

@@ -2,9 +2,9 @@ use Rattle.std.proofs.Common.{◌≡◌, ℕ, List, count_ones, length, get_or, 
 use Rattle.std.proofs.lemmas.Nat.{ones-le}
 use Rattle.order_model.specs.Orders.{members}
 use Rattle.order_model.specs.Problems.{TruthTables, functions}
-use Rattle.class_laws.specs.Dependence.{AreMasks}
-use Rattle.class_laws.specs.Table.{classes_of}
-use Rattle.class_laws.proofs.Extended.{few_masks}
+use Rattle.subfunction_classes.specs.Dependence.{AreMasks}
+use Rattle.subfunction_classes.specs.Table.{classes_of}
+use Rattle.subfunction_classes.proofs.Extended.{few_masks}
 use Rattle.pair_chains.specs.declared.numbering.Numbered.{Numbered}
 use Rattle.small_search.specs.Paths.{HoldPath}
 use Rattle.small_search.proofs.PathSteps.{own_table}

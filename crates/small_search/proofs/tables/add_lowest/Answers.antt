@@ -3,9 +3,9 @@ use Rattle.std.specs.Int.{trailing_zeros}
 use Rattle.std.proofs.lemmas.Bool.{cases_lt}
 use Rattle.std.proofs.lemmas.List.{length-set}
 use Rattle.std.proofs.lemmas.Nat.{ones-le, zero_from_ones}
-use Rattle.class_laws.specs.PairTables.{IsPairTable, NumbersPairs}
-use Rattle.class_laws.specs.Places.{pairs}
-use Rattle.class_laws.proofs.Extended.{IsReady, ready_table}
+use Rattle.subfunction_classes.specs.PairTables.{IsPairTable, NumbersPairs}
+use Rattle.subfunction_classes.specs.Places.{pairs}
+use Rattle.subfunction_classes.proofs.Extended.{IsReady, ready_table}
 use Rattle.pair_chains.specs.declared.numbering.Numbered.{Numbered}
 use Rattle.small_search.proofs.LowestVariables.{lowest}
 use Rattle.small_search.proofs.PathSteps.{parent_ready, path_more}

@@ -1,7 +1,7 @@
 use Rattle.std.proofs.Common.{List, [], ◌∷◌, ◌++◌, length, get_or, sym, ap, ◌∙◌, subst, arith}
 use Rattle.std.proofs.lemmas.List.{get_or_append_left, length-append}
-use Rattle.class_laws.specs.Values.{class_count}
-use Rattle.class_laws.proofs.StartClasses.{holds_start}
+use Rattle.subfunction_classes.specs.Values.{class_count}
+use Rattle.subfunction_classes.proofs.StartClasses.{holds_start}
 use Rattle.pair_chains.specs.declared.numbering.Numbered.{Numbered}
 use Rattle.small_search.proofs.PathSteps.{Holds, path_start}
 use Rattle.small_search.proofs.tables.first_tables.Goals as goal

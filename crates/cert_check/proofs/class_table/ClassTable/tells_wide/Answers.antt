@@ -1,6 +1,6 @@
 use Rattle.std.proofs.Common.{◌≡◌, ◌^◌, subst, arith}
 use Rattle.rayon.proofs.ListFacts.{IfOk-then}
-use Rattle.class_laws.specs.Places as places
+use Rattle.subfunction_classes.specs.Places as places
 use Rattle.cert_check.specs.LowerClasses.{pairs_with}
 use Rattle.cert_check.specs.Tables.{HoldsTable, TableOf}
 use Rattle.cert_check.proofs.LowerPairs.{pairs_with_width}

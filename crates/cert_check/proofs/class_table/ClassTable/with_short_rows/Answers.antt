@@ -1,6 +1,6 @@
 use Rattle.std.proofs.Common.{◌≡◌, ℕ, ◌+◌, ◌-◌, ◌*◌, ◌≤◌, ◌%◌, ◌^◌, ◌++◌, length, sym, ap, subst, ◌∙◌, arith}
 use Rattle.std.specs.Option.{IfSome}
-use Rattle.class_laws.specs.Table.{HoldsClasses}
+use Rattle.subfunction_classes.specs.Table.{HoldsClasses}
 use Rattle.cert_check.specs.Rows.{IsShortened}
 use Rattle.cert_check.specs.Tables.{HoldsTable, TableOf, classes_at, table_at}
 use Rattle.pair_chains.proofs.HighSets.{double}

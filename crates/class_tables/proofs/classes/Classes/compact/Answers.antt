@@ -1,9 +1,9 @@
 use Rattle.std.proofs.Common.{◌^◌, bit_or, sym, ap, subst, ◌∙◌, arith}
 use Rattle.std.proofs.lemmas.Nat.{one_shl}
-use Rattle.class_laws.specs.PairTables.{NumbersPairs}
-use Rattle.class_laws.specs.Places as places
-use Rattle.class_laws.specs.Table.{ClassesOf, HoldsClasses, classes_of, free_below}
-use Rattle.class_laws.proofs.Extended.{is_ready, ready_table, holds_more}
+use Rattle.subfunction_classes.specs.PairTables.{NumbersPairs}
+use Rattle.subfunction_classes.specs.Places as places
+use Rattle.subfunction_classes.specs.Table.{ClassesOf, HoldsClasses, classes_of, free_below}
+use Rattle.subfunction_classes.proofs.Extended.{is_ready, ready_table, holds_more}
 use Rattle.class_tables.proofs.classes.Classes.compact.Goals as goal
 
 pub number_pairs_with_masks-requires-clause-table : goal.number_pairs_with_masks-requires-clause-table

@@ -1,5 +1,5 @@
 use Rattle.std.proofs.Common.{◌∙◌, subst}
-use Rattle.class_laws.specs.Table.{ClassesOf, HoldsClasses}
+use Rattle.subfunction_classes.specs.Table.{ClassesOf, HoldsClasses}
 use Rattle.class_tables.proofs.classes.Classes.numbers.Goals as goal
 
 pub returns : goal.returns

@@ -1,6 +1,6 @@
 use Rattle.std.proofs.Common.{ap, ◌∙◌}
-use Rattle.class_laws.specs.Values.{class_count}
-use Rattle.class_laws.proofs.StartClasses.{holds_start}
+use Rattle.subfunction_classes.specs.Values.{class_count}
+use Rattle.subfunction_classes.proofs.StartClasses.{holds_start}
 use Rattle.class_tables.proofs.classes.Classes.of_problem.Goals as goal
 
 pub invariant_of-result : goal.invariant_of-result

@@ -2,8 +2,8 @@ use Rattle.std.proofs.Common.{ap, ◌∙◌, arith}
 use Rattle.std.proofs.lemmas.Bool.{iff_false}
 use Rattle.std.proofs.lemmas.Nat.Bits.{shr_and_one}
 use Rattle.order_model.specs.Orders.{has}
-use Rattle.class_laws.specs.Table.{ClassesOf, set_of}
-use Rattle.class_laws.proofs.LowSets.{low_more, low_same, low_new, low_all}
+use Rattle.subfunction_classes.specs.Table.{ClassesOf, set_of}
+use Rattle.subfunction_classes.proofs.LowSets.{low_more, low_same, low_new, low_all}
 use Rattle.class_tables.proofs.classes.Classes.of_set.Goals as goal
 use Rattle.class_tables.proofs.classes.Classes.of_set.Goals.{then-contains+in_ok-classes-2, else-contains}
 

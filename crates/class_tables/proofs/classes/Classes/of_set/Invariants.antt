@@ -1,5 +1,5 @@
 use Rattle.std.proofs.Common.{◌≡◌, ◌%◌, ◌^◌}
-use Rattle.class_laws.specs.Table.{classes_of}
+use Rattle.subfunction_classes.specs.Table.{classes_of}
 use Rattle.class_tables.proofs.classes.Classes.of_set.Given as goal
 
 abbrev pub invariant-loop-y : goal.invariant-loop-y

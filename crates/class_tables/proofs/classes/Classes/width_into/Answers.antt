@@ -2,9 +2,9 @@ use Rattle.std.proofs.Common.{eqb, length, sym, ap, ◌∙◌, subst, arith}
 use Rattle.std.specs.Int.{bit_at}
 use Rattle.std.specs.List.{filter}
 use Rattle.order_model.proofs.Bits.Masks.{members_small}
-use Rattle.class_laws.specs.Table.{ClassesOf, HoldsClasses, set_of, functions_of}
-use Rattle.class_laws.proofs.Counted.{width_is_dependent_classes}
-use Rattle.class_laws.proofs.Extended.{few_masks}
+use Rattle.subfunction_classes.specs.Table.{ClassesOf, HoldsClasses, set_of, functions_of}
+use Rattle.subfunction_classes.proofs.Counted.{width_is_dependent_classes}
+use Rattle.subfunction_classes.proofs.Extended.{few_masks}
 use Rattle.class_tables.proofs.classes.Classes.width_into.Goals as goal
 
 pub count_with-requires-clause-variable : goal.count_with-requires-clause-variable

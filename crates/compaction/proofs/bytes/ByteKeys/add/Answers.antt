@@ -1,10 +1,10 @@
 use Rattle.std.proofs.Common.{◌*◌, ◌%◌, ◌^◌, ◌++◌, length, bit_or, sym, ap, ◌∙◌, subst, arith}
 use Rattle.std.proofs.lemmas.Nat.{one_shl}
-use Rattle.class_laws.specs.PairTables.{IsPairTable}
-use Rattle.class_laws.specs.Places as places
+use Rattle.subfunction_classes.specs.PairTables.{IsPairTable}
+use Rattle.subfunction_classes.specs.Places as places
 use Rattle.compaction.specs.Strips.{HoldsBytes}
 use Rattle.pair_numbering.specs.Keys.{TellsPairs}
-use Rattle.class_laws.specs.Table.{ClassesOf, classes_of, free_below}
+use Rattle.subfunction_classes.specs.Table.{ClassesOf, classes_of, free_below}
 use Rattle.compaction.proofs.HeldBytes.{bytes_more, bytes_table}
 use Rattle.compaction.proofs.bytes.ByteKeys.add.Goals as goal
 

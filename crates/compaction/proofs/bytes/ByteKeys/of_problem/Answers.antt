@@ -1,6 +1,6 @@
 use Rattle.std.proofs.Common.{sym, ap, subst, ◌∙◌, arith, [], ◌∷◌, ◌++◌}
 use Rattle.compaction.specs.Strips.{HoldsBytes}
-use Rattle.class_laws.specs.Table.{classes_of}
+use Rattle.subfunction_classes.specs.Table.{classes_of}
 use Rattle.compaction.proofs.HeldBytes.{bytes_values}
 use Rattle.compaction.proofs.bytes.ByteKeys.of_problem.Goals as goal
 

@@ -1,6 +1,6 @@
 use Rattle.std.proofs.Common.{◌≡◌, ℕ, ◌<◌, ◌*◌, ◌%◌, ◌^◌, ap, ◌∙◌, arith}
 use Rattle.std.proofs.lemmas.Nat.{one_shl}
-use Rattle.class_laws.proofs.Extended.{free_le}
+use Rattle.subfunction_classes.proofs.Extended.{free_le}
 use Rattle.pair_numbering.proofs.Unrolled.{length_named}
 use Rattle.compaction.proofs.bytes.ByteKeys.write_out.Goals as goal
 

@@ -1,5 +1,5 @@
 use Rattle.std.proofs.Common.{◌≡◌, IfSome, sym, subst}
-use Rattle.class_laws.specs.Table.{classes_of}
+use Rattle.subfunction_classes.specs.Table.{classes_of}
 use Rattle.compaction.specs.Strips.{AreOfFirstSets}
 use Rattle.compaction.proofs.FirstSets.{looked_up, within}
 use Rattle.compaction.proofs.shared_tables.SharedTables.table.Goals as goal

@@ -1,7 +1,7 @@
 use Rattle.std.proofs.Common.{◌-◌, ◌/◌, bit_or, sym, ap, ◌∙◌, subst, arith}
 use Rattle.std.proofs.lemmas.Nat.{one_shl}
 use Rattle.compaction.specs.Strips.{AreDistinct, GrowsStrips, HoldsStrips, HoldsStripTable, IsStripTable, low_variables}
-use Rattle.class_laws.specs.Table.{ClassesOf, classes_of, free_below}
+use Rattle.subfunction_classes.specs.Table.{ClassesOf, classes_of, free_below}
 use Rattle.compaction.proofs.AllDistinct.{distinct_more, table_distinct, table_strips}
 use Rattle.compaction.proofs.HeldStrips.{free_split, table_high, holds_high}
 use Rattle.compaction.proofs.strips.Strips.add_high.Goals as goal

@@ -2,8 +2,8 @@ use Rattle.std.proofs.Common.{◌*◌, ◌/◌, ◌%◌, ◌^◌, bit_or, sym, a
 use Rattle.std.proofs.lemmas.Nat.{one_shl}
 use Rattle.compaction.specs.Strips.{AreDistinct, HoldsStrips, HoldsStripTable, low_variables}
 use Rattle.pair_numbering.specs.Keys.{TellsPairs}
-use Rattle.class_laws.specs.Places as places
-use Rattle.class_laws.specs.Table.{ClassesOf, classes_of, free_below}
+use Rattle.subfunction_classes.specs.Places as places
+use Rattle.subfunction_classes.specs.Table.{ClassesOf, classes_of, free_below}
 use Rattle.compaction.proofs.AllDistinct.{distinct_more, table_distinct, table_strips}
 use Rattle.compaction.proofs.HeldStrips.{table_low, holds_low}
 use Rattle.compaction.proofs.strips.Strips.add_low.Goals as goal

@@ -1,6 +1,6 @@
 use Rattle.std.proofs.Common.{◌≡◌, get_or, length, refl, subst, sym, ap, ◌∙◌, arith}
 use Rattle.compaction.specs.Strips.{AreDistinct, HoldsStripTable, low_variables}
-use Rattle.class_laws.specs.Table.{classes_of}
+use Rattle.subfunction_classes.specs.Table.{classes_of}
 use Rattle.compaction.proofs.AllDistinct.{distinct_strips}
 use Rattle.compaction.proofs.strips.Strips.of_parts.Goals as goal
 

@@ -2,7 +2,7 @@ use Rattle.std.proofs.Common.{length, ap, ◌∙◌, sym, subst, arith, cond, eq
 use Rattle.std.specs.Int.{bit_at}
 use Rattle.std.specs.List.{filter}
 use Rattle.compaction.specs.Strips.{HoldsStripTable, low_variables, masks_in_use}
-use Rattle.class_laws.specs.Table.{ClassesOf}
+use Rattle.subfunction_classes.specs.Table.{ClassesOf}
 use Rattle.compaction.proofs.AllDistinct.{distinct_row, table_distinct, table_strips, table_used}
 use Rattle.compaction.proofs.Used.{all_in_use, few_in_use, strips_row}
 use Rattle.compaction.proofs.strips.Strips.width_row.Goals as goal

@@ -1,6 +1,6 @@
 use Rattle.std.proofs.Common.{◌<◌, ◌≤◌, ◌+◌, ◌*◌, ◌/◌, ◌^◌, ℕ, length, get_or, sym, ap, ◌∙◌, subst}
-use Rattle.class_laws.specs.PairTables.{IsPaired}
-use Rattle.class_laws.proofs.BlockPlaces.{block_pair}
+use Rattle.subfunction_classes.specs.PairTables.{IsPaired}
+use Rattle.subfunction_classes.proofs.BlockPlaces.{block_pair}
 use Rattle.pair_numbering.proofs.Laid.{laid_blocks, laid_few, laid_high, laid_inside, laid_low, laid_named, laid_paired, laid_rank}
 use Rattle.pair_numbering.proofs.entries.EntryPairs.block.Goals as goal
 

@@ -1,8 +1,8 @@
 use Rattle.std.proofs.Common.{◌≡◌, ◌+◌, ◌-◌, ◌*◌, ◌/◌, ◌%◌, ◌^◌, get_or, ap, ◌∙◌, arith, bit_and}
 use Rattle.std.proofs.Math.Nat.{mod-lt}
 use Rattle.std.proofs.lemmas.Nat.{and_mask, one_shl, pow_pos}
-use Rattle.class_laws.specs.Places as places
-use Rattle.class_laws.proofs.Index.{pair_listed}
+use Rattle.subfunction_classes.specs.Places as places
+use Rattle.subfunction_classes.proofs.Index.{pair_listed}
 use Rattle.pair_numbering.proofs.Laid.{laid_paired, laid_rank, pair_block}
 use Rattle.pair_numbering.proofs.entries.EntryPairs.pair.Goals as goal
 

@@ -1,5 +1,5 @@
 use Rattle.std.proofs.Common.{subst}
-use Rattle.class_laws.specs.PairTables.{IsPaired}
+use Rattle.subfunction_classes.specs.PairTables.{IsPaired}
 use Rattle.pair_numbering.proofs.Laid.{laid_paired}
 use Rattle.pair_numbering.proofs.entries.EntryPairs.rank.Goals as goal
 

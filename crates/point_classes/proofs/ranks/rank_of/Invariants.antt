@@ -1,6 +1,0 @@
-use Rattle.std.proofs.Common.{◌≡◌, ◌≤◌}
-use Rattle.class_laws.specs.Table.{free_below}
-use Rattle.point_classes.proofs.ranks.rank_of.Given as goal
-
-abbrev pub invariant-loop-y : goal.invariant-loop-y
-invariant-loop-y l = record { so_far : l.rank ≡ free_below l.set l.y; small : l.rank ≤ l.y }

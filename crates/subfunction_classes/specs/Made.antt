@@ -1,0 +1,27 @@
+-- How far a numbering of pairs by first occurrence has come, with something told of each number, as a mask.
+--     Progress ps out count j      the first j pairs are numbered, and `count` of them are distinct
+--     Joined none ps join out j      `out` has what `join` tells of each class among the first j pairs; `none` stands after its end
+--     Made none ps join out masks j      both
+use Rattle.std.specs.Prelude.{◌≡◌, ℕ, ◌<◌, ◌≤◌, List, map, length, get_or, take}
+use Rattle.std.specs.Set.{distinct_count}
+use Rattle.order_model.specs.Widths.{same_pair}
+use Rattle.subfunction_classes.specs.Numbering.{rank}
+
+-- the first j pairs are numbered
+pub record Progress (ps : List (ℕ × ℕ)) (out : List ℕ) (count j : ℕ) : Type 0 where
+  pub done : out ≡ map (rank same_pair ps) (take j ps)
+  pub many : count ≡ distinct_count same_pair (take j ps)
+
+module _ {M : Type 0} (none : M) (ps : List (ℕ × ℕ)) (join : ℕ × ℕ → M) where
+  -- what is told of the classes of the first j pairs
+  pub record Joined (out : List M) (j : ℕ) : Type 0 where
+    pub many : length out ≡ distinct_count same_pair (take j ps)
+    pub told : (i : ℕ) → i < j → get_or out (rank same_pair ps (get_or ps i (0, 0))) none ≡ join (get_or ps i (0, 0))
+
+  -- the first j numbers are written, and the masks are those of as many pairs
+  pub record Made (out : List ℕ) (masks : List M) (j : ℕ) : Type 0 where
+    pub long : length out ≡ length ps
+    pub few : length masks ≤ j
+    pub within : j ≤ length ps
+    pub progress : Progress ps (take j out) (length masks) j
+    pub joined : Joined masks j

@@ -1,0 +1,17 @@
+//! Laws of class numbers, each the contract of a function that does nothing.
+
+ghost use Rattle.std.specs.Prelude.{◌≡◌, ◌==◌, ℕ, ◌<◌, IsTrue, List, length};
+ghost use Rattle.std.specs.Int.{bit_at};
+ghost use Rattle.std.specs.List.{filter};
+ghost use Rattle.order_model.specs.Functions.{Function};
+ghost use Rattle.order_model.specs.Orders.{has, without};
+ghost use Rattle.order_model.specs.Widths.{width};
+ghost use Rattle.subfunction_classes.specs.Dependence.{AreMasks};
+
+/// One numbering of a set gives the widths into it: that of a member over the set without it is the
+/// number of classes that depend on it.
+pub fn one_numbering_gives_all_widths()
+    ensures { (n : ℕ) (F : List Function) (S masks : List ℕ) (x : ℕ) → x < n → IsTrue (has S x) →
+        AreMasks n F S masks →
+        width n F (without x S) x ≡ length (filter (λ m. bit_at m x == 1) masks) }
+{}
