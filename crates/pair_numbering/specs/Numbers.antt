@@ -1,8 +1,7 @@
 -- Numbers of pairs, with the pair of each number.
 --     ArePairsBelow pairs classes      both classes of each pair are below `classes`
 --     ArePairsNumbered numbers rank numbered pairs      the pairs of a table's entries have numbers by first occurrence, and each number its pair
---     AreLowersApart numbers rank      no two pairs have one lower class
-use Rattle.std.specs.Prelude.{◌≡◌, ◌≢◌, ℕ, ◌/◌, ◌^◌, ◌<◌, List, map, length, get_or}
+use Rattle.std.specs.Prelude.{◌≡◌, ℕ, ◌^◌, ◌<◌, List, map, length, get_or}
 use Rattle.std.specs.Set.{distinct_count}
 use Rattle.order_model.specs.Widths.{same_pair}
 use Rattle.subfunction_classes.specs.Numbering.{ranks}
@@ -18,8 +17,3 @@ pub record ArePairsNumbered (numbers : List ℕ) (rank : ℕ) (numbered : List �
   pub numbered_are : numbered ≡ ranks same_pair (places.pairs numbers (2 ^ rank))
   pub many : length pairs ≡ distinct_count same_pair (places.pairs numbers (2 ^ rank))
   pub told : map (λ c. get_or pairs c (0, 0)) numbered ≡ places.pairs numbers (2 ^ rank)
-
--- no two pairs of a table have one lower class
-abbrev pub AreLowersApart : List ℕ → ℕ → Type 0
-AreLowersApart numbers rank = (i j : ℕ) → i < j → j < length numbers / 2 →
-    (places.pair_at numbers (2 ^ rank) i).0 ≢ (places.pair_at numbers (2 ^ rank) j).0

@@ -1,6 +1,6 @@
 //! Numbers of pairs by first occurrence, by a cell for each pair of classes.
 
-ghost use Rattle.std.specs.Prelude.{◌≡◌, ℕ, ◌+◌, ◌*◌, ◌/◌, ◌^◌, ◌<◌, ◌≤◌, length, slice_index, take, IfOk};
+ghost use Rattle.std.specs.Prelude.{◌≡◌, ℕ, ◌+◌, ◌*◌, ◌/◌, ◌^◌, ◌<◌, ◌≤◌, length, slice_index, take, IfOk, IfSome};
 ghost use Rattle.subfunction_classes.specs.Places as places;
 ghost use Rattle.subfunction_classes.specs.PairTables.{IsPairTable, NumbersPairs};
 ghost use Rattle.pair_numbering.specs.Cells.{AreCelled};
@@ -11,39 +11,43 @@ use crate::numbering::Numbered;
 use subfunction_classes::join_mask;
 use std::alloc::{AllocError, Global};
 
+/// A cell of 16 bits is 0 or one more than a number, so there are no more numbers than these.
+const MOST_NUMBERS: usize = 65_535;
+
 /// Numbers the pairs of a block, with a branch on whether a pair is new. The answer is how many
 /// numbers there are then.
 #[inline(always)]
 fn number_block(
     pairs: &MaskedPairs<'_>,
     block: usize,
-    cells: &mut [u32],
+    cells: &mut [u16],
     out: &mut [u32],
     joined: &mut [u16],
-    count: u32,
+    from: u32,
 ) -> u32
     requires table { IsPairTable pairs.now.entries.now.numbers pairs.now.entries.now.rank
         (length pairs.now.masks.now) }
     requires few { length pairs.now.masks.now ≤ 2 ^ 20 }
     requires block { block <
         length pairs.now.entries.now.numbers / 2 / 2 ^ pairs.now.entries.now.rank }
-    requires before { AreCelled pairs.now block cells.old out.old joined.old count }
+    requires before { AreCelled pairs.now block cells.old out.old joined.old from }
+    requires room { from + 2 ^ pairs.now.entries.now.rank < 2 ^ 16 }
     ensures { AreCelled pairs.now (block + 1) cells.new out.new joined.new result }
 {
     let masks = pairs.masks;
     let classes = masks.len();
     let step = 1usize << pairs.entries.rank();
     let Block { low, high } = pairs.entries.block(block);
-    let mut count = count;
+    let mut count = from;
     for i in 0..step {
         let pair = (low[i], high[i]);
         let cell = pair.0 as usize * classes + pair.1 as usize;
-        let mut next = cells[cell];
+        let mut next = u32::from(cells[cell]);
         if next == 0 {
             joined[count as usize] = join_mask(masks, pairs.x, pair);
             count += 1;
             next = count;
-            cells[cell] = next;
+            cells[cell] = next as u16;
         }
         out[block * step + i] = next - 1;
     }
@@ -55,30 +59,31 @@ fn number_block(
 fn number_block_evenly(
     pairs: &MaskedPairs<'_>,
     block: usize,
-    cells: &mut [u32],
+    cells: &mut [u16],
     out: &mut [u32],
     joined: &mut [u16],
-    count: u32,
+    from: u32,
 ) -> u32
     requires table { IsPairTable pairs.now.entries.now.numbers pairs.now.entries.now.rank
         (length pairs.now.masks.now) }
     requires few { length pairs.now.masks.now ≤ 2 ^ 20 }
     requires block { block <
         length pairs.now.entries.now.numbers / 2 / 2 ^ pairs.now.entries.now.rank }
-    requires before { AreCelled pairs.now block cells.old out.old joined.old count }
+    requires before { AreCelled pairs.now block cells.old out.old joined.old from }
+    requires room { from + 2 ^ pairs.now.entries.now.rank < 2 ^ 16 }
     ensures { AreCelled pairs.now (block + 1) cells.new out.new joined.new result }
 {
     let masks = pairs.masks;
     let classes = masks.len();
     let step = 1usize << pairs.entries.rank();
     let Block { low, high } = pairs.entries.block(block);
-    let mut count = count;
+    let mut count = from;
     for i in 0..step {
         let pair = (low[i], high[i]);
         let cell = pair.0 as usize * classes + pair.1 as usize;
-        let next = cells[cell];
+        let next = u32::from(cells[cell]);
         let number = if next == 0 { count } else { next - 1 };
-        cells[cell] = number + 1;
+        cells[cell] = (number + 1) as u16;
         joined[count as usize] = join_mask(masks, pairs.x, pair);
         out[block * step + i] = number;
         if next == 0 {
@@ -88,14 +93,15 @@ fn number_block_evenly(
     count
 }
 
-/// Writes the numbers of the pairs and their masks. The answer is how many masks there are.
+/// Writes the numbers of the pairs and their masks. The answer is how many masks there are; nothing
+/// if these may be too many for cells of 16 bits.
 #[inline(always)]
 fn number_blocks(
     pairs: &MaskedPairs<'_>,
-    cells: &mut [u32],
+    cells: &mut [u16],
     out: &mut [u32],
     joined: &mut [u16],
-) -> u32
+) -> Option<u32>
     requires table { IsPairTable pairs.now.entries.now.numbers pairs.now.entries.now.rank
         (length pairs.now.masks.now) }
     requires few { length pairs.now.masks.now ≤ 2 ^ 20 }
@@ -103,49 +109,55 @@ fn number_blocks(
     requires empty { (k : ℕ) → k < length cells.old → slice_index cells.old k ≡ 0 }
     requires out { length out.old ≡ length pairs.now.entries.now.numbers / 2 }
     requires joined { length joined.old ≡ length pairs.now.entries.now.numbers / 2 }
-    ensures { NumbersPairs pairs.now.masks.now pairs.now.x
+    ensures { IfSome result (λ count. NumbersPairs pairs.now.masks.now pairs.now.x
         (places.pairs pairs.now.entries.now.numbers (2 ^ pairs.now.entries.now.rank))
-        out.new (take result joined.new) }
+        out.new (take count joined.new)) }
 {
     let rank = pairs.entries.rank();
     let step = 1usize << rank;
     let mut count = 0u32;
     for block in 0..pairs.entries.len() >> rank {
+        if count as usize + step > MOST_NUMBERS {
+            return None;
+        }
         count = if 4 * count as usize > block * step {
             number_block_evenly(pairs, block, cells, out, joined, count)
         } else {
             number_block(pairs, block, cells, out, joined, count)
         };
     }
-    count
+    Some(count)
 }
 
 /// The numbers of the pairs and their masks. A cell is 0, or one more than the number of its pair.
 /// If many pairs were new so far a block is numbered without a branch on whether a pair is new.
+/// Nothing if there may be more numbers than a cell can have.
 pub(crate) fn number_pairs_by_cells(
     alloc: Global,
     entries: &EntryPairs<'_>,
     x: u8,
     masks: &[u16],
-    cells: &mut [u32],
-) -> Result<Numbered, AllocError>
+    cells: &mut [u16],
+) -> Result<Option<Numbered>, AllocError>
     requires table { IsPairTable entries.now.numbers entries.now.rank (length masks.now) }
     requires variable { x < 16 }
     requires few { length masks.now ≤ 2 ^ 20 }
     requires cells { length cells.old ≡ length masks.now * length masks.now }
     requires empty { (k : ℕ) → k < length cells.old → slice_index cells.old k ≡ 0 }
-    ensures { IfOk result
+    ensures { IfOk result (λ o. IfSome o
         (λ v. NumbersPairs masks.now x (places.pairs entries.now.numbers (2 ^ entries.now.rank))
-        v.numbers.items v.masks.items) }
+        v.numbers.items v.masks.items)) }
 {
     let half = entries.len();
     let mut joined = vec![in alloc; 0u16; half]?;
     let mut out = vec![in alloc; 0u32; half]?;
     let pairs = MaskedPairs { entries, masks, x };
-    let count = number_blocks(&pairs, cells, &mut out, &mut joined);
+    let Some(count) = number_blocks(&pairs, cells, &mut out, &mut joined) else {
+        return Ok(None);
+    };
     joined.truncate(count as usize);
-    Ok(Numbered {
+    Ok(Some(Numbered {
         numbers: out,
         masks: joined,
-    })
+    }))
 }

@@ -5,7 +5,6 @@
 
 mod cells;
 mod chains;
-mod distinct;
 mod entries;
 mod keys;
 mod masks;

@@ -7,7 +7,6 @@ ghost use Rattle.pair_numbering.specs.Numbers.{ArePairsNumbered};
 
 use crate::cells::number_pairs_by_cells;
 use crate::chains::number_pairs_by_chains;
-use crate::distinct::{are_distinct, number_distinct_pairs};
 use crate::entries::EntryPairs;
 use crate::masks::join_masks;
 use crate::slots::number_pairs_by_slots;
@@ -40,15 +39,14 @@ fn number_entries(
         (λ v. ArePairsNumbered entries.now.numbers entries.now.rank v.numbers.items
         v.pairs.items) }
 {
-    match number_pairs_by_slots(alloc, entries)? {
+    match number_pairs_by_slots(alloc, entries, classes)? {
         Some(numbered) => Ok(numbered),
         None => number_pairs_by_chains(alloc, entries, classes),
     }
 }
 
-/// The numbers of the pairs, and the masks of the numbers, from those of the classes: in order if
-/// all classes are distinct, by a cell for each pair of classes if these are few, else by slots or
-/// chains.
+/// The numbers of the pairs, and the masks of the numbers, from those of the classes: by a cell for
+/// each pair of classes if these are few, else by slots or chains.
 pub fn number_with_masks(
     alloc: Global,
     entries: &EntryPairs<'_>,
@@ -64,18 +62,12 @@ pub fn number_with_masks(
 {
     let classes = masks.len();
     let half = entries.len();
-    if classes == 2 * half {
-        let distinct = are_distinct(alloc, entries, classes)?;
-        if distinct {
-            let numbered = number_distinct_pairs(alloc, entries, x, masks)?;
-            return Ok(numbered);
-        }
-    }
     let pairs = classes * classes;
     if pairs <= 16 * half {
-        let mut cells = vec![in alloc; 0u32; pairs]?;
-        let numbered = number_pairs_by_cells(alloc, entries, x, masks, &mut cells)?;
-        return Ok(numbered);
+        let mut cells = vec![in alloc; 0u16; pairs]?;
+        if let Some(numbered) = number_pairs_by_cells(alloc, entries, x, masks, &mut cells)? {
+            return Ok(numbered);
+        }
     }
     let numbered = number_entries(alloc, entries, classes)?;
     let joined = join_masks(alloc, &numbered.pairs, x, masks)?;

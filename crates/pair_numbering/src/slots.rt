@@ -1,7 +1,10 @@
-//! Numbers of pairs by first occurrence, by slots that each have the number of a pair.
+//! Numbers of pairs by first occurrence, by slots that each have the number of a pair. A pair whose
+//! lower class no other pair has is new, and takes no slot.
 
 ghost use Rattle.std.specs.Prelude.{◌≡◌, ℕ, ◌+◌, ◌*◌, ◌/◌, ◌^◌, ◌<◌, ◌≤◌, length, slice_index, take, IfOk, IfSome};
-ghost use Rattle.pair_numbering.specs.Slots.{AreSlotted, IsSlot, home_of};
+ghost use Rattle.pair_numbering.specs.Slots.{AreCounted, AreLone, AreSlotted, IsSlot, home_of};
+ghost use Rattle.subfunction_classes.specs.PairTables.{AllBelow, IsPairTable};
+ghost use Rattle.subfunction_classes.specs.Places as places;
 ghost use Rattle.pair_numbering.specs.Numbers.{ArePairsNumbered};
 
 use crate::entries::{Block, EntryPairs};
@@ -27,7 +30,7 @@ fn home(homes: usize, pair: (u32, u32)) -> usize
 /// The first slot from `home` on that has the pair or is empty.
 #[inline(always)]
 fn find_slot(
-    slots: &[u32],
+    slots: &[u16],
     keys: &[(u32, u32)],
     count: u32,
     pair: (u32, u32),
@@ -38,12 +41,52 @@ fn find_slot(
     ensures { IfSome result (λ at. IsSlot slots.now keys.now count pair home at) }
 {
     for at in home..home + TRIES {
-        let number = slots[at].min(count) as usize;
+        let number = u32::from(slots[at]).min(count) as usize;
         if keys[number].0 == pair.0 && keys[number].1 == pair.1 {
             return Some(at);
         }
     }
     None
+}
+
+/// How many pairs of a block have each lower class, added to those before: none, one or more.
+#[inline(always)]
+fn count_block(entries: &EntryPairs<'_>, block: usize, counts: &mut [u8])
+    requires few { length entries.now.numbers ≤ 2 ^ 20 }
+    requires block { block < length entries.now.numbers / 2 / 2 ^ entries.now.rank }
+    requires classes { AllBelow entries.now.numbers (length counts.old) }
+    requires before { AreCounted entries.now block counts.old }
+    ensures long { length counts.new ≡ length counts.old }
+    ensures counted { AreCounted entries.now (block + 1) counts.new }
+{
+    let step = 1usize << entries.rank();
+    let low = entries.block(block).low;
+    for i in 0..step {
+        let lower = low[i] as usize;
+        counts[lower] = if counts[lower] == 0 { 1 } else { 2 };
+    }
+}
+
+/// How many pairs have each lower class: none, one, or more, for which 2 stands. They are counted
+/// if there are more classes than pairs, since many are then those of one pair; else 0 stands for
+/// each.
+fn count_lowers(
+    alloc: Global,
+    entries: &EntryPairs<'_>,
+    classes: usize,
+) -> Result<Vec<u8>, AllocError>
+    requires table { IsPairTable entries.now.numbers entries.now.rank classes }
+    ensures long { IfOk result (λ v. length v.items ≡ classes) }
+    ensures lone { IfOk result (λ v.
+        AreLone (places.pairs entries.now.numbers (2 ^ entries.now.rank)) v.items) }
+{
+    let mut counts = vec![in alloc; 0u8; classes]?;
+    if classes > entries.len() {
+        for block in 0..entries.len() >> entries.rank() {
+            count_block(entries, block, &mut counts);
+        }
+    }
+    Ok(counts)
 }
 
 /// Numbers the pairs of a block. The answer is how many numbers there are then; nothing if a pair
@@ -52,16 +95,18 @@ fn find_slot(
 fn number_block(
     entries: &EntryPairs<'_>,
     block: usize,
-    slots: &mut [u32],
+    counts: &[u8],
+    slots: &mut [u16],
     keys: &mut [(u32, u32)],
     out: &mut [u32],
     count: u32,
 ) -> Option<u32>
-    requires few { length entries.now.numbers ≤ 2 ^ 20 }
+    requires few { length entries.now.numbers ≤ 2 ^ 16 }
     requires block { block < length entries.now.numbers / 2 / 2 ^ entries.now.rank }
-    requires before { AreSlotted entries.now block slots.old keys.old out.old count }
+    requires classes { AllBelow entries.now.numbers (length counts.now) }
+    requires before { AreSlotted entries.now block counts.now slots.old keys.old out.old count }
     ensures { IfSome result
-        (λ more. AreSlotted entries.now (block + 1) slots.new keys.new out.new more) }
+        (λ more. AreSlotted entries.now (block + 1) counts.now slots.new keys.new out.new more) }
 {
     let homes = slots.len() - TRIES;
     let step = 1usize << entries.rank();
@@ -70,9 +115,12 @@ fn number_block(
     for i in 0..step {
         let pair = (low[i], high[i]);
         keys[count as usize] = pair;
-        let at = find_slot(slots, keys, count, pair, home(homes, pair))?;
-        let number = slots[at].min(count);
-        slots[at] = number;
+        let mut number = count;
+        if counts[pair.0 as usize] != 1 {
+            let at = find_slot(slots, keys, count, pair, home(homes, pair))?;
+            number = u32::from(slots[at]).min(count);
+            slots[at] = number as u16;
+        }
         out[block * step + i] = number;
         if number == count {
             count += 1;
@@ -86,11 +134,14 @@ fn number_block(
 #[inline(always)]
 fn number_blocks(
     entries: &EntryPairs<'_>,
-    slots: &mut [u32],
+    counts: &[u8],
+    slots: &mut [u16],
     keys: &mut [(u32, u32)],
     out: &mut [u32],
 ) -> Option<u32>
-    requires few { length entries.now.numbers ≤ 2 ^ 20 }
+    requires few { length entries.now.numbers ≤ 2 ^ 16 }
+    requires classes { AllBelow entries.now.numbers (length counts.now) }
+    requires lone { AreLone (places.pairs entries.now.numbers (2 ^ entries.now.rank)) counts.now }
     requires slots { length slots.old ≡ 4 * (length entries.now.numbers / 2) + 64 }
     requires free { (t : ℕ) → t < length slots.old →
         slice_index slots.old t ≡ length entries.now.numbers / 2 }
@@ -101,27 +152,36 @@ fn number_blocks(
 {
     let mut count = 0u32;
     for block in 0..entries.len() >> entries.rank() {
-        count = number_block(entries, block, slots, keys, out, count)?;
+        count = number_block(entries, block, counts, slots, keys, out, count)?;
     }
     Some(count)
 }
 
+/// The most pairs that are numbered by slots of 16 bits.
+const MOST_PAIRS: usize = 1 << 15;
+
 /// The numbers of the pairs. A pair's slot is the first free one from its home on; an empty slot
-/// has a number too large for a pair. Nothing if too many pairs have homes close together.
+/// has a number too large for a pair. All classes are below `classes`. Nothing if there are more
+/// pairs than slots of 16 bits can name, or too many of them have homes close together.
 pub(crate) fn number_pairs_by_slots(
     alloc: Global,
     entries: &EntryPairs<'_>,
+    classes: usize,
 ) -> Result<Option<NumberedPairs>, AllocError>
-    requires { length entries.now.numbers ≤ 2 ^ 20 }
+    requires { IsPairTable entries.now.numbers entries.now.rank classes }
     ensures { IfOk result
         (λ o. IfSome o (λ v. ArePairsNumbered entries.now.numbers entries.now.rank v.numbers.items
         v.pairs.items)) }
 {
     let half = entries.len();
-    let mut slots = vec![in alloc; half as u32; 4 * half + TRIES]?;
+    if half > MOST_PAIRS {
+        return Ok(None);
+    }
+    let counts = count_lowers(alloc, entries, classes)?;
+    let mut slots = vec![in alloc; half as u16; 4 * half + TRIES]?;
     let mut keys = vec![in alloc; (0u32, 0u32); half]?;
     let mut out = vec![in alloc; 0u32; half]?;
-    let Some(count) = number_blocks(entries, &mut slots, &mut keys, &mut out) else {
+    let Some(count) = number_blocks(entries, &counts, &mut slots, &mut keys, &mut out) else {
         return Ok(None);
     };
     keys.truncate(count as usize);

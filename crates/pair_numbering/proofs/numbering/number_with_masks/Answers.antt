@@ -7,18 +7,18 @@ use Rattle.pair_numbering.proofs.numbering.number_with_masks.Goals as goal
 
 pub join_masks-requires-clause-classes : goal.join_masks-requires-clause-classes
 join_masks-requires-clause-classes c =
-    let n = c.in_ok-numbered-3.ensures in
+    let n = c.in_ok-numbered-2.ensures in
     subst (λ us. ArePairsBelow us (length c.args.masks.now)) (sym c.deref.ensures.value)
     (met_classes c.args.entries.now.numbers c.args.entries.now.rank (length c.args.masks.now) c.requires.table.paired.whole c.requires.table.below
-    c.in_ok-numbered-3.numbered.numbers.items c.in_ok-numbered-3.numbered.pairs.items n.numbered_are n.many n.told)
+    c.in_ok-numbered-2.numbered.numbers.items c.in_ok-numbered-2.numbered.pairs.items n.numbered_are n.many n.told)
 
 pub returns : goal.returns
 returns c =
     let ps = places.pairs c.args.entries.now.numbers (2 ^ c.args.entries.now.rank) in
     let join = joined_mask c.args.masks.now c.args.x in
-    let numbers = c.in_ok-numbered-3.numbered.numbers.items in
-    let pairs = c.in_ok-numbered-3.numbered.pairs.items in
-    let n = c.in_ok-numbered-3.ensures in
+    let numbers = c.in_ok-numbered-2.numbered.numbers.items in
+    let pairs = c.in_ok-numbered-2.numbered.pairs.items in
+    let n = c.in_ok-numbered-2.ensures in
     let joined = c.in_ok-joined.ensures ∙ ap (map join) c.deref.ensures.value in
     record {
       numbers_are = n.numbered_are;

@@ -1,13 +1,13 @@
-use Rattle.std.proofs.Common.{◌≡◌, ℕ, ◌+◌, ◌-◌, ◌*◌, ◌/◌, ◌^◌, ◌<◌, ◌≤◌, List, get_or, set, length, sym, ap, subst, ◌∙◌, arith}
+use Rattle.std.proofs.Common.{◌≡◌, ℕ, ◌+◌, ◌-◌, ◌*◌, ◌/◌, ◌^◌, ◌<◌, ◌≤◌, List, min, get_or, set, length, sym, ap, subst, ◌∙◌, arith}
 use Rattle.std.proofs.lemmas.List.{length-set}
 use Rattle.pair_numbering.specs.Slots.{IsSlot, Slotted, home_of, slot_number}
 use Rattle.subfunction_classes.specs.Places as places
-use Rattle.subfunction_classes.proofs.BlockPlaces.{block_next}
+use Rattle.subfunction_classes.proofs.BlockPlaces.{block_next, listed_classes}
 use Rattle.subfunction_classes.proofs.Index.{length-pairs}
 use Rattle.pair_numbering.proofs.InBlocks.{in_step, listed_inside, place_is, step_is}
-use Rattle.pair_numbering.proofs.SlotSteps.{slotted_new, slotted_old}
+use Rattle.pair_numbering.proofs.SlotSteps.{slotted_lone, slotted_new, slotted_old}
 use Rattle.pair_numbering.proofs.slots.number_block.Goals as goal
-use Rattle.pair_numbering.proofs.slots.number_block.Goals.{then-number-count, else-number-count}
+use Rattle.pair_numbering.proofs.slots.number_block.Goals.{then-counts-pair-ne1+in_ok-at, else-counts-pair-ne1, then-number-count, else-number-count}
 
 pub loop-i-init : goal.loop-i-init
 loop-i-init c =
@@ -19,15 +19,15 @@ homes_are : (cs : List ℕ) (step slots : ℕ) → slots ≡ 4 * length (places.
 homes_are cs step slots room = omega (arith, length-pairs cs step)
 
 -- there is a key for each pair
-count_inside : {ps : List (ℕ × ℕ)} {home : ℕ × ℕ → ℕ} {slots : List ℕ} {keys : List (ℕ × ℕ)} {out : List ℕ} {count j : ℕ} →
-    Slotted ps home slots keys out count j → j < length ps → count < length keys
+count_inside : {ps : List (ℕ × ℕ)} {home : ℕ × ℕ → ℕ} {counts slots : List ℕ} {keys : List (ℕ × ℕ)} {out : List ℕ} {count j : ℕ} →
+    Slotted ps home counts slots keys out count j → j < length ps → count < length keys
 count_inside h l = omega arith
 
 -- a table with a pair has homes, and not too many
 some_homes : (cs : List ℕ) (step slots j : ℕ) → slots ≡ 4 * length (places.pairs cs step) + 64 → j < length (places.pairs cs step) → 0 < slots - 64
 some_homes cs step slots j room l = omega arith
 
-few_homes : (cs : List ℕ) (step slots : ℕ) → slots ≡ 4 * length (places.pairs cs step) + 64 → length cs ≤ 2 ^ 20 → slots - 64 ≤ 2 ^ 21
+few_homes : (cs : List ℕ) (step slots : ℕ) → slots ≡ 4 * length (places.pairs cs step) + 64 → length cs ≤ 2 ^ 16 → slots - 64 ≤ 2 ^ 21
 few_homes cs step slots room l = omega (arith, homes_are cs step slots room)
 
 pub bounds-keys-count : goal.bounds-keys-count
@@ -54,6 +54,15 @@ bounds-out-block c =
     let e = place_is c.rank.ensures.paired c.args.block c.loop-i.i c.rank.ensures.rank in
     subst (λ z. z) (λ i. sym e i < sym c.loop-i.invariant.made.long i) (listed_inside c.rank.ensures.paired w)
 
+pub bounds-counts-pair : goal.bounds-counts-pair
+bounds-counts-pair c =
+    let w = in_step c.rank.ensures.paired c.rank.ensures.rank c.requires.block c.loop-i-test.true in
+    let e = ap (λ (p : ℕ × ℕ). p.0) (c.block.ensures.pairs c.loop-i.i w.early) in
+    let s = listed_classes c.args.entries.now.numbers c.args.entries.now.rank (length c.args.counts.now) _ c.rank.ensures.paired.whole
+    c.requires.classes (listed_inside c.rank.ensures.paired w) in
+    let below = s.0 in
+    omega arith
+
 pub loop-i-preserved : goal.loop-i-preserved
 loop-i-preserved c =
     let cs = c.args.entries.now.numbers in
@@ -61,32 +70,49 @@ loop-i-preserved c =
     let ps = places.pairs cs (2 ^ rank) in
     let place = home_of (4 * (length cs / 2)) in
     let j = c.args.block * 2 ^ rank + c.loop-i.i in
+    let counts = c.args.counts.now in
     let slots = c.loop-i.slots in
     let keys = c.loop-i.keys in
     let out = c.loop-i.out in
     let count = c.loop-i.count in
-    let at = c.in_ok-at.at in
     let w = in_step c.rank.ensures.paired c.rank.ensures.rank c.requires.block c.loop-i-test.true in
     let small = listed_inside c.rank.ensures.paired w in
     let here : ℕ × ℕ = (get_or c.block.result.low.now c.loop-i.i 0, get_or c.block.result.high.now c.loop-i.i 0) in
     let p : here ≡ get_or ps j (0, 0) = c.block.ensures.pairs c.loop-i.i w.early in
+    let counted = ap (λ (q : ℕ × ℕ). get_or counts q.0 0) p in
     let written = place_is c.rank.ensures.paired c.args.block c.loop-i.i c.rank.ensures.rank in
     let next : j + 1 ≡ c.args.block * 2 ^ rank + (c.loop-i.i + 1) = omega arith in
-    let begin = c.home.ensures.place ∙ ap (λ n. home_of n here) (homes_are cs (2 ^ rank) (length c.args.slots.now) c.requires.before.room) ∙ ap place p in
-    let found : IsSlot slots (set keys count (get_or ps j (0, 0))) count (get_or ps j (0, 0)) (place (get_or ps j (0, 0))) at =
-    subst (λ z. z) (λ t. IsSlot slots (set keys count (p t)) count (p t) (begin t) at) c.in_ok-at.ensures in
-    let number : c.min-number.result ≡ slot_number slots count at = c.min-number.ensures in
-    elim c.if-number-count.branch [
-      | then-number-count w ↦
-          rw w.count-is
-          (subst (λ z. z)
-          (λ t. Slotted ps place (set slots at (sym number t)) (set keys count (sym p t)) (set out (sym written t) (sym number t)) (count + 1) (next t))
-          (slotted_new c.loop-i.invariant at small found (sym number ∙ w.if-number-count.true)))
-      | else-number-count w ↦
-          rw w.count-is
-          (subst (λ z. z)
-          (λ t. Slotted ps place (set slots at (sym number t)) (set keys count (sym p t)) (set out (sym written t) (sym number t)) count (next t))
-          (slotted_old c.loop-i.invariant at small found (λ e. w.if-number-count.false (number ∙ e))))
+    elim c.if-counts-pair-ne1.branch [
+      | then-counts-pair-ne1+in_ok-at v ↦
+          let at = v.in_ok-at.at in
+          let begin = v.home.ensures.place ∙ ap (λ n. home_of n here) (homes_are cs (2 ^ rank) (length c.args.slots.now) c.requires.before.room)
+              ∙ ap place p in
+          let found : IsSlot slots (set keys count (get_or ps j (0, 0))) count (get_or ps j (0, 0)) (place (get_or ps j (0, 0))) at =
+          subst (λ z. z) (λ t. IsSlot slots (set keys count (p t)) count (p t) (begin t) at) v.in_ok-at.ensures in
+          let number : v.min-number.result ≡ slot_number slots count at = v.min-number.ensures ∙ ap (λ z. min z count) v.from.ensures in
+          elim c.if-number-count.branch [
+            | then-number-count u ↦
+                rw (v.slots-is, v.number-is, u.count-is)
+                (subst (λ z. z)
+                (λ t. Slotted ps place counts (set slots at (sym number t)) (set keys count (sym p t)) (set out (sym written t) (sym number t))
+                (count + 1) (next t))
+                (slotted_new c.loop-i.invariant at small found (λ z. v.if-counts-pair-ne1.true (counted ∙ z))
+                (sym number ∙ sym v.number-is ∙ u.if-number-count.true)))
+            | else-number-count u ↦
+                rw (v.slots-is, v.number-is, u.count-is)
+                (subst (λ z. z)
+                (λ t. Slotted ps place counts (set slots at (sym number t)) (set keys count (sym p t)) (set out (sym written t) (sym number t))
+                count (next t))
+                (slotted_old c.loop-i.invariant at small found (λ e. u.if-number-count.false (v.number-is ∙ number ∙ e))))
+          ]
+      | else-counts-pair-ne1 v ↦ elim c.if-number-count.branch [
+        | then-number-count u ↦
+            rw (v.slots-is, v.number-is, u.count-is)
+            (subst (λ z. z)
+            (λ t. Slotted ps place counts slots (set keys count (sym p t)) (set out (sym written t) count) (count + 1) (next t))
+            (slotted_lone c.loop-i.invariant small (sym counted ∙ v.if-counts-pair-ne1.false)))
+        | else-number-count u ↦ absurd (u.if-number-count.false v.number-is)
+      ]
     ]
 
 pub returns : goal.returns
