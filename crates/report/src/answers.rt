@@ -1,14 +1,13 @@
 //! The answer of a run: the best order of a cover, beside the sifted and the file order.
 
-ghost use Rattle.std.specs.Prelude.{◌≡◌, ◌≤◌, IfOk, is_some, string_bytes, sum};
-ghost use Rattle.order_model.specs.Orders.{IsOrder};
+ghost use Rattle.std.specs.Prelude.{◌≡◌, ◌≤◌, IfOk, is_some, string_bytes};
 ghost use Rattle.report.specs.Bests.{IsBestFor};
+ghost use Rattle.report.specs.Found.{IsFound};
 ghost use Rattle.run_texts.specs.Answers.{IsAnswer, IsCertified, IsCertifiedBy};
 ghost use Rattle.outcomes.specs.Plans.{PairsAre};
-ghost use Rattle.run_texts.specs.Texts.{file_order_levels, report_parts};
+ghost use Rattle.run_texts.specs.Texts.{report_parts};
 
 use crate::best::Best;
-use crate::diagrams::levels_under;
 use crate::instance::Instance;
 use crate::search::{Found, search};
 use certificate::certificate_text;
@@ -33,25 +32,23 @@ pub(crate) fn pairs_of<'a>(plan: &RunPlan<'a>, n: u8) -> Result<Pairs, PairsFaul
     }
 }
 
-/// The text of the report.
-fn report_of<R: Threads + Sync>(
-    rt: &R,
+/// The text of the report. The levels are those that the search found.
+fn report_of(
     alloc: Global,
     instance: &Instance<'_>,
     found: &Found,
 ) -> Result<String, AllocError>
-    requires size { found.now.file_size ≡ sum (file_order_levels instance.now.cover.now) }
-    requires order { IsOrder instance.now.tables.now.inputs found.now.best.optimum.order }
+    requires { IsFound instance.now found.now }
     ensures { IfOk result
         (λ text. string_bytes text ≡ report_parts instance.now.cover.now instance.now.tables.now
         found.now.best.optimum.order found.now.sifted found.now.sifted_size) }
 {
-    let best = found.best.optimum.order.variables();
-    let levels = levels_under(rt, alloc, instance, &found.best.optimum.order)?;
+    prove!(instance.cover.inputs() <= 16);
+    let optimum = &found.best.optimum;
     let report = Report {
         names: instance.cover.input_names(),
-        order: best,
-        levels: &levels,
+        order: optimum.order.variables(),
+        levels: &optimum.levels,
         sifted: found.sifted.variables(),
         sifted_size: found.sifted_size,
         file_size: found.file_size,
@@ -108,7 +105,7 @@ pub(crate) fn answer_texts<R: Threads + Sync>(
         workers,
     };
     let found = search(rt, alloc, &instance)?;
-    let report = report_of(rt, alloc, &instance, &found)?;
+    let report = report_of(alloc, &instance, &found)?;
     let certificate = certificate_of(alloc, tables.problem(), &pairs, found.best)?;
     Ok(RunTexts {
         report,

@@ -2,16 +2,14 @@
 
 ghost use Rattle.std.specs.Prelude.{◌≡◌, ◌≤◌, ◌<◌, ℕ, IfOk, length, slice_index};
 ghost use Rattle.order_model.specs.Diagrams.{nodes_at};
-ghost use Rattle.order_model.specs.Levels.{level_counts};
 ghost use Rattle.order_model.specs.Orders.{IsOrder};
-ghost use Rattle.order_model.specs.Problems.{functions};
 ghost use Rattle.dd_builder.specs.Building.{HasLevelCounts, IsDiagramOf};
 ghost use Rattle.pla_reader.specs.Covers.{functions_of};
 ghost use Rattle.report.specs.FirstDiagrams.{IsFirstDiagram};
 ghost use Rattle.run_texts.specs.Texts.{file_order_levels};
 
 use crate::instance::Instance;
-use dd_builder::{build, build_tables};
+use dd_builder::build;
 use order_model::laws::{some_diagram_has_the_level_counts, truth_tables_keep_functions};
 use order_model::{Diagram, NoGate, Order};
 use small_search::is_small;
@@ -93,43 +91,6 @@ pub(crate) fn file_order_levels_of<R: Threads + Sync>(
         return Ok(levels);
     }
     let diagram = diagram_under(rt, alloc, instance, &order)?;
-    let levels = levels_of(alloc, &diagram)?;
-    Ok(levels)
-}
-
-/// The reduced diagram of the truth tables under an order, as `diagram_under`.
-fn tables_diagram<R: Threads + Sync>(
-    rt: &R,
-    alloc: Global,
-    instance: &Instance<'_>,
-    order: &Order,
-) -> Result<Diagram, AllocError>
-    requires order { length order.now ≡ instance.now.tables.now.inputs }
-    ensures { IfOk result
-        (IsDiagramOf instance.now.tables.now.inputs (functions instance.now.tables.now)
-        order.now) }
-{
-    if is_small(instance.tables.problem()) {
-        return reduced_diagram(alloc, instance.tables, order);
-    }
-    let workers = instance.busy_workers();
-    build_tables(rt, alloc, instance.tables, order, workers, &NoGate)
-}
-
-/// The level counts under an order, off the diagram built from the truth tables.
-pub(crate) fn levels_under<R: Threads + Sync>(
-    rt: &R,
-    alloc: Global,
-    instance: &Instance<'_>,
-    order: &Order,
-) -> Result<Vec<u32>, AllocError>
-    requires { length order.now ≡ instance.now.tables.now.inputs }
-    ensures counts { IfOk result
-        (λ v. v.items ≡ level_counts instance.now.tables.now.inputs
-        (functions instance.now.tables.now) order.now) }
-    ensures few { IfOk result (λ v. length v.items ≤ 16) }
-{
-    let diagram = tables_diagram(rt, alloc, instance, order)?;
     let levels = levels_of(alloc, &diagram)?;
     Ok(levels)
 }
