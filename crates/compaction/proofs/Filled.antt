@@ -4,7 +4,7 @@
 --     filled_unwanted, filled_own, filled_both      the rows of a walk's branch, from those of its parts
 --     agree_low      the low byte is what a set has below the first high variable
 --     whole_rows      all sets are filled where the low variables alone are decided
---     rows_of_some      the rows of some of what is wanted
+--     rows_of_some, rows_of_none      the rows of some of what is wanted; nothing is
 use Rattle.std.proofs.Common.{◌≡◌, ◌≢◌, ℕ, zero, suc, ◌+◌, ◌*◌, ◌-◌, ◌%◌, ◌^◌, ◌<◌, ◌≤◌, inl, inr, List, [], length, slice_index, get_or, set as write, get_or-set_same, get_or-set_other, cond, eq-eqb, ◌/◌, refl, sym, ap, ◌∙◌, subst, arith, bit_and, bit_or, count_ones}
 use Rattle.std.specs.Int.{bit_at}
 use lib.Count.{ones-le}
@@ -164,4 +164,16 @@ pub rows_of_some : (p : TruthTables) (low : ℕ) (needed some : List ℕ) (rows 
 rows_of_some p low needed some rows long inside all = record {
   each = all.each ∙ long;
   are = λ h lt x few one. all.are h (omega (arith, long, lt)) x few (inside h x one);
+}
+
+-- nothing is wanted
+pub rows_of_none : (p : TruthTables) (low : ℕ) (needed words : List ℕ) (rows : List (List ℕ)) → length rows ≡ length needed → length needed ≤ 256 →
+    ((h : ℕ) → h < length needed → slice_index needed h ≢ 0 → HasByte words h) → ((h : ℕ) → h < 256 → HasByte words h → ⊥) →
+    AreByteRows p low needed rows
+rows_of_none p low needed words rows long few wanted absent = record {
+  each = long;
+  are = λ h lt x small one. elim (cases_eq (slice_index needed h) 0) [
+    | inl none ↦ absurd (let z = sym one ∙ ap (λ w. bit_at w x) none ∙ bit_at-zero x in omega arith)
+    | inr some ↦ absurd (absent h (omega arith) (wanted h lt some))
+  ];
 }

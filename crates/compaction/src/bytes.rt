@@ -124,13 +124,14 @@ impl<'a> ByteKeys<'a> {
     {
         prove!(self.problem.inputs() <= 16);
         let rank = rank_of(self.set, x);
-        let told = label_pairs(alloc, &self.rows, rank, x, &self.masks)?;
+        let outer = self.outer.to_vec(alloc)?;
         let mut bytes = Vec::with_capacity(alloc, self.bytes.len())?;
         bytes.extend_from_slice(&self.bytes)?;
+        let told = label_pairs(alloc, &self.rows, rank, x, &self.masks)?;
         Ok(ByteKeys {
             problem: self.problem,
             set: self.set | (1 << x),
-            outer: self.outer.to_vec(alloc)?,
+            outer,
             bytes,
             rows: told.numbers,
             masks: told.masks,

@@ -17,7 +17,7 @@ label_pairs-requires-clause-table c =
     let i = c.requires.inside in
     let n = c.requires.inner in
     let e = c.rank_of-rank.ensures ∙ ap (λ (z : ClassesOf). free_below z.set c.args.x) c.self.view_is in
-    subst (λ z. z) (λ i. IsPairTable (sym c.deref.ensures.value i) (sym e i) (length (sym c.deref-2.ensures.value i)))
+    subst (λ z. z) (λ i. IsPairTable (sym c.deref-3.ensures.value i) (sym e i) (length (sym c.deref-4.ensures.value i)))
     (bytes_table c.args.self.now c.args.x (omega arith) c.requires.new n c.self.inside.outer.items c.self.inside.bytes.items
     c.self.inside.rows.items c.self.inside.masks.items h)
 
@@ -36,14 +36,14 @@ invariant_of-result c =
     c.self.inside.rows.items c.self.inside.masks.items h told.numbers.items told.masks.items
     (subst (λ us. TellsPairs us c.args.x (places.pairs c.self.inside.rows.items (2 ^ free_below c.args.self.now.set c.args.x))
     told.numbers.items told.masks.items)
-    c.deref-2.ensures.value
-    (subst (λ us. TellsPairs c.deref-2.result.now c.args.x (places.pairs us (2 ^ free_below c.args.self.now.set c.args.x)) told.numbers.items
+    c.deref-4.ensures.value
+    (subst (λ us. TellsPairs c.deref-4.result.now c.args.x (places.pairs us (2 ^ free_below c.args.self.now.set c.args.x)) told.numbers.items
     told.masks.items)
-    c.deref.ensures.value
-    (subst (λ r. TellsPairs c.deref-2.result.now c.args.x (places.pairs c.deref.result.now (2 ^ r)) told.numbers.items told.masks.items) e
+    c.deref-3.ensures.value
+    (subst (λ r. TellsPairs c.deref-4.result.now c.args.x (places.pairs c.deref-3.result.now (2 ^ r)) told.numbers.items told.masks.items) e
     c.in_ok-told.ensures.tells))) in
-    let outer = c.in_ok-to_vec.ensures.items_if_clones_equal (λ x y h. h) ∙ c.deref-4.ensures.value in
-    let bytes = c.in_ok-extend_from_slice.ensures.items ∙ (λ i. c.in_ok-bytes.ensures.items i ++ c.deref-3.ensures.value i) in
+    let outer = c.in_ok-outer.ensures.items_if_clones_equal (λ x y h. h) ∙ c.deref.ensures.value in
+    let bytes = c.in_ok-extend_from_slice.ensures.items ∙ (λ i. c.in_ok-bytes.ensures.items i ++ c.deref-2.ensures.value i) in
     subst (λ us. HoldsBytes (classes_of c.self.inside.problem.now (bit_or c.self.inside.set (1 * 2 ^ c.args.x % 2 ^ 16))) 8 us
     c.extend_from_slice.new.self.items told.numbers.items told.masks.items) (sym outer)
     (subst (λ us. HoldsBytes (classes_of c.self.inside.problem.now (bit_or c.self.inside.set (1 * 2 ^ c.args.x % 2 ^ 16))) 8
