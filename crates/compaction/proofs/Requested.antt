@@ -4,6 +4,7 @@
 --     more_wanted, kept_wanted      they are wanted, and all that was wanted before
 --     all_members      all members of a set are wanted
 --     block_asked      what is wanted of one more set of a block
+--     wanted_members      what is wanted of one set are its members
 use Rattle.std.proofs.Common.{◌≡◌, ℕ, ◌+◌, ◌*◌, ◌-◌, ◌/◌, ◌%◌, ◌^◌, ◌<◌, ◌≤◌, inl, inr, IsTrue, List, replicate, length, slice_index, get_or, set, get_or-set_same, get_or-set_other, sym, ap, ◌∙◌, subst, arith, bit_and, bit_or, pow_mono, pow-add}
 use Rattle.std.specs.Int.{bit_at}
 use Rattle.std.proofs.Math.Nat.{mod-eq_of_lt}
@@ -142,3 +143,11 @@ within_wanted wanted more x e one =
     let w = ap (λ z. bit_at z x) (sym e) ∙ bit_at_and wanted more x in
     let b = bit_at-lt more x in
     omega arith
+
+-- what is wanted of one set are its members
+pub wanted_members : (n low : ℕ) (needed : List ℕ) (t j wanted : ℕ) → j ≡ t / 256 → t % 256 ≡ low → j < length needed →
+    wanted ≡ get_or needed j wanted → IsRequest n low needed → AreMembersOf n t wanted
+wanted_members n low needed t j wanted place byte lt is request x one =
+    let whole : j * 256 + low ≡ t = omega arith in
+    subst (λ s. IsTrue (has (members n s) x)) whole
+    (request.members j lt x (ap (λ w. bit_at w x) (sym (is ∙ get_or_default_zero needed j wanted lt)) ∙ one))

@@ -97,32 +97,6 @@ impl<'a> WidthsAhead<'a> {
     }
 }
 
-/// All members of the sets of later layers that have a block's low byte and are in orders with the
-/// pairs, up to a size, if that is larger than those of the block.
-fn later_sets(
-    alloc: Global,
-    block: &Block,
-    pairs: &Pairs,
-    end: u8,
-) -> Result<Option<WidthRequest>, AllocError>
-    requires { block.now.inputs ≤ 16 }
-    ensures inputs { IfOk result (λ found. IfSome found (λ w. w.inputs ≡ block.now.inputs)) }
-    ensures low { IfOk result (λ found. IfSome found (λ w. w.low ≡ block.now.low)) }
-{
-    let Some(own) = block.masks().first() else {
-        return Ok(None);
-    };
-    let sizes = Sizes {
-        first: own.count_ones() + 1,
-        last: u32::from(end),
-    };
-    if sizes.first > sizes.last {
-        return Ok(None);
-    }
-    let later = WidthRequest::of_sizes(alloc, block.inputs(), block.low(), pairs, sizes)?;
-    Ok(Some(later))
-}
-
 impl<'a> SharedTables<'a> {
     /// The widths of a block's sets, and the rows of other sets with its low byte.
     fn widths_with(
@@ -189,6 +163,36 @@ impl<'a> WidthSource<'a> {
         }
     }
 
+    /// The tables that walks share.
+    fn shared(&self) -> &'a SharedTables<'a>
+        ensures { result.now ≡ self.now }
+    {
+        self.shared
+    }
+
+    /// All members of the sets of later layers that have a block's low byte and are in orders with
+    /// the pairs, up to the size of the largest sets of which rows are to be found, if that is
+    /// larger than those of the block.
+    fn later_sets(&self, alloc: Global, block: &Block) -> Result<Option<WidthRequest>, AllocError>
+        requires { block.now.inputs ≤ 16 }
+        ensures inputs { IfOk result (λ found. IfSome found (λ w. w.inputs ≡ block.now.inputs)) }
+        ensures low { IfOk result (λ found. IfSome found (λ w. w.low ≡ block.now.low)) }
+    {
+        let Some(own) = block.masks().first() else {
+            return Ok(None);
+        };
+        let sizes = Sizes {
+            first: own.count_ones() + 1,
+            last: u32::from(self.ahead.end()),
+        };
+        if sizes.first > sizes.last {
+            return Ok(None);
+        }
+        let later =
+            WidthRequest::of_sizes(alloc, block.inputs(), block.low(), self.pairs, sizes)?;
+        Ok(Some(later))
+    }
+
     /// The rows of a block's sets, if those of its low byte have all that is wanted.
     fn rows_of_byte(
         &self,
@@ -253,19 +257,17 @@ impl<'a> WidthSource<'a> {
         ensures tallies { OnErr result (tallies.new ≡ tallies.old) }
         ensures err { OnErr result (found.new ≡ found.old) }
     {
-        prove!(self.shared.problem().inputs() <= 16);
+        let shared = self.shared();
+        prove!(shared.problem().inputs() <= 16);
         prove!(block.len() <= 256);
         if let Some(rows) = self.rows_ahead(alloc, block, needed)? {
             tallies.cells.add_wanted(needed);
             return Ok(BlockWidths::new(rows, 0));
         }
-        let ahead = self.ahead;
-        let Some(later) = later_sets(alloc, block, self.pairs, ahead.end)? else {
-            return self
-                .shared
-                .block_widths(alloc, block, needed, &mut tallies.cells);
+        let Some(later) = self.later_sets(alloc, block)? else {
+            return shared.block_widths(alloc, block, needed, &mut tallies.cells);
         };
-        let (own, byte) = self.shared.widths_with(alloc, later, block, needed)?;
+        let (own, byte) = shared.widths_with(alloc, later, block, needed)?;
         found.keep(byte, &mut tallies.ahead)?;
         tallies.cells.add_wanted(needed);
         Ok(own)

@@ -123,8 +123,7 @@ pub fn block_widths(
     ensures err { OnErr result (tally.new ≡ tally.old) }
 {
     let shared = SharedTables::bare(alloc, problem);
-    let widths = shared.block_widths(alloc, block, needed, tally)?;
-    Ok(widths)
+    shared.block_widths(alloc, block, needed, tally)
 }
 
 impl<'a> SharedTables<'a> {
@@ -195,6 +194,5 @@ pub fn all_widths(
     ensures err { OnErr result (tally.new ≡ tally.old) }
 {
     let shared = SharedTables::bare(alloc, problem);
-    let widths = shared.all_widths(alloc, block, tally)?;
-    Ok(widths)
+    shared.all_widths(alloc, block, tally)
 }

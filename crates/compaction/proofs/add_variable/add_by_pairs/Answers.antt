@@ -71,3 +71,6 @@ returns c =
           let m = length-pairs paired len in
           omega arith;
     })
+
+pub label_strip_pairs-requires-clause-below : goal.label_strip_pairs-requires-clause-below
+label_strip_pairs-requires-clause-below c = grind arith

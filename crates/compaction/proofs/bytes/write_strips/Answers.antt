@@ -15,6 +15,9 @@ overflow_mul-start c = grind (arith, named_inside)
 pub overflow_add-out : goal.overflow_add-out
 overflow_add-out c = grind (arith, named_inside)
 
+pub offset_bounds-numbers-start : goal.offset_bounds-numbers-start
+offset_bounds-numbers-start c = grind arith
+
 pub bounds-numbers-start : goal.bounds-numbers-start
 bounds-numbers-start c = grind (arith, named_inside)
 
@@ -23,6 +26,9 @@ overflow_mul-out c = grind (arith, below_product)
 
 pub overflow_add-out-in-loop-a : goal.overflow_add-out-in-loop-a
 overflow_add-out-in-loop-a c = grind (arith, below_product)
+
+pub offset_bounds-out-i : goal.offset_bounds-out-i
+offset_bounds-out-i c = grind arith
 
 pub bounds-out-i : goal.bounds-out-i
 bounds-out-i c =

@@ -39,3 +39,6 @@ returns-clause-values c =
       few = (let l = ap length (numbers_are c) ∙ length_packed first kept (length kept * 64) in let f = c.in_ok-outer.ensures.few in
           let m = k.few in omega arith);
     }
+
+pub returns-clause-below : goal.returns-clause-below
+returns-clause-below c = grind arith

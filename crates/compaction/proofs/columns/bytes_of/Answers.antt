@@ -18,3 +18,6 @@ loop-word-preserved c = record {
 
 pub returns-clause-numbers : goal.returns-clause-numbers
 returns-clause-numbers c = grind arith
+
+pub push_bytes-requires : goal.push_bytes-requires
+push_bytes-requires c = grind arith

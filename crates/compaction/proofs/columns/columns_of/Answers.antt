@@ -1,4 +1,5 @@
 use Rattle.std.proofs.Common.{◌≡◌, ℕ, suc, ◌+◌, ◌*◌, ◌-◌, ◌^◌, ◌<◌, ◌≤◌, [], false, length, get_or, sym, ap, ◌∙◌, arith, mul_assoc, zero-mul, pow_mono, replicate}
+use Rattle.std.proofs.lemmas.Grind.{common_steps}
 use Rattle.std.proofs.lemmas.List.{get_or-replicate, length-replicate}
 use Rattle.std.proofs.Math.Nat.{suc-mul, mul-le-mul_left}
 use Rattle.order_model.specs.Problems.{outputs_of}
@@ -96,3 +97,6 @@ returns-clause-few c =
     let o = c.outputs-output-end.ensures.few in
     let r = c.loop-output.invariant.long in
     omega arith
+
+pub push_runs-requires-clause-chained : goal.push_runs-requires-clause-chained
+push_runs-requires-clause-chained c = grind (arith, common_steps)

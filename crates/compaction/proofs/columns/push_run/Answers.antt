@@ -1,8 +1,18 @@
 use Rattle.std.proofs.Common.{◌≡◌, ◌++◌, ◌∷◌, [], ℕ, ◌+◌, ◌*◌, ◌<◌, length, get_or, sym, ap, ◌∙◌, arith}
+use Rattle.std.proofs.lemmas.Grind.{common_steps}
 use Rattle.std.proofs.lemmas.List.{length_push}
 use Rattle.compaction.proofs.KeptRuns.{run_again, run_first, renamed}
 use Rattle.compaction.proofs.columns.push_run.Goals as goal
 use Rattle.compaction.proofs.columns.push_run.Goals.{in-Some, in-None+in_ok-extend_from_slice-in-None+in_ok-push-in-None}
+
+pub find_run-found-requires-clause-earlier : goal.find_run-found-requires-clause-earlier
+find_run-found-requires-clause-earlier c = grind arith
+
+pub overflow_add-number : goal.overflow_add-number
+overflow_add-number c = grind (arith, common_steps)
+
+pub index_mut-requires : goal.index_mut-requires
+index_mut-requires c = grind (arith, common_steps)
 
 pub returns-clause-runs : goal.returns-clause-runs
 returns-clause-runs c =

@@ -1,4 +1,5 @@
 use Rattle.std.proofs.Common.{◌≡◌, ◌+◌, ◌-◌, ◌*◌, false, drop, length, get_or, ap, ◌∙◌, arith}
+use Rattle.std.proofs.lemmas.Grind.{common_steps}
 use Rattle.std.proofs.lemmas.List.{length-drop, length-take-le}
 use Rattle.compaction.proofs.KeptRuns.{run_bits}
 use Rattle.compaction.proofs.columns.push_runs.Goals as goal
@@ -23,3 +24,9 @@ loop-run-preserved c =
           (let e : length c.args.columns.now.outer.items * 256 + (run * 256 + b) ≡ length c.loop-run.columns.outer.items * 256 + b =
           omega arith in e));
     }
+
+pub returns-clause-runs : goal.returns-clause-runs
+returns-clause-runs c = grind (arith, common_steps)
+
+pub loop-run-init : goal.loop-run-init
+loop-run-init c = grind (arith, common_steps)

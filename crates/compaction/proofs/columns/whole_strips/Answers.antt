@@ -1,4 +1,5 @@
 use Rattle.std.proofs.Common.{◌≡◌, ◌-◌, ◌*◌, ◌%◌, ◌^◌, length, ap, ◌∙◌, arith}
+use Rattle.std.proofs.lemmas.Grind.{common_steps}
 use Rattle.std.proofs.Math.Pow.{shl_exact}
 use Rattle.std.proofs.lemmas.Nat.{pow_pos}
 use Rattle.order_model.specs.Problems.{value_at, outputs_of}
@@ -24,6 +25,9 @@ whole : (c : goal.After-loop-run) → length c.in_ok-numbers.numbers.items ≡ l
 whole c = ap length c.in_ok-numbers.ensures.numbers
     ∙ length_numbers c.args.problem.now (number_of (value_at c.args.problem.now 0 0)) c.args.low (length c.loop-run.outer.items)
     c.requires.inside (runs_are c)
+
+pub loop-run-preserved : goal.loop-run-preserved
+loop-run-preserved c = grind (arith, common_steps)
 
 pub returns : goal.returns
 returns c = grind (arith, whole_are, whole, whole_values, pow_pos, few_numbers)

@@ -1,4 +1,5 @@
 use Rattle.std.proofs.Common.{ap, ◌∙◌, arith}
+use Rattle.std.proofs.lemmas.Grind.{common_steps}
 use Rattle.std.proofs.lemmas.Bool.{iff_false}
 use Rattle.std.proofs.lemmas.Nat.Bits.{shr_and_one}
 use Rattle.std.proofs.Math.Nat.{mod-eq_of_lt}
@@ -17,3 +18,6 @@ loop-y-preserved c = grind (arith, shr_and_one, then-contains+in_ok-strips, low_
 
 pub returns : goal.returns
 returns c = grind (arith, mod-eq_of_lt)
+
+pub add_low-requires-clause-low : goal.add_low-requires-clause-low
+add_low-requires-clause-low c = grind (arith, common_steps)

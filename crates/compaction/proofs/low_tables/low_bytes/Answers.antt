@@ -1,4 +1,5 @@
-use Rattle.std.proofs.Common.{sym, ap, ◌∙◌}
+use Rattle.std.proofs.Common.{sym, ap, ◌∙◌, arith}
+use Rattle.std.proofs.lemmas.Grind.{common_steps}
 use Rattle.std.proofs.lemmas.Bool.{iff_false}
 use Rattle.std.proofs.lemmas.Nat.Bits.{shr_and_one}
 use Rattle.order_model.specs.Orders.{has}
@@ -21,3 +22,9 @@ loop-y-preserved c =
           w.keys-is ∙ c.loop-y.invariant
           ∙ ap (classes_of c.args.shared.now) (low_same c.args.low c.loop-y.y (λ e. iff_false c.contains.ensures w.if-contains.false (sym s ∙ e)))
     ]
+
+pub returns : goal.returns
+returns c = grind arith
+
+pub add-requires-clause-inside : goal.add-requires-clause-inside
+add-requires-clause-inside c = grind (arith, common_steps)

@@ -1,4 +1,5 @@
 use Rattle.std.proofs.Common.{◌≤◌, ◌<◌, ◌+◌, ◌*◌, ◌^◌, ◌≡◌, ◌≢◌, ℕ, length, bit_or, bit_and, slice_index, refl, sym, ap, ◌∙◌, subst, arith}
+use Rattle.std.proofs.lemmas.Grind.{common_steps}
 use Rattle.compaction.specs.Strips.{low_variables}
 use Rattle.subfunction_classes.specs.Table.{ClassesOf, free_below}
 use Rattle.compaction.specs.HighBytes.{HasByte}
@@ -7,6 +8,12 @@ use Rattle.compaction.proofs.Filled.{filled_own, filled_unwanted, filled_both, f
 use Rattle.compaction.proofs.Decided.{all_decided, lacks_new, within_same, within_more, decided_more, undecided_high, free_with, few_free}
 use Rattle.compaction.proofs.HighBytes.{branch_without, branch_with}
 use Rattle.compaction.proofs.walking.+walk.Goals as goal
+
+pub returns-then-is_empty-clause-rows : goal.returns-then-is_empty-clause-rows
+returns-then-is_empty-clause-rows t c = grind arith
+
+pub fill_row-requires-clause-rows : goal.fill_row-requires-clause-rows
+fill_row-requires-clause-rows t c = grind (arith, common_steps)
 
 pub returns-in_default-clause-rows : goal.returns-in_default-clause-rows
 returns-in_default-clause-rows t c =
@@ -58,6 +65,9 @@ returns-then-is_empty-2-clause-compactions t c =
     let f = free_with n d y (omega arith) u.1 in
     let before = subst (λ k. c.in_ok-before.before + 1 ≤ 2 ^ free_below k n) c.with_member-decided.ensures c.in_ok-before.ensures.compactions in
     subst (λ k. c.in_ok-before.before + 1 ≤ 2 ^ k) (sym f) (fewer_compactions (free_below (bit_or d (2 ^ y)) n) c.in_ok-before.before before)
+
+pub add_high-requires-clause-high : goal.add_high-requires-clause-high
+add_high-requires-clause-high t c = grind arith
 
 pub add_high-requires-clause-new : goal.add_high-requires-clause-new
 add_high-requires-clause-new t c =

@@ -1,7 +1,21 @@
-use Rattle.std.proofs.Common.{◌/◌, ◌%◌, refl, sym, ap, ◌∙◌, arith}
+use Rattle.std.proofs.Common.{◌/◌, ◌%◌, refl, sym, ap, ◌∙◌, subst, arith}
+use Rattle.compaction.specs.Requests.{AreMembersOf}
 use Rattle.compaction.proofs.Filled.{row_filled}
+use Rattle.compaction.proofs.Requested.{wanted_members}
 use Rattle.compaction.proofs.walking.fill_row.Goals as goal
 use Rattle.compaction.proofs.walking.fill_row.Goals.{else-set-from-via-then-set-from+else-high-rows, else-set-from-via-else-set-from}
+
+pub width_row-requires : goal.width_row-requires
+width_row-requires c =
+    let w = c.args.request.now in
+    let set = c.args.table.now.set in
+    let high = c.if-high-rows.true in
+    let long = c.requires.rows in
+    subst (λ n. AreMembersOf n set c.index.result.now) c.requires.inputs
+    (wanted_members w.inputs w.low w.needed.items set c.from-high.result c.index.result.now
+    (c.from-high.ensures ∙ ap (λ s. s / 256) c.set-set.ensures)
+    (ap (λ s. s % 256) (sym c.set-set.ensures) ∙ c.if-set-from.true ∙ c.from.ensures)
+    (omega (arith, high, long)) c.index.ensures w.request)
 
 pub returns-in_ok-rows : goal.returns-in_ok-rows
 returns-in_ok-rows c =

@@ -30,3 +30,6 @@ returns-clause-rows c =
 
 pub returns-clause-compactions : goal.returns-clause-compactions
 returns-clause-compactions c = grind (arith, free_ones)
+
+pub walk-requires-clause-wanted : goal.walk-requires-clause-wanted
+walk-requires-clause-wanted c = grind arith

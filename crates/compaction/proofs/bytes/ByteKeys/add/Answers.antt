@@ -1,4 +1,5 @@
 use Rattle.std.proofs.Common.{◌*◌, ◌%◌, ◌^◌, ◌++◌, length, bit_or, sym, ap, ◌∙◌, subst, arith}
+use Rattle.std.proofs.lemmas.Grind.{common_steps}
 use Rattle.std.proofs.lemmas.Nat.{one_shl}
 use Rattle.subfunction_classes.specs.PairTables.{IsPairTable}
 use Rattle.subfunction_classes.specs.Places as places
@@ -50,3 +51,6 @@ invariant_of-result c =
     c.self.inside.outer.items us told.numbers.items told.masks.items) (sym bytes)
     (subst (λ (z : ClassesOf). HoldsBytes z 8 c.self.inside.outer.items c.self.inside.bytes.items told.numbers.items told.masks.items)
     (λ z. classes_of (sym c.self.view_is z).problem (bit_or (sym c.self.view_is z).set (sym s z))) k))
+
+pub returns : goal.returns
+returns c = grind (arith, common_steps)

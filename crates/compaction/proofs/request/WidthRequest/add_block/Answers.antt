@@ -1,4 +1,4 @@
-use Rattle.std.proofs.Common.{ℕ, ◌^◌, ◌%◌, ◌<◌, ◌≡◌, List, length, get_or, subst, sym, ◌∙◌}
+use Rattle.std.proofs.Common.{ℕ, ◌^◌, ◌%◌, ◌<◌, ◌≡◌, List, length, get_or, subst, sym, ◌∙◌, arith}
 use Rattle.subset_layers.specs.Layers.{block_masks}
 use Rattle.compaction.proofs.Joined.{block_of_byte}
 use Rattle.compaction.proofs.request.WidthRequest.add_block.Goals as goal
@@ -16,3 +16,9 @@ add-requires-clause-byte c =
     let e = c.masks-mask-items.ensures in
     let b = block_of_byte c.args.block.now c.loop-i.i (subst (λ (ms : List ℕ). c.loop-i.i < length ms) e c.loop-i-test.true) in
     subst (λ (ms : List ℕ). get_or ms c.loop-i.i 0 % 256 ≡ c.loop-i.self.low) (sym e) (b.1 ∙ c.requires.low ∙ sym c.loop-i.invariant.low)
+
+pub loop-i-preserved : goal.loop-i-preserved
+loop-i-preserved c = grind arith
+
+pub returns-clause-added : goal.returns-clause-added
+returns-clause-added c = grind arith

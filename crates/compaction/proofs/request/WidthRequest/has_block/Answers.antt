@@ -1,9 +1,22 @@
 use Rattle.std.proofs.Common.{◌≡◌, ◌/◌, ℕ, List, inl, inr, slice_index, bit_and, sym, ap, ◌∙◌, arith}
+use Rattle.std.proofs.lemmas.Grind.{common_steps}
 use Rattle.std.proofs.lemmas.Bool.{cases_eq}
 use Rattle.subset_layers.specs.Layers.{block_masks}
 use Rattle.compaction.specs.Requests.{asked}
 use Rattle.compaction.proofs.Requested.{within_wanted}
 use Rattle.compaction.proofs.request.WidthRequest.has_block.Goals as goal
+
+pub returns-in_default : goal.returns-in_default
+returns-in_default c = grind (arith, common_steps)
+
+pub bounds-needed-i : goal.bounds-needed-i
+bounds-needed-i c = grind (arith, common_steps)
+
+pub bounds-needed-i-in-loop-i : goal.bounds-needed-i-in-loop-i
+bounds-needed-i-in-loop-i c = grind (arith, common_steps)
+
+pub returns-then-needed-i : goal.returns-then-needed-i
+returns-then-needed-i c = grind (arith, common_steps)
 
 pub loop-i-preserved : goal.loop-i-preserved
 loop-i-preserved c = λ k lt x one. elim (cases_eq k c.loop-i.i) [
@@ -22,3 +35,6 @@ loop-i-preserved c = λ k lt x one. elim (cases_eq k c.loop-i.i) [
       one
   | inr ne ↦ c.loop-i.invariant k (omega arith) x one
 ]
+
+pub returns : goal.returns
+returns c = grind arith

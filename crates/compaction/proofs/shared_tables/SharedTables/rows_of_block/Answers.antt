@@ -1,4 +1,5 @@
 use Rattle.std.proofs.Common.{◌≡◌, ◌+◌, ◌/◌, ◌%◌, ◌^◌, ◌<◌, ℕ, List, [], cond, eqb, length, get_or, slice_index, sym, ap, ◌∙◌, subst, arith}
+use Rattle.std.proofs.lemmas.Grind.{common_steps}
 use Rattle.std.specs.Int.{bit_at}
 use Rattle.std.proofs.lemmas.List.{get_or_default}
 use Rattle.order_model.specs.Problems.{TruthTables}
@@ -72,3 +73,6 @@ loop-i-preserved c =
     c.members_only.result c.requires.rows c.requires.asked c.from.ensures c.index-row.ensures c.members_only.ensures in
     subst (RowsTo p (block_masks c.args.block.now) c.args.needed.now (i + 1)) (sym c.in_ok-push.ensures.items)
     (rows_pushed p (block_masks c.args.block.now) c.args.needed.now i c.loop-i.rows.items c.members_only.result c.loop-i.invariant row)
+
+pub bounds-needed-i : goal.bounds-needed-i
+bounds-needed-i c = grind (arith, common_steps)

@@ -1,8 +1,18 @@
-use Rattle.std.proofs.Common.{◌≡◌, ℕ, List, length, slice_index, sym, ap, ◌∙◌, subst}
+use Rattle.std.proofs.Common.{◌≡◌, ℕ, List, length, slice_index, sym, ap, ◌∙◌, subst, arith}
+use Rattle.std.proofs.lemmas.Grind.{common_steps}
 use Rattle.std.specs.Int.{bit_at}
 use Rattle.compaction.specs.Rows.{AreByteRows, HoldsRows, RowsOf}
 use Rattle.compaction.proofs.Filled.{rows_of_some}
 use Rattle.compaction.proofs.shared_tables.SharedTables.widths_with.Goals as goal
+
+pub rows_of_block-requires-clause-rows : goal.rows_of_block-requires-clause-rows
+rows_of_block-requires-clause-rows c = grind (arith, common_steps)
+
+pub rows_of_block-requires-clause-asked : goal.rows_of_block-requires-clause-asked
+rows_of_block-requires-clause-asked c = grind arith
+
+pub returns-clause-rows : goal.returns-clause-rows
+returns-clause-rows c = grind (arith, common_steps)
 
 pub returns-clause-others : goal.returns-clause-others
 returns-clause-others c =

@@ -1,4 +1,5 @@
 use Rattle.std.proofs.Common.{◌-◌, ◌/◌, bit_or, sym, ap, ◌∙◌, subst, arith}
+use Rattle.std.proofs.lemmas.Grind.{common_steps}
 use Rattle.std.proofs.lemmas.Nat.{one_shl}
 use Rattle.compaction.specs.Strips.{AreDistinct, GrowsStrips, HoldsStrips, HoldsStripTable, IsStripTable, low_variables}
 use Rattle.subfunction_classes.specs.Table.{ClassesOf, classes_of, free_below}
@@ -93,3 +94,6 @@ returns-in_ok-grown-in-None c =
     let same = c.inputs.ensures.value ∙ ap (λ (z : ClassesOf). z.problem.inputs) c.self.view_is in
     let s = one_shl c.args.x 16 (omega arith) in
     c.of_parts.ensures ∙ (λ i. classes_of (c.self.view_is i).problem (bit_or (c.self.view_is i).set (s i)))
+
+pub add_above-requires : goal.add_above-requires
+add_above-requires c = grind (arith, common_steps)

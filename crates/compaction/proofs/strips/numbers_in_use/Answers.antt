@@ -1,0 +1,12 @@
+use Rattle.std.proofs.Common.{arith}
+use Rattle.std.proofs.lemmas.Grind.{common_steps}
+use Rattle.compaction.proofs.strips.numbers_in_use.Goals as goal
+
+pub loop-number-init : goal.loop-number-init
+loop-number-init c = grind (arith, common_steps)
+
+pub loop-number-preserved : goal.loop-number-preserved
+loop-number-preserved c = grind (arith, common_steps)
+
+pub returns-clause-told : goal.returns-clause-told
+returns-clause-told c = grind (arith, common_steps)
