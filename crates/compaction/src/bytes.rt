@@ -91,10 +91,8 @@ impl<'a> ByteKeys<'a> {
     {
         prove!(problem.inputs() <= 16);
         prove!(problem.outputs() <= 16);
+        let masks = vec![in alloc; 0; 2]?;
         let ByteStrips { outer, bytes, rows } = byte_strips(alloc, problem)?;
-        let mut masks = Vec::with_capacity(alloc, 2)?;
-        masks.push(0)?;
-        masks.push(0)?;
         Ok(ByteKeys {
             problem,
             set: 0,

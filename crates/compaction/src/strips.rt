@@ -190,10 +190,8 @@ impl<'a> Strips<'a> {
     {
         prove!(problem.inputs() <= 16);
         prove!(problem.outputs() <= 16);
+        let masks = vec![in alloc; 0; 2]?;
         let ValueStrips { outer, numbers } = whole_strips(alloc, problem, low_variables(problem))?;
-        let mut masks = Vec::with_capacity(alloc, 2)?;
-        masks.push(0)?;
-        masks.push(0)?;
         let parts = StripParts {
             outer,
             numbers,

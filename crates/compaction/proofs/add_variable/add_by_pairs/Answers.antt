@@ -1,4 +1,5 @@
 use Rattle.std.proofs.Common.{ℕ, List, refl, ◌*◌, ◌^◌, length, sym, ap, ◌∙◌, subst, arith}
+use Rattle.std.proofs.lemmas.Grind.{common_steps}
 use Rattle.std.proofs.Math.Nat.{add-mul-div_right, div-eq_of_lt, mul-le-mul_left}
 use Rattle.std.proofs.lemmas.Nat.{pow_pos}
 use Rattle.pair_numbering.specs.Strips.{AreNamed, names_of, unrolled}
@@ -74,3 +75,6 @@ returns c =
 
 pub label_strip_pairs-requires-clause-below : goal.label_strip_pairs-requires-clause-below
 label_strip_pairs-requires-clause-below c = grind arith
+
+pub label_strip_pairs-requires-clause-bits : goal.label_strip_pairs-requires-clause-bits
+label_strip_pairs-requires-clause-bits c = grind (arith, common_steps)

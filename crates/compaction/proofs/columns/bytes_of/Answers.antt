@@ -21,3 +21,6 @@ returns-clause-numbers c = grind arith
 
 pub push_bytes-requires : goal.push_bytes-requires
 push_bytes-requires c = grind arith
+
+pub returns-clause-small : goal.returns-clause-small
+returns-clause-small c = grind arith

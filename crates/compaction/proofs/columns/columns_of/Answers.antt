@@ -100,3 +100,6 @@ returns-clause-few c =
 
 pub push_runs-requires-clause-chained : goal.push_runs-requires-clause-chained
 push_runs-requires-clause-chained c = grind (arith, common_steps)
+
+pub words-requires : goal.words-requires
+words-requires c = grind (arith, common_steps)

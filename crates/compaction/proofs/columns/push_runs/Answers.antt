@@ -30,3 +30,6 @@ returns-clause-runs c = grind (arith, common_steps)
 
 pub loop-run-init : goal.loop-run-init
 loop-run-init c = grind (arith, common_steps)
+
+pub push_run-requires-clause-chained : goal.push_run-requires-clause-chained
+push_run-requires-clause-chained c = grind (arith, common_steps)

@@ -28,3 +28,9 @@ returns c = grind arith
 
 pub add-requires-clause-inside : goal.add-requires-clause-inside
 add-requires-clause-inside c = grind (arith, common_steps)
+
+pub write_out-requires-2 : goal.write_out-requires-2
+write_out-requires-2 c = grind (arith, common_steps)
+
+pub add-requires-clause-inner : goal.add-requires-clause-inner
+add-requires-clause-inner c = grind (arith, common_steps)

@@ -23,6 +23,9 @@ returns-in_default-clause-rows t c =
     (λ h lt. all_decided w.inputs (h * 256 + w.low) c.args.branch.now.decided (w.request.sets h lt) (c.in_default.ensures.all refl))
     c.in_ok-fill_row.ensures
 
+pub with_member-decided-requires : goal.with_member-decided-requires
+with_member-decided-requires t c = grind (arith, common_steps)
+
 pub walk-requires : goal.walk-requires
 walk-requires t c =
     let w = c.args.request.now in
@@ -37,6 +40,9 @@ walk-requires t c =
     c.without.result.words w.few w.request.byte w.request.few u.0 (omega (arith, high, i)) c.with_member-decided.ensures u.1 c.requires.decided.set
     c.requires.wanted c.without.ensures in
     grind (arith, free_with, decided_more, bit_and, within_same)
+
+pub with-requires : goal.with-requires
+with-requires t c = grind (arith, common_steps)
 
 pub returns-then-is_empty-2-clause-rows : goal.returns-then-is_empty-2-clause-rows
 returns-then-is_empty-2-clause-rows t c =

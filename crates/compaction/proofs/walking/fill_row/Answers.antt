@@ -1,4 +1,5 @@
 use Rattle.std.proofs.Common.{◌/◌, ◌%◌, refl, sym, ap, ◌∙◌, subst, arith}
+use Rattle.std.proofs.lemmas.Grind.{common_steps}
 use Rattle.compaction.specs.Requests.{AreMembersOf}
 use Rattle.compaction.proofs.Filled.{row_filled}
 use Rattle.compaction.proofs.Requested.{wanted_members}
@@ -16,6 +17,9 @@ width_row-requires c =
     (c.from-high.ensures ∙ ap (λ s. s / 256) c.set-set.ensures)
     (ap (λ s. s % 256) (sym c.set-set.ensures) ∙ c.if-set-from.true ∙ c.from.ensures)
     (omega (arith, high, long)) c.index.ensures w.request)
+
+pub bounds-rows-high : goal.bounds-rows-high
+bounds-rows-high c = grind (arith, common_steps)
 
 pub returns-in_ok-rows : goal.returns-in_ok-rows
 returns-in_ok-rows c =

@@ -1,4 +1,5 @@
 use Rattle.std.proofs.Common.{◌+◌, ◌*◌, ◌-◌, ◌^◌, ◌≡◌, length, min, bit_and, sym, ap, ◌∙◌, subst, arith}
+use Rattle.std.proofs.lemmas.Grind.{common_steps}
 use Rattle.std.proofs.lemmas.Nat.Bits.{bit_at_ones}
 use Rattle.order_model.specs.Problems.{TruthTables}
 use Rattle.subfunction_classes.specs.Table.{ClassesOf}
@@ -33,3 +34,9 @@ returns-clause-compactions c = grind (arith, free_ones)
 
 pub walk-requires-clause-wanted : goal.walk-requires-clause-wanted
 walk-requires-clause-wanted c = grind arith
+
+pub walk-requires-clause-inputs : goal.walk-requires-clause-inputs
+walk-requires-clause-inputs c = grind (arith, common_steps)
+
+pub walk-requires-clause-rows : goal.walk-requires-clause-rows
+walk-requires-clause-rows c = grind (arith, common_steps)

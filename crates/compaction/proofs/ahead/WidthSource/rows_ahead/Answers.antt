@@ -7,3 +7,6 @@ rows_of_byte-requires-clause-rows c = grind (arith, common_steps)
 
 pub rows_of_byte-requires-clause-low : goal.rows_of_byte-requires-clause-low
 rows_of_byte-requires-clause-low c = grind (arith, common_steps)
+
+pub rows_of_byte-requires-clause-needed : goal.rows_of_byte-requires-clause-needed
+rows_of_byte-requires-clause-needed c = grind (arith, common_steps)

@@ -1,4 +1,4 @@
-use Rattle.std.proofs.Common.{sym, ap, subst, ◌∙◌, arith, [], ◌∷◌, ◌++◌}
+use Rattle.std.proofs.Common.{sym, subst, arith}
 use Rattle.compaction.specs.Strips.{HoldsBytes}
 use Rattle.subfunction_classes.specs.Table.{classes_of}
 use Rattle.compaction.proofs.HeldBytes.{bytes_values}
@@ -15,5 +15,5 @@ invariant_of-result c =
     let v = c.in_ok-outer.field-0 in
     let e = c.in_ok-outer.ensures in
     subst (HoldsBytes (classes_of p 0) 8 v.outer.items v.bytes.items v.rows.items)
-    (sym (c.in_ok-push-2.ensures.items ∙ ap (λ us. us ++ 0 ∷ []) (c.in_ok-push.ensures.items ∙ ap (λ us. us ++ 0 ∷ []) c.in_ok-masks.ensures.items)))
+    (sym (c.in_ok-masks.ensures.items_if_clones_equal (λ y e. e)))
     (bytes_values p (omega arith) (omega arith) (omega arith) v.outer.items v.bytes.items v.rows.items e.named e.values e.long e.below)

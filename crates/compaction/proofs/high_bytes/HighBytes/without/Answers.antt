@@ -12,3 +12,6 @@ loop-i-preserved c = record {
       byte_without c.loop-i.words c.loop-i.i c.args.y c.bits_without.result h (omega arith) c.bits_without.ensures bit
       (c.loop-i.invariant.kept h small there bit);
 }
+
+pub returns : goal.returns
+returns c = grind arith

@@ -1,7 +1,11 @@
 use Rattle.std.proofs.Common.{ℕ, ◌^◌, ◌%◌, ◌<◌, ◌≡◌, List, length, get_or, subst, sym, ◌∙◌, arith}
+use Rattle.std.proofs.lemmas.Grind.{common_steps}
 use Rattle.subset_layers.specs.Layers.{block_masks}
 use Rattle.compaction.proofs.Joined.{block_of_byte}
 use Rattle.compaction.proofs.request.WidthRequest.add_block.Goals as goal
+
+pub bounds-needed-i : goal.bounds-needed-i
+bounds-needed-i c = grind (arith, common_steps)
 
 pub add-requires-clause-set : goal.add-requires-clause-set
 add-requires-clause-set c =
@@ -22,3 +26,6 @@ loop-i-preserved c = grind arith
 
 pub returns-clause-added : goal.returns-clause-added
 returns-clause-added c = grind arith
+
+pub returns-clause-kept : goal.returns-clause-kept
+returns-clause-kept c = grind arith

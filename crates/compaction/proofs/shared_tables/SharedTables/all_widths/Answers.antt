@@ -1,4 +1,5 @@
 use Rattle.std.proofs.Common.{sym, subst, arith}
+use Rattle.std.proofs.lemmas.Grind.{common_steps}
 use Rattle.subset_layers.specs.Layers.{block_masks}
 use Rattle.compaction.specs.Rows.{AreMembers}
 use Rattle.compaction.proofs.OwnMembers.{own_members, own_count}
@@ -11,3 +12,6 @@ block_widths-requires-clause-members c =
 
 pub block_widths-requires-clause-room : goal.block_widths-requires-clause-room
 block_widths-requires-clause-room c = grind (arith, own_count)
+
+pub returns-clause-ok : goal.returns-clause-ok
+returns-clause-ok c = grind (arith, common_steps)

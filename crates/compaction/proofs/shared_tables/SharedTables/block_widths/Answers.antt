@@ -10,3 +10,9 @@ rows_of_block-requires-clause-needed c = omega arith
 
 pub rows_of_block-requires-clause-asked : goal.rows_of_block-requires-clause-asked
 rows_of_block-requires-clause-asked c = grind arith
+
+pub returns-clause-compactions : goal.returns-clause-compactions
+returns-clause-compactions c = grind (arith, common_steps)
+
+pub returns-clause-ok : goal.returns-clause-ok
+returns-clause-ok c = grind (arith, common_steps)

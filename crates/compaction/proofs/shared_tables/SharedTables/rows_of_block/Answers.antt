@@ -76,3 +76,6 @@ loop-i-preserved c =
 
 pub bounds-needed-i : goal.bounds-needed-i
 bounds-needed-i c = grind (arith, common_steps)
+
+pub returns : goal.returns
+returns c = grind arith

@@ -7,3 +7,6 @@ returns-clause-rows c = grind (arith, common_steps)
 
 pub returns-clause-few : goal.returns-clause-few
 returns-clause-few c = grind (arith, common_steps)
+
+pub walked_rows-requires : goal.walked_rows-requires
+walked_rows-requires c = grind (arith, common_steps)

@@ -97,3 +97,6 @@ returns-in_ok-grown-in-None c =
 
 pub add_above-requires : goal.add_above-requires
 add_above-requires c = grind (arith, common_steps)
+
+pub rank_of-requires : goal.rank_of-requires
+rank_of-requires c = grind (arith, common_steps)

@@ -1,4 +1,4 @@
-use Rattle.std.proofs.Common.{◌^◌, sym, ap, subst, ◌∙◌, arith, [], ◌∷◌, ◌++◌}
+use Rattle.std.proofs.Common.{◌^◌, sym, subst, arith}
 use Rattle.compaction.specs.Strips.{HoldsStrips, HoldsValues, low_variables}
 use Rattle.subfunction_classes.specs.Table.{classes_of}
 use Rattle.compaction.proofs.HeldStrips.{holds_values}
@@ -16,7 +16,6 @@ of_parts-requires c =
     let outer = c.in_ok-outer.field-0.outer.items in
     let numbers = c.in_ok-outer.field-0.numbers.items in
     subst (HoldsStrips (classes_of p 0) (low_variables p) outer numbers)
-    (sym (c.in_ok-push-2.ensures.items
-    ∙ ap (λ us. us ++ 0 ∷ []) (c.in_ok-push.ensures.items ∙ ap (λ us. us ++ 0 ∷ []) c.in_ok-masks.ensures.items)))
+    (sym (c.in_ok-masks.ensures.items_if_clones_equal (λ y e. e)))
     (holds_values p (omega arith) (omega arith) (omega arith) (low_variables p) outer numbers
     (subst (λ k. HoldsValues p outer numbers (2 ^ k)) l c.in_ok-outer.ensures))
