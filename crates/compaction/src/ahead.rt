@@ -188,8 +188,7 @@ impl<'a> WidthSource<'a> {
         if sizes.first > sizes.last {
             return Ok(None);
         }
-        let later =
-            WidthRequest::of_sizes(alloc, block.inputs(), block.low(), self.pairs, sizes)?;
+        let later = WidthRequest::of_sizes(alloc, block.inputs(), block.low(), self.pairs, sizes)?;
         Ok(Some(later))
     }
 

@@ -10,9 +10,9 @@ use crate::columns::{ByteStrips, byte_strips};
 use crate::strips::Strips;
 use order_model::{Mask, Problem, VarIx};
 use pair_numbering::label_pairs;
-use subfunction_classes::rank_of;
 use std::alloc::{AllocError, Global};
 use std::marker::Model;
+use subfunction_classes::rank_of;
 
 /// The keys of a set of the lowest three variables. A byte names a row, which has an entry for each
 /// assignment of those of the three outside the set.

@@ -11,8 +11,8 @@ ghost use Rattle.subfunction_classes.specs.PairTables.{AllBelow};
 ghost use Rattle.subfunction_classes.specs.Values.{values_of, number_of as number};
 
 use order_model::Problem;
-use subfunction_classes::value_numbers;
 use std::alloc::{AllocError, Global};
+use subfunction_classes::value_numbers;
 
 /// How many chains there are.
 const SLOTS: usize = 4096;

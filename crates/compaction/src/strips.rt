@@ -13,9 +13,9 @@ use crate::columns::{ValueStrips, whole_strips};
 use crate::names::NamePairs;
 use order_model::{Mask, Problem, VarIx, contains};
 use pair_numbering::label_pairs;
-use subfunction_classes::{count_with, rank_of};
 use std::alloc::{AllocError, Global};
 use std::marker::Model;
+use subfunction_classes::{count_with, rank_of};
 
 /// The keys of a set in strips: equal subfunctions have one key, and each key that occurs has the
 /// mask of what its function depends on. A strip has an entry for each assignment of the low

@@ -1,5 +1,4 @@
 use Rattle.std.proofs.Common.{arith}
-use Rattle.std.proofs.lemmas.Grind.{common_steps}
 use Rattle.compaction.proofs.ahead.WidthSource.block_rows.Goals as goal
 
 pub returns-in-Some-clause-rows : goal.returns-in-Some-clause-rows
