@@ -25,7 +25,7 @@ use Rattle.solutions.specs.Settings.{HoldsSetting}
 use Rattle.solutions.specs.Needs.{needed}
 use Rattle.solutions.proofs.Wanted.{wanted_member, wanted_bit, bit_wanted}
 use Rattle.order_solve.specs.LayerContexts.{ContextOf, IsContext}
-use Rattle.order_solve.proofs.NeedsByCosts.{wanted_by_costs}
+use Rattle.solutions.proofs.NeedsByCosts.{wanted_by_costs}
 
 pub block_has : (blk : BlockOf) (i mask : ℕ) → slice_get (block_masks blk) i ≡ Some mask → has (masks_of (layer_of blk)) mask ≡ true
 unfolding block_masks

@@ -20,6 +20,7 @@ use Rattle.layer_core.proofs.Layouts.{place_found, place_missing, block_at, few_
 use Rattle.solutions.specs.Needs.{width_count, widths_for}
 use Rattle.solutions.proofs.Filters.{sum_few}
 use Rattle.solutions.proofs.Wanted.{few_each}
+use Rattle.solutions.proofs.BlockPlaces.{block_layer, in_place}
 use Rattle.order_solve.specs.Gains.{gains, gained}
 
 -- ---- a mask and its block
@@ -38,29 +39,6 @@ claims_mask s mask m =
 -- only masks of the layer are claimed
 pub claimed_has : (s : SeatOf) (mask : ℕ) → has_claimed s mask ≡ true → has (masks_of s.board.brief.layer) mask ≡ true
 claimed_has s mask e = grind (arith, cases_Bool, false≢true, place_missing)
-
--- the block at a place has the low byte there
-block_is : (l : LayerOf) (p : ℕ) (b : BlockOf) → slice_get (blocks_of l) p ≡ Some b →
-    (p < length (low_bytes l)) × (b ≡ block_of l.inputs l.size (get_or (low_bytes l) p 0))
-block_is l p b is =
-    let lt : p < length (low_bytes l) = (let w = slice_get_within (blocks_of l) p b is in let e = blocks_length l in omega arith) in (
-      lt,
-      same_Some b (block_of l.inputs l.size (get_or (low_bytes l) p 0))
-          (sym is ∙ block_there l p (get_or (low_bytes l) p 0) (slice_get_at (low_bytes l) p lt)),
-    )
-
-pub block_layer : (l : LayerOf) (p : ℕ) (b : BlockOf) → slice_get (blocks_of l) p ≡ Some b → layer_of b ≡ l
-block_layer l p b is = ap layer_of (block_is l p b is).1
-
-distinct_lows : (l : LayerOf) → IsDistinct nat_eq (low_bytes l)
-unfolding low_bytes
-distinct_lows l = distinct_filter (λ low. list_any (λ mask. nat_eq (low_byte mask) low) (masks_of l)) (range_with_len 0 256) (distinct_variables 256)
-
--- a mask lies in the block just where its low byte has the block's place
-pub in_place : (l : LayerOf) (p : ℕ) (b : BlockOf) (mask : ℕ) → slice_get (blocks_of l) p ≡ Some b → has (masks_of l) mask ≡ true →
-    (low_byte mask ≡ b.low → place_in (low_bytes l) (low_byte mask) ≡ p)
-    × (place_in (low_bytes l) (low_byte mask) ≡ p → low_byte mask ≡ b.low)
-in_place l p b mask is m = grind (arith, block_is, place_small, low_bytes_has, place_get, distinct_lows, place_at)
 
 -- ---- sums over filters
 

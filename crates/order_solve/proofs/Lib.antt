@@ -1,4 +1,3 @@
-pub mod NeedsByCosts
 pub mod Blocks
 pub mod Posts
 pub mod Claimed

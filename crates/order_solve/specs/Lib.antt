@@ -1,4 +1,2 @@
 pub mod LayerContexts
-pub mod Needs
 pub mod Gains
-pub mod Placed

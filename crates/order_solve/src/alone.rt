@@ -1,35 +1,17 @@
 //! The layers by one thread.
 
 ghost use Rattle.std.specs.Prelude.{◌≡◌, length, IfOk, OnOk};
-ghost use Rattle.subset_layers.specs.Layers.{layer_of, masks_of, block_masks};
-ghost use Rattle.solutions.specs.LayerCosts.{AreAllLayers, IsLayerFor};
-ghost use Rattle.order_solve.specs.LayerContexts.{AreCells, AreDone};
-ghost use Rattle.order_solve.specs.Placed.{AreCellsPlaced, StayPlaced};
+ghost use Rattle.subset_layers.specs.Layers.{masks_of};
+ghost use Rattle.solutions.specs.LayerCosts.{AreAllLayers, AreCells, AreDone, IsLayerFor};
 
 use crate::cells::cells_of_block;
 use crate::context::LayerContext;
-use crate::layering::{NextLayer, first_layer};
+use crate::layering::NextLayer;
 use crate::looking::look_ahead;
 use compaction::{SharedTables, Tallies, WidthSource, WidthsAhead};
-use solutions::Setting;
+use solutions::{Setting, first_layer, place_cells};
 use std::alloc::{AllocError, Global};
-use subset_layers::{Block, Cell, Costs, Layer};
-
-/// Puts the cells of a block's sets at their places in the layer.
-fn place_cells(context: &LayerContext<'_>, block: &Block, found: &[Cell], cells: &mut [Cell])
-    requires layer { layer_of block.now ≡ context.now.layer }
-    requires found { AreCells context.now.setting (block_masks block.now) found.now }
-    requires cells { length cells.old ≡ length (masks_of context.now.layer) }
-    ensures length { length cells.new ≡ length cells.old }
-    ensures kept { StayPlaced context.now cells.old cells.new }
-    ensures placed { AreCellsPlaced context.now block.now cells.new }
-{
-    for (i, mask) in block.masks().iter().enumerate() {
-        if let Some(place) = context.layer.position(*mask) {
-            cells[place] = found[i];
-        }
-    }
-}
+use subset_layers::{Cell, Costs, Layer};
 
 /// The cells of a layer in its order. Widths that are found ahead go to `found`.
 pub(crate) fn cells_alone(
@@ -52,7 +34,7 @@ pub(crate) fn cells_alone(
         let block = layer.block(place);
         let mut tallies = Tallies::new();
         let own = cells_of_block(alloc, &block, context, found, &mut tallies)?;
-        place_cells(context, &block, &own, &mut cells);
+        place_cells(layer, &block, &own, &mut cells);
     }
     Ok(cells)
 }

@@ -5,7 +5,7 @@ ghost use Rattle.compaction.specs.Rows.{AreWidthRows, wanted_count};
 ghost use Rattle.compaction.specs.Walks.{AreAsked, AreRowsOf, Counts, HasRoom};
 ghost use Rattle.subset_layers.specs.Layers.{layer_of, block_masks};
 ghost use Rattle.solutions.specs.Needs.{needed, widths_for};
-ghost use Rattle.order_solve.specs.LayerContexts.{AreCells};
+ghost use Rattle.solutions.specs.LayerCosts.{AreCells};
 
 use crate::context::LayerContext;
 use crate::needs::needs_of_block;

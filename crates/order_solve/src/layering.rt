@@ -4,8 +4,7 @@ ghost use Rattle.std.specs.Prelude.{◌≡◌, ◌≤◌, ◌++◌, ◌∷◌, [
 ghost use Rattle.std.specs.Thread.{IsSync};
 ghost use Rattle.subset_layers.specs.Layers.{masks_of};
 ghost use Rattle.compaction.specs.Ahead.{with_others};
-ghost use Rattle.solutions.specs.LayerCosts.{AreAllLayers, AreLayersFor, IsLayerFor};
-ghost use Rattle.order_solve.specs.LayerContexts.{AreCells, AreDone};
+ghost use Rattle.solutions.specs.LayerCosts.{AreAllLayers, AreCells, AreDone, IsLayerFor};
 
 use crate::alone::cells_alone;
 use crate::context::LayerContext;
@@ -13,8 +12,8 @@ use crate::looking::look_ahead;
 use crate::working::{WorkerResult, work_layer};
 use compaction::{Preparation, SharedTables, WidthSource, WidthsAhead};
 use layer_board::{Board, BoardSeat, CloseError};
-use order_model::{Crew, Gate, Pairs, Workers};
-use solutions::Setting;
+use order_model::{Crew, Gate};
+use solutions::{Setting, busy_workers, first_layer};
 use std::alloc::{AllocError, Global};
 use std::thread;
 use std::thread::Threads;
@@ -99,36 +98,6 @@ fn gather(
     Ok(seat)
 }
 
-/// How many entries of truth tables are worth a thread.
-const ENTRIES_A_WORKER: usize = 1 << 18;
-
-/// How many sets of a layer are in orders with the pairs, counted up to a number.
-fn count_lawful(pairs: &Pairs, layer: &Layer, most: usize) -> usize
-    ensures { result ≤ most }
-{
-    let mut count = 0;
-    for i in 0..layer.len() {
-        if count < most && pairs.lawful(layer.mask_at(i)) {
-            count += 1;
-        }
-    }
-    count
-}
-
-/// As many workers as a layer's lawful sets keep busy, at most one a block, and no more than there
-/// are.
-fn busy_workers(setting: &Setting<'_>, layer: &Layer, workers: Workers) -> Workers
-    ensures { result ≤ workers }
-{
-    let tables = count_lawful(setting.pairs, layer, layer.blocks().min(256));
-    let entries = (usize::from(setting.problem.outputs()) << setting.inputs()) * tables;
-    let busy = entries / ENTRIES_A_WORKER + 1;
-    match Workers::new(busy.min(usize::from(workers.count())) as u8) {
-        Some(fewer) => fewer,
-        None => workers,
-    }
-}
-
 /// Posts the cells of a layer by workers, and hands back a seat of theirs. What they find ahead
 /// goes to `found`.
 fn post_by_workers<R: Threads + Sync, G: Gate>(
@@ -188,16 +157,6 @@ fn cells_of_layer<R: Threads + Sync, G: Gate>(
 pub(crate) struct NextLayer<'a> {
     pub costs: Costs,
     pub found: WidthsAhead<'a>,
-}
-
-/// The layer of the empty set.
-pub(crate) fn first_layer(alloc: Global, setting: &Setting<'_>) -> Result<Vec<Costs>, AllocError>
-    ensures one { IfOk result (λ v. length v.items ≡ 1) }
-    ensures layers { IfOk result (λ v. AreLayersFor setting.now v.items) }
-{
-    let mut layers = Vec::new(alloc);
-    layers.push(Costs::start(alloc, setting.inputs())?)?;
-    Ok(layers)
 }
 
 impl<'a> NextLayer<'a> {

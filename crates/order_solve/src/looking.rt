@@ -1,86 +1,12 @@
 //! How far the walks of a layer look ahead.
 
-ghost use Rattle.std.specs.Prelude.{◌≡◌, ◌≤◌, length};
-ghost use Rattle.order_solve.specs.LayerContexts.{AreDone};
+ghost use Rattle.std.specs.Prelude.{◌≡◌};
+ghost use Rattle.solutions.specs.LayerCosts.{AreDone};
 
 use compaction::WidthsAhead;
-use order_model::{Limit, Problem, Reserve};
-use solutions::Setting;
+use solutions::{Setting, likely_end};
 use std::alloc::Global;
 use subset_layers::Costs;
-
-/// One in so many entries of the truth tables is a node of a diagram that is as large as most.
-const ENTRIES_A_NODE: u64 = 16;
-
-/// How many layers are searched together at first: all if a diagram of the functions is as large as
-/// most, since then hardly a set is clipped, else those most of whose sets are wanted.
-pub(crate) fn first_layers(problem: &Problem, limit: Limit) -> u8 {
-    let entries = u64::from(problem.outputs()) << problem.inputs();
-    if u64::from(limit.bound) >= entries / ENTRIES_A_NODE {
-        return problem.inputs();
-    }
-    match limit.reserve {
-        Reserve::Variables => 6,
-        Reserve::Widths => 5,
-    }
-}
-
-/// One in so many sets is asked for its cost.
-const STEP: u32 = 7;
-
-/// The mean cost of the sets of a size, by some of them.
-fn mean_cost(costs: &Costs, size: usize) -> u64 {
-    let mut sum = 0u64;
-    let mut sets = 0u64;
-    for i in 0..(1u32 << costs.inputs()) / STEP {
-        let mask = (i * STEP) as u16;
-        if mask.count_ones() as usize == size
-            && let Some(cost) = costs.cost_of(mask)
-        {
-            sum = sum.wrapping_add(u64::from(cost));
-            sets = sets.wrapping_add(1);
-        }
-    }
-    if sets == 0 {
-        u64::from(u32::MAX)
-    } else {
-        sum / sets
-    }
-}
-
-/// The nodes that are likely to be counted on above a set of such a width, with so many variables
-/// outside.
-fn likely_above(setting: &Setting<'_>, outside: usize, width: u64) -> u64 {
-    let asked = match setting.limit.reserve {
-        Reserve::Variables => 0,
-        Reserve::Widths => width.saturating_sub(u64::from(setting.problem.outputs())),
-    };
-    asked.max(outside as u64)
-}
-
-/// The size of the largest sets that are likely to be wanted: costs rise from layer to layer by as
-/// much as they did last, and by no more than a layer's tables have entries.
-fn likely_end(setting: &Setting<'_>, done: &[Costs]) -> usize
-    requires { 2 ≤ length done.now }
-{
-    let inputs = usize::from(setting.inputs());
-    let outputs = u64::from(setting.problem.outputs());
-    let next = done.len();
-    let mut cost = mean_cost(&done[next - 1], next - 1);
-    let rise = cost.saturating_sub(mean_cost(&done[next - 2], next - 2));
-    let mut end = next;
-    for size in next..inputs + 1 {
-        let outside = inputs - size;
-        let width = rise.min(outputs << (outside + 1));
-        let above = likely_above(setting, outside + 1, width);
-        if cost.saturating_add(above) > u64::from(setting.limit.bound) {
-            break;
-        }
-        end = size;
-        cost = cost.saturating_add(rise.min(outputs << outside));
-    }
-    end
-}
 
 /// What was found ahead, as long as that reaches to the next layer. Else nothing, and rows are to
 /// be found of all layers that are likely to be wanted nearly whole.
@@ -93,14 +19,8 @@ pub(crate) fn look_ahead<'a>(
     requires { AreDone setting.now done.now }
     ensures { result.problem ≡ ahead.entry.problem }
 {
-    let next = done.len();
-    if next <= usize::from(ahead.end()) {
+    if done.len() <= usize::from(ahead.end()) {
         return ahead;
     }
-    let end = if next == 1 {
-        first_layers(setting.problem, setting.limit)
-    } else {
-        likely_end(setting, done).min(16) as u8
-    };
-    WidthsAhead::up_to(alloc, ahead.problem(), end)
+    WidthsAhead::up_to(alloc, ahead.problem(), likely_end(setting, done))
 }

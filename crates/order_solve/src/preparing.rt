@@ -2,10 +2,9 @@
 
 ghost use Rattle.std.specs.Prelude.{◌≡◌, IfOk};
 
-use crate::looking::first_layers;
 use compaction::Preparation;
 use order_model::{Limit, Pairs, Problem, Reserve, Workers};
-use solutions::pairs_to_keep;
+use solutions::{first_layers, pairs_to_keep};
 use std::alloc::{AllocError, Global};
 use std::thread::Threads;
 

@@ -8,7 +8,7 @@ ghost use Rattle.layer_core.specs.Settings.{cell_for};
 ghost use Rattle.layer_board.specs.Views.{has_claimed, knows_filled};
 ghost use Rattle.layer_core.specs.Pairing.{pair_of};
 ghost use Rattle.solutions.specs.Needs.{widths_for};
-ghost use Rattle.order_solve.specs.LayerContexts.{AreCells};
+ghost use Rattle.solutions.specs.LayerCosts.{AreCells};
 ghost use Rattle.order_solve.specs.Gains.{gains, gained, IsPosted, StaysClaimed};
 
 use crate::cells::cells_of_block;

@@ -1,6 +1,7 @@
 pub mod SymmetricWords
 pub mod Filters
 pub mod Wanted
+pub mod NeedsByCosts
 pub mod Clipped
 pub mod Layers
 pub mod FlatLists
@@ -8,3 +9,5 @@ pub mod ReadOrders
 pub mod ListedSets
 pub mod Solved
 pub mod Harmless
+pub mod BlockPlaces
+pub mod Placing

@@ -1,10 +1,14 @@
 -- The costs and the cells of layers.
 --     AreCostsFor t costs, IsLayerFor t size costs      the costs are the definition's; the costs and the cells of the layer of a size are
 --     AreLayersFor t layers, AreAllLayers t layers      the layers from that of the empty set on; those of all sets
-use Rattle.std.specs.Prelude.{◌≡◌, ℕ, ◌+◌, List, length, slice_get, Some}
+--     AreDone t layers      the layers of fewer variables than there are, at least that of the empty set
+--     AreCells t masks cells      the cells of some sets
+use Rattle.std.specs.Prelude.{◌≡◌, ℕ, ◌+◌, ◌≤◌, List, map, length, slice_get, Some}
 use Rattle.order_model.specs.Problems.{functions}
 use Rattle.subset_layers.specs.Costs.{CostsOf, AreTrueCosts, AreTrueCells}
-use Rattle.layer_core.specs.Settings.{Setting}
+use Rattle.subset_layers.specs.declared.costs.Cell.{Cell}
+use Rattle.layer_core.specs.Pairing.{pair_of}
+use Rattle.layer_core.specs.Settings.{Setting, cell_for}
 
 -- the costs are the definition's for the setting
 abbrev pub AreCostsFor : Setting → CostsOf → Type 0
@@ -25,3 +29,13 @@ AreLayersFor t layers = (k : ℕ) (c : CostsOf) → slice_get layers k ≡ Some 
 pub record AreAllLayers (t : Setting) (layers : List CostsOf) : Type 0 where
   pub many : length layers ≡ t.problem.inputs + 1
   pub layers_are : AreLayersFor t layers
+
+-- the layers of fewer variables than there are, at least that of the empty set
+pub record AreDone (t : Setting) (layers : List CostsOf) : Type 0 where
+  pub some : 1 ≤ length layers
+  pub few : length layers ≤ t.problem.inputs
+  pub layers_are : AreLayersFor t layers
+
+-- the cells of some sets, in their order
+abbrev pub AreCells : Setting → List ℕ → List Cell → Type 0
+AreCells t masks cells = map pair_of cells ≡ map (cell_for t) masks

@@ -5,3 +5,4 @@ pub mod Storages
 pub mod Bounded
 pub mod Needs
 pub mod Solutions
+pub mod Placed

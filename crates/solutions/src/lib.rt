@@ -1,5 +1,5 @@
-//! What a search is for, and what is read off the cells of all sets: the first order of the fewest
-//! nodes, and what its certificate lists.
+//! What a search is for, what its layers stand on, and what is read off the cells of all sets: the
+//! first order of the fewest nodes, and what its certificate lists.
 #![tactic(auto)]
 
 // What a search is for, and which pairs it keeps.
@@ -7,16 +7,22 @@ mod setting;
 mod symmetric;
 mod symmetric_words;
 
+// What the layers stand on: the widths that cells take, where cells stand, and what is likely.
+mod guesses;
+mod making;
+mod needs;
+
 // What is read off the cells of all sets.
 mod all_cells;
 mod listing;
-mod needs;
 mod optima;
 mod reading;
 mod solution;
 
 pub use all_cells::AllCells;
-pub use needs::asked_members;
+pub use guesses::{busy_workers, first_layers, likely_end};
+pub use making::{first_layer, place_cells};
+pub use needs::needed_members;
 pub use optima::{optimum_of, solution_of};
 pub use setting::Setting;
 pub use solution::{Optimum, Solution};

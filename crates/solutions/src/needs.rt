@@ -3,12 +3,16 @@
 ghost use Rattle.std.specs.Prelude.{◌≡◌, ◌^◌, ◌<◌, ℕ};
 ghost use Rattle.order_model.specs.Orders.{mask_of};
 ghost use Rattle.order_model.specs.Cells.{asked, candidates};
+ghost use Rattle.solutions.specs.LayerCosts.{AreCostsFor};
+ghost use Rattle.solutions.specs.Needs.{IsInNextLayer, affordable, needed};
 
-use order_model::{Mask, Reserve};
+use crate::setting::Setting;
+use order_model::{Mask, Reserve, contains};
+use subset_layers::Costs;
 
 /// The members of a set whose widths its cell takes, by those without which the cost is within the
 /// bound: these, or all of them if widths are counted on and there is any such.
-pub fn asked_members(reserve: Reserve, mask: Mask, known: Mask) -> Mask
+pub(crate) fn asked_members(reserve: Reserve, mask: Mask, known: Mask) -> Mask
     ensures { (n bound : ℕ) (costs : ℕ → ℕ) →
         known ≡ mask_of (candidates n bound mask costs) → mask < 2 ^ n →
         result ≡ mask_of (asked n reserve bound mask costs) }
@@ -16,5 +20,37 @@ pub fn asked_members(reserve: Reserve, mask: Mask, known: Mask) -> Mask
     match reserve {
         Reserve::Variables => known,
         Reserve::Widths => { if known == 0 { 0 } else { mask } }
+    }
+}
+
+/// The members of a set without which the cost is within the bound.
+fn affordable_members(mask: Mask, costs: &Costs, bound: u32) -> Mask
+    requires { IsInNextLayer costs.now mask }
+    ensures { result ≡ mask_of (affordable costs.now bound mask) }
+{
+    let mut found: Mask = 0;
+    for x in 0..costs.inputs() {
+        if contains(mask, x) {
+            let cost = costs.cost_of(mask - (1 << x)).unwrap();
+            if cost <= bound {
+                found |= 1 << x;
+            }
+        }
+    }
+    found
+}
+
+/// The members of a set whose widths its cell takes, by the costs of the layer before.
+pub fn needed_members(setting: &Setting<'_>, before: &Costs, mask: Mask) -> Mask
+    requires next { IsInNextLayer before.now mask }
+    requires inputs { before.now.inputs ≡ setting.now.problem.inputs }
+    requires costs { AreCostsFor setting.now before.now }
+    ensures { result ≡ needed setting.now mask }
+{
+    if setting.pairs.lawful(mask) {
+        let known = affordable_members(mask, before, setting.limit.bound);
+        asked_members(setting.limit.reserve, mask, known)
+    } else {
+        0
     }
 }

@@ -9,8 +9,8 @@ use Rattle.subset_layers.specs.Layers.{masks_of, layer_with}
 use Rattle.subset_layers.specs.Costs.{cost_at, cost_without}
 use Rattle.subset_layers.proofs.CostLists.{less_one}
 use Rattle.solutions.proofs.Wanted.{is_affordable, affordable_is, affordable_yes, affordable_dear, affordable_absent}
-use Rattle.order_solve.proofs.needs.affordable_members.Goals.{then-contains+then-cost-bound, then-contains+else-cost-bound, else-contains}
-use Rattle.order_solve.proofs.needs.affordable_members.Goals as goal
+use Rattle.solutions.proofs.needs.affordable_members.Goals.{then-contains+then-cost-bound, then-contains+else-cost-bound, else-contains}
+use Rattle.solutions.proofs.needs.affordable_members.Goals as goal
 
 pub overflow_sub-mask : goal.overflow_sub-mask
 overflow_sub-mask c = grind (arith, one_shl, pow_le_bit)

@@ -1,7 +1,7 @@
 use Rattle.order_model.proofs.Bits.Problems.{MaskOfFirst}
 use Rattle.subset_layers.specs.Costs.{cost_without}
 use Rattle.solutions.proofs.Wanted.{is_affordable}
-use Rattle.order_solve.proofs.needs.affordable_members.Given as goal
+use Rattle.solutions.proofs.needs.affordable_members.Given as goal
 
 abbrev pub invariant-loop-x : goal.invariant-loop-x
 invariant-loop-x l = MaskOfFirst (is_affordable (cost_without l.costs l.mask) l.bound l.mask) l.x l.found

@@ -7,8 +7,8 @@ use Rattle.layer_core.specs.Settings.{Setting}
 use Rattle.solutions.specs.LayerCosts.{AreCostsFor}
 use Rattle.solutions.specs.Needs.{needed}
 use Rattle.solutions.proofs.Wanted.{needed_unlawful}
-use Rattle.order_solve.proofs.NeedsByCosts.{needed_by_costs}
-use Rattle.order_solve.proofs.needs.needed_members.Goals as goal
+use Rattle.solutions.proofs.NeedsByCosts.{needed_by_costs}
+use Rattle.solutions.proofs.needs.needed_members.Goals as goal
 
 pub returns-then-lawful : goal.returns-then-lawful
 returns-then-lawful c =
