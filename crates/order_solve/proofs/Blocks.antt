@@ -24,14 +24,9 @@ use Rattle.compaction.specs.Rows.{width_wanted, IsWidthRow, AreMembers, AreWidth
 use Rattle.solutions.specs.Settings.{HoldsSetting}
 use Rattle.solutions.specs.Needs.{needed}
 use Rattle.solutions.proofs.Wanted.{wanted_member, wanted_bit, bit_wanted}
+use Rattle.solutions.proofs.BlockPlaces.{block_has}
 use Rattle.order_solve.specs.LayerContexts.{ContextOf, IsContext}
 use Rattle.solutions.proofs.NeedsByCosts.{wanted_by_costs}
-
-pub block_has : (blk : BlockOf) (i mask : ℕ) → slice_get (block_masks blk) i ≡ Some mask → has (masks_of (layer_of blk)) mask ≡ true
-unfolding block_masks
-block_has blk i mask is =
-    (and_parts _ _
-    (sym (has_filter (λ m. eqb (low_byte m) blk.low) (masks_of (layer_of blk)) mask) ∙ has_slice_get (block_masks blk) i mask is)).0
 
 -- the row of a set
 pub row_there : (p : TruthTables) (masks needs : List ℕ) (rows : List (List ℕ)) (i mask need : ℕ) (row : List ℕ) →
@@ -61,7 +56,7 @@ module _ (b : ContextOf) (h : IsContext b) where
   abbrev F : List Function
   F = functions t.problem
 
-  own_layer : b.layer ≡ layer_with c.inputs (c.size + 1)
+  pub own_layer : b.layer ≡ layer_with c.inputs (c.size + 1)
   own_layer = h.layer ∙ ap (λ k. layer_with k (c.size + 1)) (sym h.inputs)
 
   own_costs : AreTrueCosts c.inputs F t.pairs.pairs t.reserve t.bound c

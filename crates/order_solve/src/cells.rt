@@ -8,9 +8,9 @@ ghost use Rattle.solutions.specs.Needs.{needed, widths_for};
 ghost use Rattle.solutions.specs.LayerCosts.{AreCells};
 
 use crate::context::LayerContext;
-use crate::needs::needs_of_block;
 use compaction::{Tallies, WidthsAhead, block_widths};
 use order_model::Mask;
+use solutions::needs_of_block;
 use std::alloc::{AllocError, Global};
 use subset_layers::{Block, Cell, least_cell};
 
@@ -88,7 +88,7 @@ pub(crate) fn cells_of_block(
     ensures alone { context.now.has_source ≡ false → OnOk result (found.new ≡ found.old) }
 {
     prove!(context.setting.inputs() <= 16);
-    let needs = needs_of_block(alloc, block, context)?;
+    let needs = needs_of_block(alloc, context.setting, context.before, block)?;
     let rows = widths_of(alloc, block, context, &needs, found, tallies)?;
     cells_by_rows(alloc, block, context, &rows)
 }

@@ -9,10 +9,9 @@ mod looking;
 mod preparing;
 mod solving;
 
-// A worker's part of a layer: what it is lent, the widths that it needs, the cells of its blocks.
+// A worker's part of a layer: what it is lent, and the cells of its blocks.
 mod cells;
 mod context;
-mod needs;
 mod working;
 
 pub use compaction::Preparation;

@@ -2,15 +2,16 @@
 --     block_layer      the layer of the block at a place
 --     in_place, block_done      a mask is in the block just where its low byte has the block's place
 --     only_place      a mask has one place
-use Rattle.std.proofs.Common.{◌≡◌, ℕ, ◌<◌, true, get_or, length, slice_get, Some, sym, ap, ◌∙◌, arith, nat_eq, eq-eqb}
+--     block_has      a mask of a block is in its layer
+use Rattle.std.proofs.Common.{◌≡◌, ℕ, ◌<◌, true, get_or, length, slice_get, Some, sym, ap, ◌∙◌, arith, nat_eq, eqb, eq-eqb}
 use Rattle.std.specs.List.{list_any, IsDistinct, range_with_len}
-use Rattle.std.proofs.lemmas.Bool.{and_from}
+use Rattle.std.proofs.lemmas.Bool.{and_from, and_parts}
 use Rattle.std.proofs.lemmas.Option.{slice_get_within, get_or_from_slice_get, same_Some}
 use Rattle.order_model.specs.Orders.{has, place_in}
 use Rattle.order_model.proofs.Lists.Orders.{has_at, has_filter, place_get, place_at, place_small}
 use Rattle.order_model.proofs.Widths.Recurrence.{distinct_filter, distinct_variables}
 use Rattle.subset_layers.specs.Layers.{LayerOf, BlockOf, layer_of, block_of, masks_of, block_masks, blocks_of, low_bytes, low_byte, block_place}
-use Rattle.subset_layers.proofs.BlockLists.{low_bytes_has, blocks_length, block_at as block_there, slice_get_at}
+use Rattle.subset_layers.proofs.BlockLists.{has_slice_get, low_bytes_has, blocks_length, block_at as block_there, slice_get_at}
 use Rattle.subset_layers.proofs.CostLists.{distinct_masks}
 
 -- the block at a place has the low byte there
@@ -34,7 +35,7 @@ distinct_lows l = distinct_filter (λ low. list_any (λ mask. nat_eq (low_byte m
 pub in_place : (l : LayerOf) (p : ℕ) (b : BlockOf) (mask : ℕ) → slice_get (blocks_of l) p ≡ Some b → has (masks_of l) mask ≡ true →
     (low_byte mask ≡ b.low → place_in (low_bytes l) (low_byte mask) ≡ p)
     × (place_in (low_bytes l) (low_byte mask) ≡ p → low_byte mask ≡ b.low)
-in_place l p b mask is m = grind (arith, block_is, place_small, low_bytes_has, place_get, distinct_lows, place_at)
+in_place l p b mask is m = grind (arith, block_is, place_small, has_slice_get, low_bytes_has, place_get, distinct_lows, place_at)
 
 -- a mask has one place
 pub only_place : (l : LayerOf) (p q mask : ℕ) → p < length (masks_of l) → get_or (masks_of l) p 0 ≡ mask → slice_get (masks_of l) q ≡ Some mask → p ≡ q
@@ -48,3 +49,10 @@ pub block_done : (l : LayerOf) (k : ℕ) (b : BlockOf) (p : ℕ) → slice_get (
     block_place l p ≡ k → has (block_masks b) (get_or (masks_of l) p 0) ≡ true
 unfolding block_place block_masks
 block_done l k b p is lt e = grind (arith, has_at, has_filter, and_from, block_layer, eq-eqb, in_place)
+
+-- a mask of a block is in its layer
+pub block_has : (blk : BlockOf) (i mask : ℕ) → slice_get (block_masks blk) i ≡ Some mask → has (masks_of (layer_of blk)) mask ≡ true
+unfolding block_masks
+block_has blk i mask is =
+    (and_parts _ _
+    (sym (has_filter (λ m. eqb (low_byte m) blk.low) (masks_of (layer_of blk)) mask) ∙ has_slice_get (block_masks blk) i mask is)).0

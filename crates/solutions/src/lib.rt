@@ -22,7 +22,7 @@ mod solution;
 pub use all_cells::AllCells;
 pub use guesses::{busy_workers, first_layers, likely_end};
 pub use making::{first_layer, place_cells};
-pub use needs::needed_members;
+pub use needs::needs_of_block;
 pub use optima::{optimum_of, solution_of};
 pub use setting::Setting;
 pub use solution::{Optimum, Solution};

@@ -1,14 +1,16 @@
 //! The variables whose widths the cell of a set takes.
 
-ghost use Rattle.std.specs.Prelude.{◌≡◌, ◌^◌, ◌<◌, ℕ};
+ghost use Rattle.std.specs.Prelude.{◌≡◌, ◌+◌, ◌^◌, ◌<◌, ℕ, map, IfOk};
 ghost use Rattle.order_model.specs.Orders.{mask_of};
 ghost use Rattle.order_model.specs.Cells.{asked, candidates};
+ghost use Rattle.subset_layers.specs.Layers.{layer_of, layer_with, block_masks};
 ghost use Rattle.solutions.specs.LayerCosts.{AreCostsFor};
 ghost use Rattle.solutions.specs.Needs.{IsInNextLayer, affordable, needed};
 
 use crate::setting::Setting;
 use order_model::{Mask, Reserve, contains};
-use subset_layers::Costs;
+use std::alloc::{AllocError, Global};
+use subset_layers::{Block, Costs};
 
 /// The members of a set whose widths its cell takes, by those without which the cost is within the
 /// bound: these, or all of them if widths are counted on and there is any such.
@@ -41,7 +43,7 @@ fn affordable_members(mask: Mask, costs: &Costs, bound: u32) -> Mask
 }
 
 /// The members of a set whose widths its cell takes, by the costs of the layer before.
-pub fn needed_members(setting: &Setting<'_>, before: &Costs, mask: Mask) -> Mask
+fn needed_members(setting: &Setting<'_>, before: &Costs, mask: Mask) -> Mask
     requires next { IsInNextLayer before.now mask }
     requires inputs { before.now.inputs ≡ setting.now.problem.inputs }
     requires costs { AreCostsFor setting.now before.now }
@@ -53,4 +55,23 @@ pub fn needed_members(setting: &Setting<'_>, before: &Costs, mask: Mask) -> Mask
     } else {
         0
     }
+}
+
+/// The same for each set of a block of the next layer.
+pub fn needs_of_block(
+    alloc: Global,
+    setting: &Setting<'_>,
+    before: &Costs,
+    block: &Block,
+) -> Result<Vec<Mask>, AllocError>
+    requires next { layer_of block.now ≡ layer_with before.now.inputs (before.now.size + 1) }
+    requires inputs { before.now.inputs ≡ setting.now.problem.inputs }
+    requires costs { AreCostsFor setting.now before.now }
+    ensures { IfOk result (λ v. v.items ≡ map (needed setting.now) (block_masks block.now)) }
+{
+    let mut needs = Vec::with_capacity(alloc, block.len())?;
+    for mask in block.masks() {
+        needs.push(needed_members(setting, before, *mask))?;
+    }
+    Ok(needs)
 }
