@@ -6,7 +6,6 @@ ghost use Rattle.solutions.specs.LayerCosts.{AreAllLayers, AreCells, AreDone, Is
 
 use crate::cells::cells_of_block;
 use crate::context::LayerContext;
-use crate::layering::NextLayer;
 use crate::looking::look_ahead;
 use compaction::{SharedTables, Tallies, WidthSource, WidthsAhead};
 use solutions::{Setting, first_layer, place_cells};
@@ -39,28 +38,28 @@ pub(crate) fn cells_alone(
     Ok(cells)
 }
 
-/// The layer after those that are done.
-fn next_layer_alone<'a>(
+/// The layer after those that are done. What its walks find ahead is added to what was before.
+fn next_layer_alone(
     alloc: Global,
-    setting: &Setting<'a>,
+    setting: &Setting<'_>,
     shared: &SharedTables<'_>,
-    ahead: &WidthsAhead<'_>,
+    ahead: &mut WidthsAhead<'_>,
     done: &[Costs],
-) -> Result<NextLayer<'a>, AllocError>
+) -> Result<Costs, AllocError>
     requires shared { shared.now ≡ setting.now.problem }
-    requires ahead { ahead.now.problem ≡ setting.now.problem }
+    requires ahead { ahead.old.problem ≡ setting.now.problem }
     requires done { AreDone setting.now done.now }
-    ensures layer { IfOk result (λ n. IsLayerFor setting.now (length done.now) n.costs) }
-    ensures found { IfOk result (λ n. n.found.problem ≡ setting.now.problem) }
+    ensures layer { IfOk result (IsLayerFor setting.now (length done.now)) }
+    ensures ahead { OnOk result (ahead.new.problem ≡ ahead.old.problem) }
 {
     let layer = Layer::of(alloc, setting.inputs(), done.len() as u8)?;
     let before = &done[done.len() - 1];
-    let source = WidthSource::new(shared, ahead, setting.pairs);
-    let context = LayerContext::new(setting, &layer, before).with_source(source);
     let mut found = WidthsAhead::up_to(alloc, setting.problem, 0);
+    let source = WidthSource::new(shared, ahead, setting.pairs);
+    let context = LayerContext::new(setting, &layer, before).with_source(&source);
     let cells = cells_alone(alloc, &context, &mut found)?;
-    let costs = Costs::of(layer, cells);
-    Ok(NextLayer { costs, found })
+    ahead.append(found)?;
+    Ok(Costs::of(layer, cells))
 }
 
 /// The layers of all sets.
@@ -72,8 +71,8 @@ pub(crate) fn layers_alone(alloc: Global, setting: &Setting<'_>) -> Result<Vec<C
     let mut layers = first_layer(alloc, setting)?;
     for _size in 0..setting.inputs() {
         ahead = look_ahead(alloc, setting, ahead, &layers);
-        let next = next_layer_alone(alloc, setting, &shared, &ahead, &layers)?;
-        next.add_to(&mut layers, &mut ahead)?;
+        let next = next_layer_alone(alloc, setting, &shared, &mut ahead, &layers)?;
+        layers.push(next)?;
     }
     Ok(layers)
 }

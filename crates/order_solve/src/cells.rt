@@ -33,7 +33,7 @@ fn widths_of(
     ensures alone { context.now.has_source ≡ false → OnOk result (found.new ≡ found.old) }
 {
     let setting = context.setting;
-    let Some(source) = &context.source else {
+    let Some(source) = context.source else {
         let cells = &mut tallies.cells;
         let widths = block_widths(alloc, setting.problem, block, needed, cells)?;
         return Ok(widths.into_rows());

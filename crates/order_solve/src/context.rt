@@ -14,7 +14,7 @@ pub struct LayerContext<'a> {
     pub(crate) setting: &'a Setting<'a>,
     pub(crate) layer: &'a Layer,
     pub(crate) before: &'a Costs,
-    pub(crate) source: Option<WidthSource<'a>>,
+    pub(crate) source: Option<&'a WidthSource<'a>>,
 }
 
 impl<'a> Model for LayerContext<'a> {
@@ -27,7 +27,7 @@ impl<'a> Model for LayerContext<'a> {
         { has_source = is_some c.source } };
 
     ghost invariant = { λ c. IsContext (context_with c.setting.now c.layer.now c.before.now)
-        × IfSome c.source (λ w. w ≡ c.setting.now.problem) };
+        × IfSome c.source (λ w. w.now ≡ c.setting.now.problem) };
 }
 
 impl<'a> LayerContext<'a> {
@@ -47,8 +47,8 @@ impl<'a> LayerContext<'a> {
     }
 
     /// The same context, with a source of widths.
-    pub(crate) fn with_source(self, source: WidthSource<'a>) -> LayerContext<'a>
-        requires { source ≡ self.setting.problem }
+    pub(crate) fn with_source(self, source: &'a WidthSource<'a>) -> LayerContext<'a>
+        requires { source.now ≡ self.setting.problem }
         ensures { result ≡ record self.entry { has_source = true } }
     {
         LayerContext {

@@ -1,205 +1,41 @@
-//! The cells of a layer by workers.
+//! The layers of all sets, one after another, by workers.
 
-ghost use Rattle.std.specs.Prelude.{◌≡◌, ◌≤◌, ◌++◌, ◌∷◌, [], All, IfOk, OnOk, length, vec_len};
-ghost use Rattle.std.specs.Thread.{IsSync};
-ghost use Rattle.subset_layers.specs.Layers.{masks_of};
-ghost use Rattle.compaction.specs.Ahead.{with_others};
-ghost use Rattle.solutions.specs.LayerCosts.{AreAllLayers, AreCells, AreDone, IsLayerFor};
+ghost use Rattle.std.specs.Prelude.{◌≡◌, IfOk, OnOk, length};
+ghost use Rattle.solutions.specs.LayerCosts.{AreAllLayers, AreDone, IsLayerFor};
 
-use crate::alone::cells_alone;
 use crate::context::LayerContext;
+use crate::crews::cells_of_layer;
 use crate::looking::look_ahead;
-use crate::working::{WorkerResult, work_layer};
 use compaction::{Preparation, SharedTables, WidthSource, WidthsAhead};
-use layer_board::{Board, BoardSeat, CloseError};
 use order_model::{Crew, Gate};
-use solutions::{Setting, busy_workers, first_layer};
+use solutions::{Setting, first_layer};
 use std::alloc::{AllocError, Global};
-use std::thread;
 use std::thread::Threads;
-use subset_layers::{Cell, Costs, Layer};
+use subset_layers::{Costs, Layer};
 
-/// A worker's number, from 1, and its seat.
-#[derive(Drop)]
-struct Job {
-    worker: u8,
-    seat: BoardSeat,
-}
-
-/// Numbers the seats of a board.
-fn number_seats(alloc: Global, board: &Board, seats: Vec<BoardSeat>) -> Result<Vec<Job>, AllocError>
-    requires few { vec_len seats ≤ 64 }
-    requires seats { All (λ s. s.board ≡ board.now) seats.items }
-    ensures count { IfOk result (λ v. vec_len v ≡ vec_len seats) }
-    ensures seats { IfOk result (λ v. All (λ j. j.seat.board ≡ board.now) v.items) }
-{
-    let mut seats = seats;
-    let mut jobs = Vec::with_capacity(alloc, seats.len())?;
-    while let Some(seat) = seats.pop() {
-        let worker = seats.len() as u8 + 1;
-        jobs.push(Job { worker, seat })?;
-    }
-    Ok(jobs)
-}
-
-/// Does the jobs by threads of their own.
-fn do_jobs<'a, R: Threads + Sync, G: Gate>(
+/// The layer after those that are done. What its walks find ahead is added to what was before.
+fn next_layer<R: Threads + Sync, G: Gate>(
     crew: &Crew<'_, R, G>,
     alloc: Global,
-    board: &Board,
-    jobs: Vec<Job>,
-    context: &LayerContext<'a>,
-) -> Result<Vec<Result<WorkerResult<'a>, AllocError>>, AllocError>
-    requires seats { All (λ j. j.seat.board ≡ board.now) jobs.items }
-    requires setting { board.now.brief.setting ≡ context.now.setting }
-    requires layer { board.now.brief.layer ≡ context.now.layer }
-    ensures count { IfOk result (λ v. vec_len v ≡ vec_len jobs) }
-    ensures seats { IfOk result (λ v. All (λ r. IfOk r (λ e. e.seat.board ≡ board.now)) v.items) }
-{
-    let gate = crew.gate;
-    thread::map_vec(
-        crew.rt,
-        jobs,
-        &|job: Job| -> Result<WorkerResult<'_>, AllocError>
-            requires { IsSync G.row × (job.seat.board ≡ board.now)
-                × (board.now.brief.setting ≡ context.now.setting)
-                × (board.now.brief.layer ≡ context.now.layer) }
-            ensures { IfOk result (λ e. e.seat.board ≡ board.entry.now) }
-        {
-            let Job { worker, seat } = job;
-            work_layer(alloc, board, seat, worker, context, gate)
-        },
-    )
-}
-
-/// A seat of the workers, if none of them ran out of memory. What they found ahead goes to `found`.
-fn gather(
-    board: &Board,
-    ended: Vec<Result<WorkerResult<'_>, AllocError>>,
-    found: &mut WidthsAhead<'_>,
-) -> Result<BoardSeat, AllocError>
-    requires some { 1 ≤ vec_len ended }
-    requires seats { All (λ r. IfOk r (λ e. e.seat.board ≡ board.now)) ended.items }
-    requires found { found.old.problem ≡ board.now.brief.setting.problem }
-    ensures seat { IfOk result (λ s. s.board ≡ board.now) }
-    ensures found { OnOk result (found.new.problem ≡ found.old.problem) }
-{
-    let mut ended = ended;
-    let WorkerResult {
-        seat,
-        tally: _,
-        ahead: _,
-        found: first,
-    } = ended.pop().unwrap()?;
-    found.append(first)?;
-    while let Some(end) = ended.pop() {
-        found.append(end?.found)?;
-    }
-    Ok(seat)
-}
-
-/// Posts the cells of a layer by workers, and hands back a seat of theirs. What they find ahead
-/// goes to `found`.
-fn post_by_workers<R: Threads + Sync, G: Gate>(
-    crew: &Crew<'_, R, G>,
-    alloc: Global,
-    board: &Board,
-    seats: Vec<BoardSeat>,
-    context: &LayerContext<'_>,
-    found: &mut WidthsAhead<'_>,
-) -> Result<BoardSeat, AllocError>
-    requires some { 1 ≤ vec_len seats }
-    requires few { vec_len seats ≤ 64 }
-    requires seats { All (λ s. s.board ≡ board.now) seats.items }
-    requires setting { board.now.brief.setting ≡ context.now.setting }
-    requires layer { board.now.brief.layer ≡ context.now.layer }
-    requires found { found.old.problem ≡ context.now.setting.problem }
-    ensures seat { IfOk result (λ s. s.board ≡ board.now) }
-    ensures found { OnOk result (found.new.problem ≡ found.old.problem) }
-{
-    let jobs = number_seats(alloc, board, seats)?;
-    let ended = do_jobs(crew, alloc, board, jobs, context)?;
-    gather(board, ended, found)
-}
-
-/// The cells of a layer in its order, by workers. What they find ahead goes to `found`. If some
-/// cell is missing although none of them ran out of memory, the calling thread does the layer over
-/// alone, with widths from the same source.
-fn cells_of_layer<R: Threads + Sync, G: Gate>(
-    crew: &Crew<'_, R, G>,
-    alloc: Global,
-    context: &LayerContext<'_>,
-    found: &mut WidthsAhead<'_>,
-) -> Result<Vec<Cell>, AllocError>
-    requires { found.old.problem ≡ context.now.setting.problem }
-    ensures cells { IfOk result (λ v. AreCells context.now.setting (masks_of context.now.layer) v.items) }
-    ensures found { OnOk result (found.new.problem ≡ found.old.problem) }
-{
-    let setting = context.setting;
-    let (board, seats) = Board::new(
-        alloc,
-        setting.problem,
-        setting.limit,
-        context.layer,
-        busy_workers(setting, context.layer, crew.workers),
-        setting.pairs,
-    )?;
-    let seat = post_by_workers(crew, alloc, &board, seats, context, found)?;
-    match board.close(alloc, seat) {
-        Ok(cells) => Ok(cells),
-        Err((_, CloseError::Missing(_))) => cells_alone(alloc, context, found),
-        Err((_, CloseError::OutOfMemory)) => Err(AllocError),
-    }
-}
-
-/// A layer, and what its walks found ahead.
-#[derive(Drop)]
-pub(crate) struct NextLayer<'a> {
-    pub costs: Costs,
-    pub found: WidthsAhead<'a>,
-}
-
-impl<'a> NextLayer<'a> {
-    /// Adds the layer to those that are done, and what was found ahead to what was before.
-    pub(crate) fn add_to(
-        self,
-        layers: &mut Vec<Costs>,
-        ahead: &mut WidthsAhead<'_>,
-    ) -> Result<(), AllocError>
-        requires { self.found.problem ≡ ahead.old.problem }
-        ensures layers { OnOk result
-            (layers.new.items ≡ layers.old.items ++ self.entry.costs ∷ []) }
-        ensures ahead { OnOk result (ahead.new ≡ with_others ahead.old self.entry.found) }
-    {
-        ahead.append(self.found)?;
-        layers.push(self.costs)?;
-        Ok(())
-    }
-}
-
-/// The layer after those that are done.
-pub(crate) fn next_layer<'a, R: Threads + Sync, G: Gate>(
-    crew: &Crew<'_, R, G>,
-    alloc: Global,
-    setting: &Setting<'a>,
+    setting: &Setting<'_>,
     shared: &SharedTables<'_>,
-    ahead: &WidthsAhead<'_>,
+    ahead: &mut WidthsAhead<'_>,
     done: &[Costs],
-) -> Result<NextLayer<'a>, AllocError>
+) -> Result<Costs, AllocError>
     requires shared { shared.now ≡ setting.now.problem }
-    requires ahead { ahead.now.problem ≡ setting.now.problem }
+    requires ahead { ahead.old.problem ≡ setting.now.problem }
     requires done { AreDone setting.now done.now }
-    ensures layer { IfOk result (λ n. IsLayerFor setting.now (length done.now) n.costs) }
-    ensures found { IfOk result (λ n. n.found.problem ≡ setting.now.problem) }
+    ensures layer { IfOk result (IsLayerFor setting.now (length done.now)) }
+    ensures ahead { OnOk result (ahead.new.problem ≡ ahead.old.problem) }
 {
     let layer = Layer::of(alloc, setting.inputs(), done.len() as u8)?;
     let before = &done[done.len() - 1];
-    let source = WidthSource::new(shared, ahead, setting.pairs);
-    let context = LayerContext::new(setting, &layer, before).with_source(source);
     let mut found = WidthsAhead::up_to(alloc, setting.problem, 0);
+    let source = WidthSource::new(shared, ahead, setting.pairs);
+    let context = LayerContext::new(setting, &layer, before).with_source(&source);
     let cells = cells_of_layer(crew, alloc, &context, &mut found)?;
-    let costs = Costs::of(layer, cells);
-    Ok(NextLayer { costs, found })
+    ahead.append(found)?;
+    Ok(Costs::of(layer, cells))
 }
 
 /// The layers of all sets.
@@ -216,8 +52,8 @@ pub(crate) fn layers_of<R: Threads + Sync, G: Gate>(
     let mut layers = first_layer(alloc, setting)?;
     for _size in 0..setting.inputs() {
         ahead = look_ahead(alloc, setting, ahead, &layers);
-        let next = next_layer(crew, alloc, setting, &shared, &ahead, &layers)?;
-        next.add_to(&mut layers, &mut ahead)?;
+        let next = next_layer(crew, alloc, setting, &shared, &mut ahead, &layers)?;
+        layers.push(next)?;
     }
     Ok(layers)
 }

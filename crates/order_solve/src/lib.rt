@@ -4,6 +4,7 @@
 
 // The solver: the layers one after another, by workers or by the calling thread.
 mod alone;
+mod crews;
 mod layering;
 mod looking;
 mod preparing;

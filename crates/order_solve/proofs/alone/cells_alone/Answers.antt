@@ -1,11 +1,14 @@
-use Rattle.std.proofs.Common.{◌≡◌, List, length, slice_get, Some, sym, ap, ◌∙◌, subst, arith}
-use Rattle.subset_layers.specs.Layers.{LayerOf, blocks_of}
+use Rattle.std.proofs.Common.{◌≡◌, ℕ, List, map, length, slice_get, Some, sym, ap, ◌∙◌, subst, arith}
+use Rattle.subset_layers.specs.Layers.{LayerOf, blocks_of, block_masks, masks_of}
 use Rattle.subset_layers.specs.declared.costs.Cell.{Cell}
-use Rattle.layer_core.proofs.Layouts.{block_below}
+use Rattle.layer_core.specs.Pairing.{pair_of}
+use Rattle.layer_core.specs.Settings.{cell_for}
+use Rattle.layer_core.proofs.Layouts.{block_below, length-map_lem}
 use Rattle.order_solve.specs.LayerContexts.{ContextOf}
-use Rattle.order_solve.specs.Placed.{IsPlaced}
-use Rattle.order_solve.proofs.Claimed.{block_layer}
-use Rattle.order_solve.proofs.Placing.{few_block, blocks_more, written_back, all_placed}
+use Rattle.solutions.specs.LayerCosts.{AreCells}
+use Rattle.solutions.specs.Placed.{IsPlaced, StayPlaced, AreCellsPlaced}
+use Rattle.solutions.proofs.BlockPlaces.{block_layer}
+use Rattle.solutions.proofs.Placing.{few_block, blocks_more, written_back, all_placed}
 use Rattle.order_solve.proofs.alone.cells_alone.Goals as goal
 
 pub cells_of_block-requires-clause-layer : goal.cells_of_block-requires-clause-layer
@@ -17,11 +20,22 @@ cells_of_block-requires-clause-room c = grind (arith, block_layer, few_block)
 
 pub place_cells-requires-clause-layer : goal.place_cells-requires-clause-layer
 place_cells-requires-clause-layer c = block_layer c.context.inside.layer.now c.loop-place.place c.block-block.result c.block-block.ensures
-    ∙ ap (λ (z : ContextOf). z.layer) c.context.view_is
+
+pub place_cells-requires-clause-found : goal.place_cells-requires-clause-found
+place_cells-requires-clause-found c =
+    let masks = block_masks c.block-block.result in
+    ap length c.deref.ensures.value
+    ∙ (sym (length-map_lem pair_of c.in_ok-own.own.items) ∙ ap length c.in_ok-own.ensures.cells ∙ length-map_lem (cell_for c.args.context.now.setting) masks)
+
+pub place_cells-requires-clause-cells : goal.place_cells-requires-clause-cells
+place_cells-requires-clause-cells c =
+    ap length c.deref_mut.ensures.value ∙ c.loop-place.invariant.length_is
+    ∙ ap (λ (z : ContextOf). length (masks_of z.layer)) (sym c.context.view_is)
 
 pub loop-place-preserved : goal.loop-place-preserved
 loop-place-preserved c =
-    let b = c.args.context.now in
+    let t = c.args.context.now.setting in
+    let l = c.args.context.now.layer in
     let old = c.loop-place.cells.items in
     let new = c.place_cells.new.cells in
     let v = c.deref_mut.ensures.value in
@@ -30,12 +44,16 @@ loop-place-preserved c =
     let is = written_back new old c.loop-place.cells.len (let k = c.loop-place.cells.ok in omega (arith, long, k))
     (let k = c.loop-place.cells.ok in omega (arith, k)) in
     let same = ap (λ (z : ContextOf). z.layer) c.context.view_is in
+    let blk = c.block-block.result in
+    let are = subst (λ (cells : List Cell). AreCells t (block_masks blk) cells) (sym c.deref.ensures.value) c.in_ok-own.ensures.cells in
+    let stay = subst (λ (z : LayerOf). StayPlaced t z c.deref_mut.result.now new) same (e.kept t are) in
+    let put = subst (λ (z : LayerOf). AreCellsPlaced t z blk new) same (e.placed t are) in
     record {
       length_is = ap length is ∙ long ∙ c.loop-place.invariant.length_is;
-      placed = λ p lt low. subst (λ (cells : List Cell). IsPlaced b cells p) (sym is)
-          (blocks_more b c.loop-place.place c.block-block.result old new
-          (subst (λ (l : LayerOf). slice_get (blocks_of l) c.loop-place.place ≡ Some c.block-block.result) same c.block-block.ensures)
-          c.loop-place.invariant.placed (λ q h. e.kept q (subst (λ (cells : List Cell). IsPlaced b cells q) (sym v) h)) e.placed p lt low);
+      placed = λ p lt low. subst (λ (cells : List Cell). IsPlaced t l cells p) (sym is)
+          (blocks_more t l c.loop-place.place blk old new
+          (subst (λ (z : LayerOf). slice_get (blocks_of z) c.loop-place.place ≡ Some blk) same c.block-block.ensures)
+          c.loop-place.invariant.placed (λ q h. stay q (subst (λ (cells : List Cell). IsPlaced t l cells q) (sym v) h)) put p lt low);
       found = c.in_ok-own.ensures.counts.problem ∙ c.loop-place.invariant.found;
     }
 

@@ -1,8 +1,13 @@
-use Rattle.std.proofs.Common.{arith}
+use Rattle.std.proofs.Common.{sym, ap, ◌∙◌, arith}
 use Rattle.layer_core.proofs.Layouts.{length-map_lem}
 use Rattle.solutions.proofs.Wanted.{needed_sum}
-use Rattle.order_solve.proofs.Blocks.{are_members}
+use Rattle.order_solve.specs.LayerContexts.{ContextOf}
+use Rattle.order_solve.proofs.Blocks.{are_members, own_layer}
 use Rattle.order_solve.proofs.cells.cells_of_block.Goals as goal
+
+pub needs_of_block-requires-clause-next : goal.needs_of_block-requires-clause-next
+needs_of_block-requires-clause-next c =
+    c.requires.layer ∙ ap (λ (b : ContextOf). b.layer) (sym c.context.view_is) ∙ own_layer _ c.context.invariant.0
 
 pub widths_of-requires-clause-asked : goal.widths_of-requires-clause-asked
 widths_of-requires-clause-asked c = grind (arith, length-map_lem, are_members)

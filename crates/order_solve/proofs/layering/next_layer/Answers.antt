@@ -4,22 +4,19 @@ use Rattle.subset_layers.specs.Layers.{layer_with, masks_of}
 use Rattle.layer_core.specs.Settings.{cell_for}
 use Rattle.layer_core.proofs.Layouts.{length-map_lem}
 use Rattle.order_solve.specs.LayerContexts.{ContextOf}
-use Rattle.order_solve.proofs.Placing.{layer_is}
+use Rattle.solutions.proofs.Placing.{layer_is}
 use Rattle.order_solve.proofs.layering.next_layer.Goals as goal
 
 pub new-requires : goal.new-requires
 new-requires g c = grind (arith, slice_get_read)
 
-pub of-costs-requires-clause-cells : goal.of-costs-requires-clause-cells
-of-costs-requires-clause-cells g c = grind (arith, length-map_lem)
-
 pub returns-clause-layer : goal.returns-clause-layer
 returns-clause-layer g c =
     let t = c.args.setting.now in
     let size = length c.args.done.now in
-    layer_is t size c.in_ok-layer.layer c.in_ok-cells.cells.items c.of-costs.result
-    (c.in_ok-layer.ensures ∙ ap (λ n. layer_with n size) c.inputs.ensures.value) c.of-costs.ensures.value
+    layer_is t size c.in_ok-layer.layer c.in_ok-cells.cells.items c.of-2.result
+    (c.in_ok-layer.ensures ∙ ap (λ n. layer_with n size) c.inputs.ensures.value) c.of-2.ensures.value
     (c.in_ok-cells.ensures.cells
     ∙ (ap (λ (b : ContextOf). map (cell_for b.setting) (masks_of b.layer)) c.with_source-context.ensures
     ∙ ap (λ (b : ContextOf). map (cell_for b.setting) (masks_of b.layer)) c.new.ensures))
-    c.of-costs.ensures.exact
+    c.of-2.ensures.exact

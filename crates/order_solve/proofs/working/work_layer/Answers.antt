@@ -7,7 +7,8 @@ use Rattle.solutions.specs.Needs.{widths_for}
 use Rattle.order_solve.specs.LayerContexts.{ContextOf}
 use Rattle.order_solve.specs.Gains.{IsPosted}
 use Rattle.order_solve.proofs.Posts.{no_more_stays}
-use Rattle.order_solve.proofs.Claimed.{block_layer, few_gained}
+use Rattle.solutions.proofs.BlockPlaces.{block_layer}
+use Rattle.order_solve.proofs.Claimed.{few_gained}
 use Rattle.order_solve.proofs.Rounds.{Working, working_none, working_stays, working_round, round_gains, claims_at, round_closes, few_room, few_round}
 use Rattle.order_solve.proofs.working.work_layer.Goals as goal
 

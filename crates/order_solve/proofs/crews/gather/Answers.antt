@@ -4,7 +4,7 @@ use Rattle.std.specs.declared.alloc.AllocError.{AllocError}
 use Rattle.layer_board.specs.Views.{BoardId}
 use Rattle.compaction.specs.Ahead.{AheadOf}
 use Rattle.order_solve.specs.declared.working.WorkerResult.{WorkerResult}
-use Rattle.order_solve.proofs.layering.gather.Goals as goal
+use Rattle.order_solve.proofs.crews.gather.Goals as goal
 
 -- a worker that ends well was at the board
 abbrev EndsAt : BoardId → Result WorkerResult AllocError → Type 0

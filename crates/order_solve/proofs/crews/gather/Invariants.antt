@@ -1,5 +1,5 @@
 use Rattle.std.proofs.Common.{◌≡◌, All, IfOk, vec_len}
-use Rattle.order_solve.proofs.layering.gather.Given as goal
+use Rattle.order_solve.proofs.crews.gather.Given as goal
 
 abbrev pub invariant-loop-end : goal.invariant-loop-end
 invariant-loop-end l = All (λ r. IfOk r (λ e. e.seat.board ≡ l.board)) l.ended.items × (l.found.problem ≡ l.board.brief.setting.problem)
