@@ -6,8 +6,9 @@ ghost use Rattle.solutions.specs.LayerCosts.{AreAllLayers, AreCells, AreDone, Is
 
 use crate::cells::cells_of_block;
 use crate::context::LayerContext;
+use crate::layering::add_layer;
 use crate::looking::look_ahead;
-use compaction::{SharedTables, Tallies, WidthSource, WidthsAhead};
+use compaction::{Preparation, Tallies, WidthSource, WidthsAhead};
 use solutions::{Setting, first_layer, place_cells};
 use std::alloc::{AllocError, Global};
 use subset_layers::{Cell, Costs, Layer};
@@ -38,41 +39,52 @@ pub(crate) fn cells_alone(
     Ok(cells)
 }
 
-/// The layer after those that are done. What its walks find ahead is added to what was before.
+/// The layer after those that are done. What its walks find ahead goes to `found`.
 fn next_layer_alone(
     alloc: Global,
     setting: &Setting<'_>,
-    shared: &SharedTables<'_>,
-    ahead: &mut WidthsAhead<'_>,
+    source: &WidthSource<'_>,
     done: &[Costs],
+    found: &mut WidthsAhead<'_>,
 ) -> Result<Costs, AllocError>
-    requires shared { shared.now ≡ setting.now.problem }
-    requires ahead { ahead.old.problem ≡ setting.now.problem }
+    requires source { source.now ≡ setting.now.problem }
     requires done { AreDone setting.now done.now }
+    requires found { found.old.problem ≡ setting.now.problem }
     ensures layer { IfOk result (IsLayerFor setting.now (length done.now)) }
-    ensures ahead { OnOk result (ahead.new.problem ≡ ahead.old.problem) }
+    ensures found { OnOk result (found.new.problem ≡ found.old.problem) }
 {
     let layer = Layer::of(alloc, setting.inputs(), done.len() as u8)?;
     let before = &done[done.len() - 1];
-    let mut found = WidthsAhead::up_to(alloc, setting.problem, 0);
-    let source = WidthSource::new(shared, ahead, setting.pairs);
-    let context = LayerContext::new(setting, &layer, before).with_source(&source);
-    let cells = cells_alone(alloc, &context, &mut found)?;
-    ahead.append(found)?;
+    let context = LayerContext::new(setting, &layer, before).with_source(source);
+    let cells = cells_alone(alloc, &context, found)?;
     Ok(Costs::of(layer, cells))
+}
+
+/// The layers of all sets, from what was prepared.
+fn layers_from(
+    alloc: Global,
+    setting: &Setting<'_>,
+    prepared: Preparation<'_>,
+) -> Result<Vec<Costs>, AllocError>
+    requires { prepared.problem ≡ setting.now.problem }
+    ensures { IfOk result (λ v. AreAllLayers setting.now v.items) }
+{
+    let (shared, mut ahead) = prepared.into_parts();
+    let mut layers = first_layer(alloc, setting)?;
+    for _size in 0..setting.inputs() {
+        ahead = look_ahead(alloc, setting, ahead, &layers);
+        let mut found = WidthsAhead::up_to(alloc, setting.problem, 0);
+        let source = WidthSource::new(&shared, &ahead, setting.pairs);
+        let next = next_layer_alone(alloc, setting, &source, &layers, &mut found)?;
+        add_layer(&mut layers, &mut ahead, next, found)?;
+    }
+    Ok(layers)
 }
 
 /// The layers of all sets.
 pub(crate) fn layers_alone(alloc: Global, setting: &Setting<'_>) -> Result<Vec<Costs>, AllocError>
     ensures { IfOk result (λ v. AreAllLayers setting.now v.items) }
 {
-    let shared = SharedTables::of(alloc, setting.problem)?;
-    let mut ahead = WidthsAhead::up_to(alloc, setting.problem, 0);
-    let mut layers = first_layer(alloc, setting)?;
-    for _size in 0..setting.inputs() {
-        ahead = look_ahead(alloc, setting, ahead, &layers);
-        let next = next_layer_alone(alloc, setting, &shared, &mut ahead, &layers)?;
-        layers.push(next)?;
-    }
-    Ok(layers)
+    let prepared = Preparation::of(alloc, setting.problem)?;
+    layers_from(alloc, setting, prepared)
 }

@@ -1,41 +1,54 @@
 //! The layers of all sets, one after another, by workers.
 
-ghost use Rattle.std.specs.Prelude.{◌≡◌, IfOk, OnOk, length};
+ghost use Rattle.std.specs.Prelude.{◌≡◌, ◌++◌, ◌∷◌, [], IfOk, OnOk, length};
 ghost use Rattle.solutions.specs.LayerCosts.{AreAllLayers, AreDone, IsLayerFor};
 
 use crate::context::LayerContext;
 use crate::crews::cells_of_layer;
 use crate::looking::look_ahead;
-use compaction::{Preparation, SharedTables, WidthSource, WidthsAhead};
+use compaction::{Preparation, WidthSource, WidthsAhead};
 use order_model::{Crew, Gate};
 use solutions::{Setting, first_layer};
 use std::alloc::{AllocError, Global};
 use std::thread::Threads;
 use subset_layers::{Costs, Layer};
 
-/// The layer after those that are done. What its walks find ahead is added to what was before.
+/// The layer after those that are done. What its walks find ahead goes to `found`.
 fn next_layer<R: Threads + Sync, G: Gate>(
     crew: &Crew<'_, R, G>,
     alloc: Global,
     setting: &Setting<'_>,
-    shared: &SharedTables<'_>,
-    ahead: &mut WidthsAhead<'_>,
+    source: &WidthSource<'_>,
     done: &[Costs],
+    found: &mut WidthsAhead<'_>,
 ) -> Result<Costs, AllocError>
-    requires shared { shared.now ≡ setting.now.problem }
-    requires ahead { ahead.old.problem ≡ setting.now.problem }
+    requires source { source.now ≡ setting.now.problem }
     requires done { AreDone setting.now done.now }
+    requires found { found.old.problem ≡ setting.now.problem }
     ensures layer { IfOk result (IsLayerFor setting.now (length done.now)) }
-    ensures ahead { OnOk result (ahead.new.problem ≡ ahead.old.problem) }
+    ensures found { OnOk result (found.new.problem ≡ found.old.problem) }
 {
     let layer = Layer::of(alloc, setting.inputs(), done.len() as u8)?;
     let before = &done[done.len() - 1];
-    let mut found = WidthsAhead::up_to(alloc, setting.problem, 0);
-    let source = WidthSource::new(shared, ahead, setting.pairs);
-    let context = LayerContext::new(setting, &layer, before).with_source(&source);
-    let cells = cells_of_layer(crew, alloc, &context, &mut found)?;
-    ahead.append(found)?;
+    let context = LayerContext::new(setting, &layer, before).with_source(source);
+    let cells = cells_of_layer(crew, alloc, &context, found)?;
     Ok(Costs::of(layer, cells))
+}
+
+/// Adds a layer to those that are done, and what was found ahead to what was before.
+pub(crate) fn add_layer(
+    layers: &mut Vec<Costs>,
+    ahead: &mut WidthsAhead<'_>,
+    next: Costs,
+    found: WidthsAhead<'_>,
+) -> Result<(), AllocError>
+    requires { found.problem ≡ ahead.old.problem }
+    ensures layers { OnOk result (layers.new.items ≡ layers.old.items ++ next ∷ []) }
+    ensures ahead { OnOk result (ahead.new.problem ≡ ahead.old.problem) }
+{
+    ahead.append(found)?;
+    layers.push(next)?;
+    Ok(())
 }
 
 /// The layers of all sets.
@@ -52,8 +65,10 @@ pub(crate) fn layers_of<R: Threads + Sync, G: Gate>(
     let mut layers = first_layer(alloc, setting)?;
     for _size in 0..setting.inputs() {
         ahead = look_ahead(alloc, setting, ahead, &layers);
-        let next = next_layer(crew, alloc, setting, &shared, &mut ahead, &layers)?;
-        layers.push(next)?;
+        let mut found = WidthsAhead::up_to(alloc, setting.problem, 0);
+        let source = WidthSource::new(&shared, &ahead, setting.pairs);
+        let next = next_layer(crew, alloc, setting, &source, &layers, &mut found)?;
+        add_layer(&mut layers, &mut ahead, next, found)?;
     }
     Ok(layers)
 }

@@ -3,8 +3,8 @@
 ghost use Rattle.std.specs.Prelude.{◌≡◌, IfOk};
 
 use compaction::Preparation;
-use order_model::{Limit, Pairs, Problem, Reserve, Workers};
-use solutions::{first_layers, pairs_to_keep};
+use order_model::{Limit, Pairs, Problem, Workers};
+use solutions::layers_to_prepare;
 use std::alloc::{AllocError, Global};
 use std::thread::Threads;
 
@@ -28,12 +28,7 @@ pub fn prepare<'a, R: Threads + Sync>(
         let prepared = Preparation::of(alloc, problem)?;
         return Ok(prepared);
     }
-    let asks_no_pairs = limit.reserve == Reserve::Widths && pairs.count() == 0;
-    let end = if asks_no_pairs && pairs_to_keep(alloc, problem, pairs)?.count() > 0 {
-        0
-    } else {
-        first_layers(problem, limit)
-    };
+    let end = layers_to_prepare(alloc, problem, pairs, limit)?;
     let prepared = Preparation::by_workers(rt, alloc, problem, pairs, end, workers)?;
     Ok(prepared)
 }

@@ -44,6 +44,22 @@ fn setting_of<'a>(
     Setting::new(problem, pairs, limit)
 }
 
+/// The first order of the fewest nodes that a search is for.
+fn optimum_for<R: Threads + Sync, G: Gate>(
+    crew: &Crew<'_, R, G>,
+    alloc: Global,
+    setting: &Setting<'_>,
+    prepared: Preparation<'_>,
+) -> Result<Optimum, AllocError>
+    requires bounded { IsBounded setting.now }
+    requires problem { prepared.problem ≡ setting.now.problem }
+    ensures { IfOk result (IsOptimumFor setting.now.problem setting.now.pairs.pairs) }
+{
+    let layers = layers_of(crew, alloc, setting, prepared)?;
+    let cells = AllCells::of_layers(setting, layers);
+    optimum_of(alloc, &cells)
+}
+
 /// The first order of the fewest nodes among those that keep the pairs of a sifted order of the
 /// same functions. The size of that order bounds the search, which counts on the nodes above a set
 /// that the set's widths ask for, and begins with what was prepared. The gate is called by the
@@ -64,9 +80,7 @@ pub fn find_optimum<R: Threads + Sync, G: Gate>(
     let problem = prepared.problem();
     let pairs = pairs_to_keep(alloc, problem, sifted.pairs())?;
     let setting = setting_of(problem, &sifted, &pairs, Reserve::Widths);
-    let layers = layers_of(&Crew::new(rt, workers, gate), alloc, &setting, prepared)?;
-    let cells = AllCells::of_layers(&setting, layers);
-    optimum_of(alloc, &cells)
+    optimum_for(&Crew::new(rt, workers, gate), alloc, &setting, prepared)
 }
 
 /// The same as `find_optimum`, by the calling thread alone.

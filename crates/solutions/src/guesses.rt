@@ -1,9 +1,11 @@
 //! What is likely of a search: it decides how the layers are searched, and not what is found.
 
-ghost use Rattle.std.specs.Prelude.{◌≤◌, length};
+ghost use Rattle.std.specs.Prelude.{◌≡◌, ◌≤◌, length};
 
 use crate::setting::Setting;
+use crate::symmetric::pairs_to_keep;
 use order_model::{Limit, Pairs, Problem, Reserve, Workers};
+use std::alloc::{AllocError, Global};
 use subset_layers::{Costs, Layer};
 
 /// One in so many entries of the truth tables is a node of a diagram that is as large as most.
@@ -11,7 +13,7 @@ const ENTRIES_A_NODE: u64 = 16;
 
 /// How many layers are searched together at first: all if a diagram of the functions is as large as
 /// most, since then hardly a set is clipped, else those most of whose sets are wanted.
-pub fn first_layers(problem: &Problem, limit: Limit) -> u8 {
+fn first_layers(problem: &Problem, limit: Limit) -> u8 {
     let entries = u64::from(problem.outputs()) << problem.inputs();
     if u64::from(limit.bound) >= entries / ENTRIES_A_NODE {
         return problem.inputs();
@@ -20,6 +22,24 @@ pub fn first_layers(problem: &Problem, limit: Limit) -> u8 {
         Reserve::Variables => 6,
         Reserve::Widths => 5,
     }
+}
+
+/// How many layers rows are found of before a bound is known, by the size of any diagram of the
+/// functions as the bound: none if the search keeps pairs of symmetric variables, since few sets
+/// are then left.
+pub fn layers_to_prepare(
+    alloc: Global,
+    problem: &Problem,
+    pairs: &Pairs,
+    limit: Limit,
+) -> Result<u8, AllocError>
+    requires { pairs.now.inputs ≡ problem.now.inputs }
+{
+    let asks_no_pairs = limit.reserve == Reserve::Widths && pairs.count() == 0;
+    if asks_no_pairs && pairs_to_keep(alloc, problem, pairs)?.count() > 0 {
+        return Ok(0);
+    }
+    Ok(first_layers(problem, limit))
 }
 
 /// One in so many sets is asked for its cost.

@@ -20,7 +20,7 @@ mod reading;
 mod solution;
 
 pub use all_cells::AllCells;
-pub use guesses::{busy_workers, first_layers, likely_end};
+pub use guesses::{busy_workers, layers_to_prepare, likely_end};
 pub use making::{first_layer, place_cells};
 pub use needs::needs_of_block;
 pub use optima::{optimum_of, solution_of};

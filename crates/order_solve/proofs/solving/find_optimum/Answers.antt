@@ -1,10 +1,9 @@
-use Rattle.std.proofs.Common.{List, IfOk, subst}
+use Rattle.std.proofs.Common.{List, subst}
 use Rattle.std.proofs.lemmas.Result.{IfOk-weaker}
 use Rattle.order_model.specs.KeptPairs.{KeptPairs}
 use Rattle.order_model.specs.Pairs.{Pair}
 use Rattle.order_model.specs.Problems.{TruthTables, functions}
 use Rattle.symmetries.specs.SymmetricPairs.{IsHarmless}
-use Rattle.layer_core.specs.Settings.{Setting}
 use Rattle.solutions.specs.Solutions.{IsOptimumFor}
 use Rattle.solutions.proofs.Harmless.{optimum_harmless}
 use Rattle.order_solve.proofs.solving.find_optimum.Goals as goal
@@ -16,10 +15,7 @@ returns g c =
     let Q = c.in_ok-pairs.pairs.pairs in
     let setting = c.setting_of-setting.ensures in
     let harmless = subst (λ (R : List Pair). IsHarmless t.inputs (functions t) R Q) c.pairs.ensures.value c.in_ok-pairs.ensures.harmless in
-    let best =
-    subst (λ (z : Setting). IfOk c.optimum_of.result (IsOptimumFor z.problem z.pairs.pairs)) c.of_layers-cells.ensures
-    c.optimum_of.ensures.optimum in
-    IfOk-weaker c.optimum_of.result _ _ (λ o found. subst (λ (u : TruthTables). IsOptimumFor u P o) c.problem-problem.ensures
+    IfOk-weaker c.optimum_for.result _ _ (λ o found. subst (λ (u : TruthTables). IsOptimumFor u P o) c.problem-problem.ensures
     (optimum_harmless t P Q o harmless
     (subst (λ (u : TruthTables). IsOptimumFor u Q o) setting.problem
-    (subst (λ (k : KeptPairs). IsOptimumFor c.setting_of-setting.result.problem k.pairs o) setting.pairs found)))) best
+    (subst (λ (k : KeptPairs). IsOptimumFor c.setting_of-setting.result.problem k.pairs o) setting.pairs found)))) c.optimum_for.ensures

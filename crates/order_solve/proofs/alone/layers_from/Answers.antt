@@ -3,7 +3,7 @@ use Rattle.subset_layers.specs.Costs.{CostsOf}
 use Rattle.layer_core.specs.Settings.{Setting}
 use Rattle.solutions.specs.LayerCosts.{IsLayerFor, AreLayersFor, AreDone}
 use Rattle.solutions.proofs.Layers.{layers_push}
-use Rattle.order_solve.proofs.alone.layers_alone.Goals as goal
+use Rattle.order_solve.proofs.alone.layers_from.Goals as goal
 
 -- the layers that a slice of them has
 done : (t : Setting) (layers items : List CostsOf) (size end : ℕ) → items ≡ layers → length layers ≡ size + 1 → AreLayersFor t layers →
@@ -28,12 +28,12 @@ loop-size-preserved c =
     let t = c.args.setting.now in
     let items = c.loop-size.layers.items in
     let costs = c.in_ok-next.next in
-    let is = c.in_ok-push.ensures.items in
+    let is = c.in_ok-add_layer.ensures.layers in
     record {
       many = ap length is ∙ length-append items (costs ∷ []) ∙ ap (λ n. n + 1) c.loop-size.invariant.many;
       layers_are =
           λ k d at. layers_push t items costs c.loop-size.invariant.layers_are
           (subst (λ (n : ℕ). IsLayerFor t n costs) (ap length c.deref-in-loop-size.ensures.value) c.in_ok-next.ensures.layer) k d
           (ap (λ (xs : List CostsOf). slice_get xs k) (sym is) ∙ at);
-      ahead = c.in_ok-next.ensures.ahead ∙ c.look_ahead-ahead.ensures ∙ c.loop-size.invariant.ahead;
+      ahead = c.in_ok-add_layer.ensures.ahead ∙ c.look_ahead-ahead.ensures ∙ c.loop-size.invariant.ahead;
     }
