@@ -2,9 +2,8 @@
 --     in_layer      a set of the block is in the layer after the costs'
 --     are_members      the widths that are needed
 --     cell_is      the cell of a set
-use Rattle.std.proofs.Common.{◌≡◌, ℕ, ◌+◌, true, cond, List, [], map, get_or, slice_get, slice_index, Some, sym, ap, ◌∙◌, subst, arith, eqb, eq-eqb}
+use Rattle.std.proofs.Common.{◌≡◌, ℕ, ◌+◌, true, cond, List, [], map, get_or, slice_get, slice_index, Some, sym, ap, ◌∙◌, subst, arith, eq-eqb}
 use Rattle.std.specs.Int.{bit_at}
-use Rattle.std.proofs.lemmas.Bool.{and_parts}
 use Rattle.std.proofs.lemmas.List.{get_or-map}
 use Rattle.std.proofs.lemmas.Option.{slice_get_within, get_or_from_slice_get}
 use Rattle.order_model.specs.Functions.{Function}
@@ -14,11 +13,9 @@ use Rattle.order_model.specs.Problems.{TruthTables, functions}
 use Rattle.order_model.specs.Widths.{width}
 use Rattle.order_model.specs.Reserves.{ReservesOf}
 use Rattle.order_model.specs.Cells.{asked, wanted, cell_of}
-use Rattle.order_model.proofs.Lists.Orders.{has_filter}
 use Rattle.order_model.proofs.Bits.Masks.{members_small}
-use Rattle.subset_layers.specs.Layers.{LayerOf, BlockOf, layer_of, layer_with, masks_of, block_masks, low_byte}
+use Rattle.subset_layers.specs.Layers.{LayerOf, BlockOf, layer_of, layer_with, masks_of, block_masks}
 use Rattle.subset_layers.specs.Costs.{CostsOf, cost_without, AreTrueCosts, AreWidthsFor, IsCellOnce}
-use Rattle.subset_layers.proofs.BlockLists.{has_slice_get}
 use Rattle.layer_core.specs.Settings.{Setting, cell_for}
 use Rattle.compaction.specs.Rows.{width_wanted, IsWidthRow, AreMembers, AreWidthRows}
 use Rattle.solutions.specs.Settings.{HoldsSetting}

@@ -3,16 +3,14 @@
 --     ClaimsBlock s s' p b      the seat claimed the block at a place
 --     claim_gains      the widths of the sets that it gained
 --     open_marks, fewer_open      how many blocks are not claimed
-use Rattle.std.proofs.Common.{◌≡◌, ◌≢◌, ℕ, zero, suc, ◌+◌, ◌*◌, ◌^◌, ◌<◌, ◌≤◌, Bool, true, false, not, cond, ◌&&◌, List, [], ◌∷◌, set, get_or, length, slice_get, Some, refl, sym, ap, ap₂, ◌∙◌, subst, arith, nat_eq, eqb-true, eq-eqb, get_or-set_other}
-use Rattle.std.specs.List.{filter, list_any, sum_by, IsDistinct, range_with_len}
+use Rattle.std.proofs.Common.{◌≡◌, ◌≢◌, ℕ, zero, suc, ◌+◌, ◌*◌, ◌^◌, ◌<◌, ◌≤◌, Bool, true, false, not, cond, ◌&&◌, List, [], ◌∷◌, set, get_or, slice_get, Some, refl, sym, ap, ap₂, ◌∙◌, subst, arith, nat_eq, eqb-true, eq-eqb, get_or-set_other}
+use Rattle.std.specs.List.{filter, sum_by}
 use Rattle.std.proofs.lemmas.Bool.{false≢true, true≢false, cases_Bool, and_from, and_left, or_right, false_from_ne_true}
 use Rattle.std.proofs.lemmas.List.Sums.{sum_by-cons, sum-map}
-use Rattle.std.proofs.lemmas.Option.{slice_get_within, slice_get-get_or, same_Some}
+use Rattle.std.proofs.lemmas.Option.{slice_get-get_or}
 use Rattle.order_model.specs.Orders.{has, place_in}
-use Rattle.order_model.proofs.Lists.Orders.{place_get, place_at, has_at, place_small}
-use Rattle.order_model.proofs.Widths.Recurrence.{distinct_filter, distinct_variables}
-use Rattle.subset_layers.specs.Layers.{LayerOf, BlockOf, layer_of, block_of, masks_of, block_masks, blocks_of, low_bytes, low_byte, block_place}
-use Rattle.subset_layers.proofs.BlockLists.{low_bytes_has, blocks_length, block_at as block_there, slice_get_at}
+use Rattle.order_model.proofs.Lists.Orders.{place_at, has_at, place_small}
+use Rattle.subset_layers.specs.Layers.{LayerOf, BlockOf, layer_of, masks_of, block_masks, blocks_of, low_bytes, low_byte, block_place}
 use Rattle.layer_core.specs.Machine.{claimed, claims_block}
 use Rattle.layer_core.specs.Settings.{Setting}
 use Rattle.layer_board.specs.Views.{BoardId, SeatOf, stepped, claims_place, has_claimed}

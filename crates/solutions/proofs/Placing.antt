@@ -4,13 +4,13 @@
 --     few_block      how many widths the sets of a block take
 --     PlacesFirst, places_more, places_skip, places_all, blocks_more      the masks of a block in turn, and the blocks
 --     all_placed, layer_is      the list once all are there, and the costs of the layer
-use Rattle.std.proofs.Common.{◌≡◌, ℕ, zero, suc, ◌+◌, ◌*◌, ◌^◌, ◌<◌, ◌≤◌, inl, inr, true, List, [], ◌∷◌, map, set, get_or, length, slice_get, slice_index, Some, eq-eqb, false, take, drop, ◌++◌, length-set, refl, sym, ap, ap₂, ◌∙◌, subst, arith, get_or-set_same, get_or-set_other}
-use Rattle.std.proofs.lemmas.Bool.{false≢true, cases_eq, and_from}
+use Rattle.std.proofs.Common.{◌≡◌, ℕ, zero, suc, ◌+◌, ◌*◌, ◌^◌, ◌<◌, ◌≤◌, inl, inr, true, List, [], ◌∷◌, map, set, get_or, length, slice_get, slice_index, Some, false, take, drop, ◌++◌, length-set, refl, sym, ap, ap₂, ◌∙◌, subst, arith, get_or-set_same, get_or-set_other}
+use Rattle.std.proofs.lemmas.Bool.{false≢true, cases_eq}
 use Rattle.std.proofs.lemmas.List.{get_or-map}
 use Rattle.std.proofs.lemmas.List.Sums.{sum-map}
 use Rattle.std.proofs.lemmas.Option.{slice_get_within, get_or_from_slice_get}
-use Rattle.order_model.specs.Orders.{has, place_in}
-use Rattle.order_model.proofs.Lists.Orders.{has_at, has_filter, place_get}
+use Rattle.order_model.specs.Orders.{has}
+use Rattle.order_model.proofs.Lists.Orders.{has_at}
 use Rattle.order_model.specs.declared.reserve.Reserve.{Reserve}
 use Rattle.subset_layers.specs.declared.costs.Cell.{Cell}
 use Rattle.order_model.specs.Functions.{Function}
@@ -21,7 +21,6 @@ use Rattle.subset_layers.specs.Layers.{LayerOf, layer_with, BlockOf, masks_of, b
 use Rattle.layer_core.specs.Settings.{Setting, cell_for}
 use Rattle.layer_core.specs.Pairing.{pair_of}
 use Rattle.layer_core.proofs.Layouts.{length-map_lem, few_masks_in}
-use Rattle.subset_layers.proofs.CostLists.{distinct_masks}
 use Rattle.solutions.specs.LayerCosts.{IsLayerFor}
 use Rattle.solutions.specs.Needs.{widths_for}
 use Rattle.solutions.specs.FlatCells.{no_cell}

@@ -1,4 +1,4 @@
-use Rattle.std.proofs.Common.{◌≡◌, ℕ, List, map, length, slice_get, Some, sym, ap, ◌∙◌, subst, arith}
+use Rattle.std.proofs.Common.{◌≡◌, List, length, slice_get, Some, sym, ap, ◌∙◌, subst, arith}
 use Rattle.subset_layers.specs.Layers.{LayerOf, blocks_of, block_masks, masks_of}
 use Rattle.subset_layers.specs.declared.costs.Cell.{Cell}
 use Rattle.layer_core.specs.Pairing.{pair_of}

@@ -2,7 +2,6 @@ use Rattle.std.proofs.Common.{map, length, ap, ◌∙◌, arith}
 use Rattle.std.proofs.lemmas.Option.{slice_get_read}
 use Rattle.subset_layers.specs.Layers.{layer_with, masks_of}
 use Rattle.layer_core.specs.Settings.{cell_for}
-use Rattle.layer_core.proofs.Layouts.{length-map_lem}
 use Rattle.order_solve.specs.LayerContexts.{ContextOf}
 use Rattle.solutions.proofs.Placing.{layer_is}
 use Rattle.order_solve.proofs.layering.next_layer.Goals as goal
