@@ -11,7 +11,8 @@ use Rattle.std.proofs.Math.ListN.{get_or-eq_default}
 use Rattle.std.proofs.lemmas.Bool.{cases_eq, cases_lt}
 use Rattle.std.proofs.lemmas.List.{get_or-replicate, get_or-set_same, get_or-set_other, length-replicate, length-set, length-take, take-set, take_more_set}
 use Rattle.subfunction_classes.specs.Numbering.{IsFirstOccurrence}
-use Rattle.pair_numbering.specs.Slots.{AreLone, Counted, Found, IsSlot, Slotted, slot_number}
+use Rattle.pair_numbering.specs.LowerClasses.{AreLone, Counted}
+use Rattle.pair_numbering.specs.Slots.{Found, IsSlot, Slotted, slot_number}
 use Rattle.subfunction_classes.specs.Made.{Made}
 use Rattle.subfunction_classes.proofs.Firsts.{made_none, made_first, made_again}
 

@@ -4,3 +4,4 @@ pub mod Keys
 pub mod Numbers
 pub mod Slots
 pub mod Strips
+pub mod LowerClasses

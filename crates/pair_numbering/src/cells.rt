@@ -8,8 +8,8 @@ ghost use Rattle.pair_numbering.specs.Cells.{AreCelled};
 use crate::entries::{Block, EntryPairs};
 use crate::masks::MaskedPairs;
 use crate::numbering::Numbered;
-use subfunction_classes::join_mask;
 use std::alloc::{AllocError, Global};
+use subfunction_classes::join_mask;
 
 /// A cell of 16 bits is 0 or one more than a number, so there are no more numbers than these.
 const MOST_NUMBERS: usize = 65_535;

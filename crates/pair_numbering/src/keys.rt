@@ -10,8 +10,8 @@ ghost use Rattle.pair_numbering.specs.Strips.{AreNamed, names_of, unrolled};
 
 use crate::entries::{Block, EntryPairs};
 use crate::numbering::number_with_masks;
-use subfunction_classes::join_mask;
 use std::alloc::{AllocError, Global};
+use subfunction_classes::join_mask;
 
 /// Pairs of more keys than these are numbered by first occurrence.
 const MOST_JOINED: usize = 16;

@@ -7,6 +7,7 @@ mod cells;
 mod chains;
 mod entries;
 mod keys;
+mod lower_classes;
 mod masks;
 mod numbering;
 mod slots;

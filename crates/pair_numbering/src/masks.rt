@@ -5,8 +5,8 @@ ghost use Rattle.subfunction_classes.specs.Dependence.{joined_mask};
 ghost use Rattle.pair_numbering.specs.Numbers.{ArePairsBelow};
 
 use crate::entries::EntryPairs;
-use subfunction_classes::join_mask;
 use std::alloc::{AllocError, Global};
+use subfunction_classes::join_mask;
 
 /// The pairs of a class table's entries that differ in variable `x`, and the mask of each class.
 #[derive(Drop)]

@@ -2,12 +2,12 @@
 //! lower class no other pair has is new, and takes no slot.
 
 ghost use Rattle.std.specs.Prelude.{◌≡◌, ℕ, ◌+◌, ◌*◌, ◌/◌, ◌^◌, ◌<◌, ◌≤◌, length, slice_index, take, IfOk, IfSome};
-ghost use Rattle.pair_numbering.specs.Slots.{AreCounted, AreLone, AreSlotted, IsSlot, home_of};
-ghost use Rattle.subfunction_classes.specs.PairTables.{AllBelow, IsPairTable};
-ghost use Rattle.subfunction_classes.specs.Places as places;
+ghost use Rattle.pair_numbering.specs.Slots.{AreSlotted, IsSlot, home_of};
+ghost use Rattle.subfunction_classes.specs.PairTables.{IsPairTable};
 ghost use Rattle.pair_numbering.specs.Numbers.{ArePairsNumbered};
 
 use crate::entries::{Block, EntryPairs};
+use crate::lower_classes::{CountedPairs, count_lowers};
 use crate::numbering::NumberedPairs;
 use std::alloc::{AllocError, Global};
 
@@ -49,74 +49,33 @@ fn find_slot(
     None
 }
 
-/// How many pairs of a block have each lower class, added to those before: none, one or more.
-#[inline(always)]
-fn count_block(entries: &EntryPairs<'_>, block: usize, counts: &mut [u8])
-    requires few { length entries.now.numbers ≤ 2 ^ 20 }
-    requires block { block < length entries.now.numbers / 2 / 2 ^ entries.now.rank }
-    requires classes { AllBelow entries.now.numbers (length counts.old) }
-    requires before { AreCounted entries.now block counts.old }
-    ensures long { length counts.new ≡ length counts.old }
-    ensures counted { AreCounted entries.now (block + 1) counts.new }
-{
-    let step = 1usize << entries.rank();
-    let low = entries.block(block).low;
-    for i in 0..step {
-        let lower = low[i] as usize;
-        counts[lower] = if counts[lower] == 0 { 1 } else { 2 };
-    }
-}
-
-/// How many pairs have each lower class: none, one, or more, for which 2 stands. They are counted
-/// if there are more classes than pairs, since many are then those of one pair; else 0 stands for
-/// each.
-fn count_lowers(
-    alloc: Global,
-    entries: &EntryPairs<'_>,
-    classes: usize,
-) -> Result<Vec<u8>, AllocError>
-    requires table { IsPairTable entries.now.numbers entries.now.rank classes }
-    ensures long { IfOk result (λ v. length v.items ≡ classes) }
-    ensures lone { IfOk result (λ v.
-        AreLone (places.pairs entries.now.numbers (2 ^ entries.now.rank)) v.items) }
-{
-    let mut counts = vec![in alloc; 0u8; classes]?;
-    if classes > entries.len() {
-        for block in 0..entries.len() >> entries.rank() {
-            count_block(entries, block, &mut counts);
-        }
-    }
-    Ok(counts)
-}
-
 /// Numbers the pairs of a block. The answer is how many numbers there are then; nothing if a pair
 /// finds no slot.
 #[inline(always)]
 fn number_block(
-    entries: &EntryPairs<'_>,
+    pairs: &CountedPairs<'_>,
     block: usize,
-    counts: &[u8],
     slots: &mut [u16],
     keys: &mut [(u32, u32)],
     out: &mut [u32],
     count: u32,
 ) -> Option<u32>
-    requires few { length entries.now.numbers ≤ 2 ^ 16 }
-    requires block { block < length entries.now.numbers / 2 / 2 ^ entries.now.rank }
-    requires classes { AllBelow entries.now.numbers (length counts.now) }
-    requires before { AreSlotted entries.now block counts.now slots.old keys.old out.old count }
+    requires few { length pairs.now.entries.now.numbers ≤ 2 ^ 16 }
+    requires block { block <
+        length pairs.now.entries.now.numbers / 2 / 2 ^ pairs.now.entries.now.rank }
+    requires before { AreSlotted pairs.now block slots.old keys.old out.old count }
     ensures { IfSome result
-        (λ more. AreSlotted entries.now (block + 1) counts.now slots.new keys.new out.new more) }
+        (λ more. AreSlotted pairs.now (block + 1) slots.new keys.new out.new more) }
 {
     let homes = slots.len() - TRIES;
-    let step = 1usize << entries.rank();
-    let Block { low, high } = entries.block(block);
+    let step = 1usize << pairs.entries.rank();
+    let Block { low, high } = pairs.entries.block(block);
     let mut count = count;
     for i in 0..step {
         let pair = (low[i], high[i]);
         keys[count as usize] = pair;
         let mut number = count;
-        if counts[pair.0 as usize] != 1 {
+        if pairs.counts[pair.0 as usize] != 1 {
             let at = find_slot(slots, keys, count, pair, home(homes, pair))?;
             number = u32::from(slots[at]).min(count);
             slots[at] = number as u16;
@@ -133,26 +92,23 @@ fn number_block(
 /// there are; nothing if a pair finds no slot.
 #[inline(always)]
 fn number_blocks(
-    entries: &EntryPairs<'_>,
-    counts: &[u8],
+    pairs: &CountedPairs<'_>,
     slots: &mut [u16],
     keys: &mut [(u32, u32)],
     out: &mut [u32],
 ) -> Option<u32>
-    requires few { length entries.now.numbers ≤ 2 ^ 16 }
-    requires classes { AllBelow entries.now.numbers (length counts.now) }
-    requires lone { AreLone (places.pairs entries.now.numbers (2 ^ entries.now.rank)) counts.now }
-    requires slots { length slots.old ≡ 4 * (length entries.now.numbers / 2) + 64 }
+    requires few { length pairs.now.entries.now.numbers ≤ 2 ^ 16 }
+    requires slots { length slots.old ≡ 4 * (length pairs.now.entries.now.numbers / 2) + 64 }
     requires free { (t : ℕ) → t < length slots.old →
-        slice_index slots.old t ≡ length entries.now.numbers / 2 }
-    requires keys { length keys.old ≡ length entries.now.numbers / 2 }
-    requires out { length out.old ≡ length entries.now.numbers / 2 }
-    ensures { IfSome result (λ count. ArePairsNumbered entries.now.numbers entries.now.rank
-        out.new (take count keys.new)) }
+        slice_index slots.old t ≡ length pairs.now.entries.now.numbers / 2 }
+    requires keys { length keys.old ≡ length pairs.now.entries.now.numbers / 2 }
+    requires out { length out.old ≡ length pairs.now.entries.now.numbers / 2 }
+    ensures { IfSome result (λ count. ArePairsNumbered pairs.now.entries.now.numbers
+        pairs.now.entries.now.rank out.new (take count keys.new)) }
 {
     let mut count = 0u32;
-    for block in 0..entries.len() >> entries.rank() {
-        count = number_block(entries, block, counts, slots, keys, out, count)?;
+    for block in 0..pairs.entries.len() >> pairs.entries.rank() {
+        count = number_block(pairs, block, slots, keys, out, count)?;
     }
     Some(count)
 }
@@ -181,7 +137,11 @@ pub(crate) fn number_pairs_by_slots(
     let mut slots = vec![in alloc; half as u16; 4 * half + TRIES]?;
     let mut keys = vec![in alloc; (0u32, 0u32); half]?;
     let mut out = vec![in alloc; 0u32; half]?;
-    let Some(count) = number_blocks(entries, &counts, &mut slots, &mut keys, &mut out) else {
+    let pairs = CountedPairs {
+        entries,
+        counts: &counts,
+    };
+    let Some(count) = number_blocks(&pairs, &mut slots, &mut keys, &mut out) else {
         return Ok(None);
     };
     keys.truncate(count as usize);

@@ -50,10 +50,10 @@ loop-i-preserved c =
             few = omega (arith, v.count-is, c.loop-i.invariant.few);
           }
       | else-next-eq0 v ↦ record {
-          fronted = rw (e, v.cells-is, v.joined-is, v.count-is, v.next-is, c.from-next.ensures)
-              (fronted_old c.requires.table c.loop-i.invariant.fronted w is (λ z. v.if-next-eq0.false (c.from-next.ensures ∙ z)));
-          few = omega (arith, v.count-is, c.loop-i.invariant.few);
-        }
+        fronted = rw (e, v.cells-is, v.joined-is, v.count-is, v.next-is, c.from-next.ensures)
+            (fronted_old c.requires.table c.loop-i.invariant.fronted w is (λ z. v.if-next-eq0.false (c.from-next.ensures ∙ z)));
+        few = omega (arith, v.count-is, c.loop-i.invariant.few);
+      }
     ]
 
 pub returns : goal.returns

@@ -43,19 +43,19 @@ loop-i-preserved c =
     elim c.if-next-eq0.branch [
       | then-next-eq0 v ↦ elim c.if-next-eq0-2.branch [
         | then-next-eq0-2 u ↦ record {
-            fronted = rw (e, v.number-is, u.count-is)
-                (fronted_new c.requires.table c.loop-i.invariant.fronted w is c.join_mask.result c.join_mask.ensures (sym c.from-next.ensures ∙ v.if-next-eq0.true));
-            few = omega (arith, u.count-is, c.loop-i.invariant.few);
-          }
+          fronted = rw (e, v.number-is, u.count-is)
+              (fronted_new c.requires.table c.loop-i.invariant.fronted w is c.join_mask.result c.join_mask.ensures (sym c.from-next.ensures ∙ v.if-next-eq0.true));
+          few = omega (arith, u.count-is, c.loop-i.invariant.few);
+        }
         | else-next-eq0-2 u ↦ absurd (u.if-next-eq0-2.false v.if-next-eq0.true)
       ]
       | else-next-eq0 v ↦ elim c.if-next-eq0-2.branch [
         | then-next-eq0-2 u ↦ absurd (v.if-next-eq0.false u.if-next-eq0-2.true)
         | else-next-eq0-2 u ↦ record {
-            fronted = rw (e, v.number-is, u.count-is, c.from-next.ensures)
-                (fronted_again c.requires.table c.loop-i.invariant.fronted w is c.join_mask.result (λ z. v.if-next-eq0.false (c.from-next.ensures ∙ z)));
-            few = omega (arith, u.count-is, c.loop-i.invariant.few);
-          }
+          fronted = rw (e, v.number-is, u.count-is, c.from-next.ensures)
+              (fronted_again c.requires.table c.loop-i.invariant.fronted w is c.join_mask.result (λ z. v.if-next-eq0.false (c.from-next.ensures ∙ z)));
+          few = omega (arith, u.count-is, c.loop-i.invariant.few);
+        }
       ]
     ]
 

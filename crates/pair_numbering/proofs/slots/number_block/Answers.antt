@@ -7,11 +7,11 @@ use Rattle.subfunction_classes.proofs.Index.{length-pairs}
 use Rattle.pair_numbering.proofs.InBlocks.{in_step, listed_inside, place_is, step_is}
 use Rattle.pair_numbering.proofs.SlotSteps.{slotted_lone, slotted_new, slotted_old}
 use Rattle.pair_numbering.proofs.slots.number_block.Goals as goal
-use Rattle.pair_numbering.proofs.slots.number_block.Goals.{then-counts-pair-ne1+in_ok-at, else-counts-pair-ne1, then-number-count, else-number-count}
+use Rattle.pair_numbering.proofs.slots.number_block.Goals.{then-pairs-pair-ne1+in_ok-at, else-pairs-pair-ne1, then-number-count, else-number-count}
 
 pub loop-i-init : goal.loop-i-init
 loop-i-init c =
-    let e : c.args.block * 2 ^ c.args.entries.now.rank + 0 ≡ c.args.block * 2 ^ c.args.entries.now.rank = omega arith in
+    let e : c.args.block * 2 ^ c.args.pairs.now.entries.now.rank + 0 ≡ c.args.block * 2 ^ c.args.pairs.now.entries.now.rank = omega arith in
     rw e c.requires.before
 
 -- so many homes there are
@@ -39,11 +39,11 @@ pub home-requires-clause-some : goal.home-requires-clause-some
 home-requires-clause-some c =
     let w = in_step c.rank.ensures.paired c.rank.ensures.rank c.requires.block c.loop-i-test.true in
     let small = listed_inside c.rank.ensures.paired w in
-    some_homes c.args.entries.now.numbers (2 ^ c.args.entries.now.rank) (length c.args.slots.now) _ c.requires.before.room small
+    some_homes c.args.pairs.now.entries.now.numbers (2 ^ c.args.pairs.now.entries.now.rank) (length c.args.slots.now) _ c.requires.before.room small
 
 pub home-requires-clause-few : goal.home-requires-clause-few
 home-requires-clause-few c =
-    few_homes c.args.entries.now.numbers (2 ^ c.args.entries.now.rank) (length c.args.slots.now) c.requires.before.room c.requires.few
+    few_homes c.args.pairs.now.entries.now.numbers (2 ^ c.args.pairs.now.entries.now.rank) (length c.args.slots.now) c.requires.before.room c.requires.few
 
 pub find_slot-requires-clause-keys : goal.find_slot-requires-clause-keys
 find_slot-requires-clause-keys c = search (in_step, listed_inside, length-set, count_inside)
@@ -54,23 +54,23 @@ bounds-out-block c =
     let e = place_is c.rank.ensures.paired c.args.block c.loop-i.i c.rank.ensures.rank in
     subst (λ z. z) (λ i. sym e i < sym c.loop-i.invariant.made.long i) (listed_inside c.rank.ensures.paired w)
 
-pub bounds-counts-pair : goal.bounds-counts-pair
-bounds-counts-pair c =
+pub bounds-pairs-pair : goal.bounds-pairs-pair
+bounds-pairs-pair c =
     let w = in_step c.rank.ensures.paired c.rank.ensures.rank c.requires.block c.loop-i-test.true in
     let e = ap (λ (p : ℕ × ℕ). p.0) (c.block.ensures.pairs c.loop-i.i w.early) in
-    let s = listed_classes c.args.entries.now.numbers c.args.entries.now.rank (length c.args.counts.now) _ c.rank.ensures.paired.whole
-    c.requires.classes (listed_inside c.rank.ensures.paired w) in
+    let s = listed_classes c.args.pairs.now.entries.now.numbers c.args.pairs.now.entries.now.rank (length c.args.pairs.now.counts.now) _ c.rank.ensures.paired.whole
+    c.args.pairs.now.classes (listed_inside c.rank.ensures.paired w) in
     let below = s.0 in
     omega arith
 
 pub loop-i-preserved : goal.loop-i-preserved
 loop-i-preserved c =
-    let cs = c.args.entries.now.numbers in
-    let rank = c.args.entries.now.rank in
+    let cs = c.args.pairs.now.entries.now.numbers in
+    let rank = c.args.pairs.now.entries.now.rank in
     let ps = places.pairs cs (2 ^ rank) in
     let place = home_of (4 * (length cs / 2)) in
     let j = c.args.block * 2 ^ rank + c.loop-i.i in
-    let counts = c.args.counts.now in
+    let counts = c.args.pairs.now.counts.now in
     let slots = c.loop-i.slots in
     let keys = c.loop-i.keys in
     let out = c.loop-i.out in
@@ -82,11 +82,11 @@ loop-i-preserved c =
     let counted = ap (λ (q : ℕ × ℕ). get_or counts q.0 0) p in
     let written = place_is c.rank.ensures.paired c.args.block c.loop-i.i c.rank.ensures.rank in
     let next : j + 1 ≡ c.args.block * 2 ^ rank + (c.loop-i.i + 1) = omega arith in
-    elim c.if-counts-pair-ne1.branch [
-      | then-counts-pair-ne1+in_ok-at v ↦
+    elim c.if-pairs-pair-ne1.branch [
+      | then-pairs-pair-ne1+in_ok-at v ↦
           let at = v.in_ok-at.at in
           let begin = v.home.ensures.place ∙ ap (λ n. home_of n here) (homes_are cs (2 ^ rank) (length c.args.slots.now) c.requires.before.room)
-              ∙ ap place p in
+          ∙ ap place p in
           let found : IsSlot slots (set keys count (get_or ps j (0, 0))) count (get_or ps j (0, 0)) (place (get_or ps j (0, 0))) at =
           subst (λ z. z) (λ t. IsSlot slots (set keys count (p t)) count (p t) (begin t) at) v.in_ok-at.ensures in
           let number : v.min-number.result ≡ slot_number slots count at = v.min-number.ensures ∙ ap (λ z. min z count) v.from.ensures in
@@ -96,7 +96,7 @@ loop-i-preserved c =
                 (subst (λ z. z)
                 (λ t. Slotted ps place counts (set slots at (sym number t)) (set keys count (sym p t)) (set out (sym written t) (sym number t))
                 (count + 1) (next t))
-                (slotted_new c.loop-i.invariant at small found (λ z. v.if-counts-pair-ne1.true (counted ∙ z))
+                (slotted_new c.loop-i.invariant at small found (λ z. v.if-pairs-pair-ne1.true (counted ∙ z))
                 (sym number ∙ sym v.number-is ∙ u.if-number-count.true)))
             | else-number-count u ↦
                 rw (v.slots-is, v.number-is, u.count-is)
@@ -105,12 +105,12 @@ loop-i-preserved c =
                 count (next t))
                 (slotted_old c.loop-i.invariant at small found (λ e. u.if-number-count.false (v.number-is ∙ number ∙ e))))
           ]
-      | else-counts-pair-ne1 v ↦ elim c.if-number-count.branch [
+      | else-pairs-pair-ne1 v ↦ elim c.if-number-count.branch [
         | then-number-count u ↦
             rw (v.slots-is, v.number-is, u.count-is)
             (subst (λ z. z)
             (λ t. Slotted ps place counts slots (set keys count (sym p t)) (set out (sym written t) count) (count + 1) (next t))
-            (slotted_lone c.loop-i.invariant small (sym counted ∙ v.if-counts-pair-ne1.false)))
+            (slotted_lone c.loop-i.invariant small (sym counted ∙ v.if-pairs-pair-ne1.false)))
         | else-number-count u ↦ absurd (u.if-number-count.false v.number-is)
       ]
     ]

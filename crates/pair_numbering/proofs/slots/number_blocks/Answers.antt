@@ -12,12 +12,12 @@ loop-block-init c = grind (arith, length-pairs, slotted_none)
 
 pub returns : goal.returns
 returns c =
-    let cs = c.args.entries.now.numbers in
-    let ps = places.pairs cs (2 ^ c.args.entries.now.rank) in
+    let cs = c.args.pairs.now.entries.now.numbers in
+    let ps = places.pairs cs (2 ^ c.args.pairs.now.entries.now.rank) in
     let keys = take c.loop-block.count c.loop-block.keys in
     let made = c.loop-block.invariant.made in
-    let j = c.loop-block.block * 2 ^ c.args.entries.now.rank in
-    let l = length-pairs cs (2 ^ c.args.entries.now.rank) in
+    let j = c.loop-block.block * 2 ^ c.args.pairs.now.entries.now.rank in
+    let l = length-pairs cs (2 ^ c.args.pairs.now.entries.now.rank) in
     let a = all_pairs c.rank.ensures.paired c.loop-block.block c.len.ensures.count c.rank.ensures.rank c.loop-block-test.false in
     let all : length ps ≤ j = subst (λ n. n ≤ j) (sym l) a in
     record {

@@ -4,8 +4,8 @@ use Rattle.subfunction_classes.specs.Places.{pairs}
 use Rattle.subfunction_classes.proofs.Index.{length-pairs}
 use Rattle.pair_numbering.proofs.InBlocks.{all_pairs}
 use Rattle.pair_numbering.proofs.SlotSteps.{counted_all, counted_none, uncounted}
-use Rattle.pair_numbering.proofs.slots.count_lowers.Goals as goal
-use Rattle.pair_numbering.proofs.slots.count_lowers.Goals.{then-classes-len+else-loop-block-test, else-classes-len}
+use Rattle.pair_numbering.proofs.lower_classes.count_lowers.Goals as goal
+use Rattle.pair_numbering.proofs.lower_classes.count_lowers.Goals.{then-classes-len+else-loop-block-test, else-classes-len}
 
 pub returns-clause-lone : goal.returns-clause-lone
 returns-clause-lone c =

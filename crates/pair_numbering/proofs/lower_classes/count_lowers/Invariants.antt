@@ -1,6 +1,6 @@
 use Rattle.std.proofs.Common.{◌≡◌, length}
-use Rattle.pair_numbering.specs.Slots.{AreCounted}
-use Rattle.pair_numbering.proofs.slots.count_lowers.Given as goal
+use Rattle.pair_numbering.specs.LowerClasses.{AreCounted}
+use Rattle.pair_numbering.proofs.lower_classes.count_lowers.Given as goal
 
 abbrev pub invariant-loop-block : goal.invariant-loop-block
 invariant-loop-block l = record {

@@ -1,11 +1,11 @@
 use Rattle.std.proofs.Common.{◌≡◌, ℕ, ◌+◌, ◌*◌, ◌^◌, get_or, length, set, sym, ap, subst, ◌∙◌, arith}
 use Rattle.subfunction_classes.specs.Places.{pairs}
 use Rattle.subfunction_classes.proofs.BlockPlaces.{block_next, listed_classes}
-use Rattle.pair_numbering.specs.Slots.{Counted}
+use Rattle.pair_numbering.specs.LowerClasses.{Counted}
 use Rattle.pair_numbering.proofs.InBlocks.{in_step, listed_inside, step_is}
 use Rattle.pair_numbering.proofs.SlotSteps.{counted_step}
-use Rattle.pair_numbering.proofs.slots.count_block.Goals as goal
-use Rattle.pair_numbering.proofs.slots.count_block.Goals.{then-counts-lower-eq0, else-counts-lower-eq0}
+use Rattle.pair_numbering.proofs.lower_classes.count_block.Goals as goal
+use Rattle.pair_numbering.proofs.lower_classes.count_block.Goals.{then-counts-lower-eq0, else-counts-lower-eq0}
 
 pub loop-i-init : goal.loop-i-init
 loop-i-init c =

@@ -1,0 +1,60 @@
+//! How many pairs have each class as the lower one. A pair whose lower class no other pair has is
+//! equal to none of the others.
+
+ghost use Rattle.std.specs.Prelude.{◌≡◌, ◌+◌, ◌/◌, ◌^◌, ◌<◌, ◌≤◌, length, IfOk};
+ghost use Rattle.subfunction_classes.specs.PairTables.{AllBelow, IsPairTable};
+ghost use Rattle.subfunction_classes.specs.Places as places;
+ghost use Rattle.pair_numbering.specs.LowerClasses.{AreCounted, AreLone};
+
+use crate::entries::EntryPairs;
+use std::alloc::{AllocError, Global};
+
+/// Pairs of a table's entries, and how many of them have each class as the lower one: none, one, or
+/// more, for which 2 stands; or 0 for each class, if they weren't counted.
+#[derive(Drop)]
+pub(crate) struct CountedPairs<'e> {
+    pub(crate) entries: &'e EntryPairs<'e>,
+    pub(crate) counts: &'e [u8],
+    ghost classes: { AllBelow entries.now.numbers (length counts.now) },
+    ghost lone: { AreLone (places.pairs entries.now.numbers (2 ^ entries.now.rank)) counts.now },
+}
+
+/// How many pairs of a block have each lower class, added to those before: none, one or more.
+#[inline(always)]
+fn count_block(entries: &EntryPairs<'_>, block: usize, counts: &mut [u8])
+    requires few { length entries.now.numbers ≤ 2 ^ 20 }
+    requires block { block < length entries.now.numbers / 2 / 2 ^ entries.now.rank }
+    requires classes { AllBelow entries.now.numbers (length counts.old) }
+    requires before { AreCounted entries.now block counts.old }
+    ensures long { length counts.new ≡ length counts.old }
+    ensures counted { AreCounted entries.now (block + 1) counts.new }
+{
+    let step = 1usize << entries.rank();
+    let low = entries.block(block).low;
+    for i in 0..step {
+        let lower = low[i] as usize;
+        counts[lower] = if counts[lower] == 0 { 1 } else { 2 };
+    }
+}
+
+/// How many pairs have each lower class: none, one, or more, for which 2 stands. They are counted
+/// if there are more classes than pairs, since many are then those of one pair; else 0 stands for
+/// each.
+pub(crate) fn count_lowers(
+    alloc: Global,
+    entries: &EntryPairs<'_>,
+    classes: usize,
+) -> Result<Vec<u8>, AllocError>
+    requires table { IsPairTable entries.now.numbers entries.now.rank classes }
+    ensures long { IfOk result (λ v. length v.items ≡ classes) }
+    ensures lone { IfOk result (λ v.
+        AreLone (places.pairs entries.now.numbers (2 ^ entries.now.rank)) v.items) }
+{
+    let mut counts = vec![in alloc; 0u8; classes]?;
+    if classes > entries.len() {
+        for block in 0..entries.len() >> entries.rank() {
+            count_block(entries, block, &mut counts);
+        }
+    }
+    Ok(counts)
+}
