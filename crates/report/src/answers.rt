@@ -33,11 +33,7 @@ pub(crate) fn pairs_of<'a>(plan: &RunPlan<'a>, n: u8) -> Result<Pairs, PairsFaul
 }
 
 /// The text of the report. The levels are those that the search found.
-fn report_of(
-    alloc: Global,
-    instance: &Instance<'_>,
-    found: &Found,
-) -> Result<String, AllocError>
+fn report_of(alloc: Global, instance: &Instance<'_>, found: &Found) -> Result<String, AllocError>
     requires { IsFound instance.now found.now }
     ensures { IfOk result
         (λ text. string_bytes text ≡ report_parts instance.now.cover.now instance.now.tables.now

@@ -27,7 +27,7 @@ report_text-requires-clause-levels c =
     let found = c.requires.best.optimum in
     let long = one_length (length order) t.inputs order c.variables.ensures.order found.first.fewest.is_order in
     let levels = ap length c.deref.ensures.value ∙ ap length found.levels_are
-        ∙ length-map-range_with_len (level_count t.inputs (functions t) order) 0 (length order) in
+    ∙ length-map-range_with_len (level_count t.inputs (functions t) order) 0 (length order) in
     let inputs = c.args.instance.now.are_its_tables.inputs in
     omega arith
 
