@@ -8,8 +8,8 @@ ghost use Rattle.cert_check.specs.LowerClasses.{AreTold, pairs_with};
 
 use order_model::VarIx;
 use pair_chains::pair_at;
-use subfunction_classes::{count_with, join_mask};
 use std::alloc::{AllocError, Global};
+use subfunction_classes::{count_with, join_mask};
 
 /// For each class the masks of the pairs whose lower class it is, joined.
 fn lower_masks(

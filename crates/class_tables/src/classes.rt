@@ -12,9 +12,9 @@ use crate::numbering::{number_pairs_by_index, number_pairs_with_masks};
 use crate::scratch::Scratch;
 use compaction::Tally;
 use order_model::{Mask, Problem, VarIx, contains};
-use subfunction_classes::{count_with, no_dependence, rank_of, value_numbers};
 use std::alloc::{AllocError, Global};
 use std::marker::Model;
+use subfunction_classes::{count_with, no_dependence, rank_of, value_numbers};
 
 /// The classes of a set of variables: which subfunctions over it are equal. Each assignment of the
 /// other variables has an entry in each function's part of the table, assignments rising, and equal

@@ -8,9 +8,9 @@ ghost use Rattle.pair_numbering.specs.Chains.{AreFirsts};
 
 use order_model::{Problem, contains};
 use pair_numbering::{EntryPairs, MaskedPairs, first_pairs};
-use subfunction_classes::join_mask;
 use std::alloc::{AllocError, Global};
 use std::marker::Model;
+use subfunction_classes::join_mask;
 
 /// Rows for the numbering of a problem's class tables: five words for each entry of the largest.
 #[derive(Drop)]

@@ -6,9 +6,9 @@ use crate::problems::{MULTIPLEXER, PROBLEMS, problem_of};
 use class_tables::{Classes, Scratch};
 use compaction::Tally;
 use order_model::{Mask, Problem};
-use subfunction_classes::count_with;
 use std::alloc::Global;
 use std::process::Abort;
+use subfunction_classes::count_with;
 
 /// Whether two tables are of one set, with the same numbers.
 fn are_same(one: &Classes<'_>, other: &Classes<'_>) -> bool {

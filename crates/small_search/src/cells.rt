@@ -9,8 +9,8 @@ ghost use Rattle.layer_core.specs.Settings.{cell_for};
 ghost use Rattle.small_search.specs.FirstCells.{AreFirstCells};
 
 use order_model::{Mask, contains};
-use subfunction_classes::count_with;
 use solutions::Setting;
+use subfunction_classes::count_with;
 use subset_layers::{Cell, cell_from};
 
 /// The cell of a set, from those of all smaller masks and the masks of the set's classes: one

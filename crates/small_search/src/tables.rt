@@ -6,9 +6,9 @@ ghost use Rattle.small_search.specs.Paths.{HoldPath};
 
 use order_model::{Mask, Problem, VarIx};
 use pair_chains::{Numbered, PairNumbers, number_pairs};
-use subfunction_classes::{no_dependence, value_numbers};
 use std::alloc::{AllocError, Global};
 use std::mem::replace;
+use subfunction_classes::{no_dependence, value_numbers};
 
 /// The class table of the empty set, and room for one of each other size.
 pub(crate) fn first_tables(alloc: Global, problem: &Problem) -> Result<Vec<Numbered>, AllocError>
