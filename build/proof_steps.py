@@ -1,6 +1,6 @@
 #!/usr/bin/env python3
-"""proof_steps.py CRATE [COUNT]      the prover's steps for a crate's functions and lemma files, in millions, the dearest first, with the
-                dearest goal or declaration of each and its steps
+"""proof_steps.py CRATE [COUNT]      the prover's steps for a crate's functions and lemma files, in millions, the dearest first,
+                with the dearest goal or declaration of each and its steps
 
 It reads what the last check kept (crates/CRATE/out/incremental). Steps depend neither on the machine nor on what else it does."""
 import json
