@@ -109,7 +109,7 @@ module _ (t : TableOf) (count : ℕ) (h : IsFull t count) (x : ℕ) (inside : x 
       (record {
         numbers_are = made_numbers 0 ps join out (replicate (count / 2) union) (count / 2) (omega arith) m;
         many = made_many 0 ps join out (replicate (count / 2) union) (count / 2) (omega arith) m;
-        told = made_told 0 ps join out (replicate (count / 2) union) (count / 2) (omega arith) m;
+        labels = made_told 0 ps join out (replicate (count / 2) union) (count / 2) (omega arith) m;
       })
 
 all_kept : (p : ℕ → Bool) (v n : ℕ) → p v ≡ true → length (filter p (replicate n v)) ≡ n

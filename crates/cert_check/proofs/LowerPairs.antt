@@ -71,7 +71,7 @@ masks_kept : (ps : List (ℕ × ℕ)) (join : ℕ × ℕ → ℕ) (test : ℕ �
     map (λ c. get_or joined c 0) (ranks same_pair ps) ≡ map join ps →
     distinct_count same_pair (filter (λ p. test (join p)) ps) ≡ length (filter test joined)
 unfolding ranks
-masks_kept ps join test joined many told =
+masks_kept ps join test joined many labels =
     ap (distinct_count same_pair) (sym (map-id (filter (λ p. test (join p)) ps)))
     ∙ distinct_by_numbers same_pair pair_decides (λ p. p) (λ p. test (join p)) ps passes
     (λ p a. ap (λ us. passes (rank same_pair us p)) (map-id ps) ∙ ap test (mask_is p a))
@@ -83,7 +83,7 @@ masks_kept ps join test joined many told =
 
     mask_is : (p : ℕ × ℕ) → Among p ps → get_or joined (rank same_pair ps p) 0 ≡ join p
     mask_is =
-        same_at (λ p. get_or joined (rank same_pair ps p) 0) join ps (sym (map-map (λ c. get_or joined c 0) (rank same_pair ps) ps) ∙ told)
+        same_at (λ p. get_or joined (rank same_pair ps p) 0) join ps (sym (map-map (λ c. get_or joined c 0) (rank same_pair ps) ps) ∙ labels)
 
     listed : joined ≡ map (λ c. get_or joined c 0) (variables (distinct_count same_pair ps))
     listed = fill_by_all (λ c. get_or joined c 0) joined (distinct_count same_pair ps) 0 many (λ k h. refl)
@@ -93,7 +93,7 @@ pub pairs_with_width : (t : TableOf) (x y : ℕ) → x < t.problem.inputs → x 
     distinct_count same_pair (filter (λ p. eqb (bit_at (joined_mask masks x p) y) 1) (pairs numbers (2 ^ x)))
     ≡ width t.problem.inputs (functions_of (classes_at t)) (without y (set_of (classes_at (rows_with t x)))) y
 pairs_with_width t x y inside below free numbers masks h member =
-    masks_kept ps join (λ m. eqb (bit_at m y) 1) joined many told
+    masks_kept ps join (λ m. eqb (bit_at m y) 1) joined many labels
     ∙ sym (width_is_dependent_classes t.problem.inputs (functions_of (classes_at t)) (set_of (classes_at (rows_with t x))) joined y
     (members_small t.problem.inputs (rows_with t x).set y member) member more.holds.masks_are)
   where
@@ -112,9 +112,9 @@ pairs_with_width t x y inside below free numbers masks h member =
     many : length joined ≡ distinct_count same_pair ps
     many = masks_many ps (ranks same_pair ps) keys.0 refl keys.1.many (numbers_told keys.0 ps keys.1) join
 
-    told : map (λ c. get_or joined c 0) (ranks same_pair ps) ≡ map join ps
-    told = masks_told ps (ranks same_pair ps) keys.0 refl keys.1.many (numbers_told keys.0 ps keys.1) join
+    labels : map (λ c. get_or joined c 0) (ranks same_pair ps) ≡ map join ps
+    labels = masks_told ps (ranks same_pair ps) keys.0 refl keys.1.many (numbers_told keys.0 ps keys.1) join
 
     more : HoldsRows (rows_with t x) (ranks same_pair ps) joined
     more = rows_more t x inside below free numbers masks h (ranks same_pair ps) joined
-        (record { numbers_are = refl; many = many; told = told })
+        (record { numbers_are = refl; many = many; labels = labels })

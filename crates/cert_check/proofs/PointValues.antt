@@ -19,14 +19,14 @@ use Rattle.cert_check.specs.Images.{AreImages, TellValues}
 use Rattle.cert_check.specs.Edges.{AreEdgeTables}
 use Rattle.cert_check.specs.FewerEdges.{AreGuides, AreKept}
 use Rattle.cert_check.proofs.FirstEdges.{past_end}
-use Rattle.cert_check.proofs.LedOn.{leads_on}
+use Rattle.cert_check.proofs.SkippedSets.{leads_on}
 use Rattle.symmetries.proofs.SymmetricWidths.{bit_exchanged, length_exchanged, width_exchanged}
 
 -- points with equal numbers have equal values of the first j functions
 pub record TellTo (t : TruthTables) (j : ℕ) (values : List ℕ) : Type 0 where
   pub long : length values ≡ 2 ^ t.inputs
   pub below : (p : ℕ) → slice_index values p < 2 ^ j
-  pub told : (p q : ℕ) → p < 2 ^ t.inputs → q < 2 ^ t.inputs → slice_index values p ≡ slice_index values q → (i : ℕ) → i < j → value_at t i p ≡ value_at t i q
+  pub labels : (p q : ℕ) → p < 2 ^ t.inputs → q < 2 ^ t.inputs → slice_index values p ≡ slice_index values q → (i : ℕ) → i < j → value_at t i p ≡ value_at t i q
 
 -- the last bits and what stands before them are told by the sum
 parts_same : (a b : ℕ) (v w : Bool) → 2 * a + weight v ≡ 2 * b + weight w → (a ≡ b) × (v ≡ w)
@@ -49,12 +49,12 @@ tell_more t j old new words tell long table each = record {
     | inl l ↦ omega (arith, weight_small (packed_bit words p), pow_more 2 j)
     | inr ge ↦ (let s = pow_pos (j + 1) in omega (arith, past_end new p (omega arith)))
   ];
-  told = λ p q l m e i less.
+  labels = λ p q l m e i less.
       let parts = parts_same (slice_index old p) (slice_index old q) (packed_bit words p) (packed_bit words q)
       (sym (each p (omega arith)) ∙ e ∙ each q (omega arith)) in
       elim (cases_eq i j) [
         | inl s ↦ ap (λ k. value_at t k p) s ∙ sym (value p l) ∙ parts.1 ∙ value q m ∙ ap (λ k. value_at t k q) (sym s)
-        | inr ne ↦ tell.told p q l m parts.0 i (omega arith)
+        | inr ne ↦ tell.labels p q l m parts.0 i (omega arith)
       ];
 }
   where

@@ -104,7 +104,7 @@ module _ (t : TableOf) (x : ℕ) (inside : x < t.problem.inputs) (below : x < t.
   }
     where
       told_few : map (λ p. get_or joined (rank same_pair few p) 0) few ≡ map (joined_mask masks x) few
-      told_few = sym (map-map (λ c. get_or joined c 0) (rank same_pair few) few) ∙ ap (map (λ c. get_or joined c 0)) (sym made.numbers_are) ∙ made.told
+      told_few = sym (map-map (λ c. get_or joined c 0) (rank same_pair few) few) ∙ ap (map (λ c. get_or joined c 0)) (sym made.numbers_are) ∙ made.labels
 
       each : (p : ℕ × ℕ) → Among p all → get_or joined (rank same_pair all p) 0 ≡ joined_mask masks x p
       each p a =

@@ -7,19 +7,19 @@
 
 mod checking;
 mod class_table;
-mod early;
+mod small_sources;
 mod edges;
-mod fewer;
+mod fewer_edges;
 mod head;
 mod images;
-mod lowers;
+mod lower_classes;
 mod parallel;
 mod partners;
 mod points;
 mod position;
 mod pruning;
 mod repeats;
-mod tops;
+mod top_tables;
 mod values;
 mod verdict;
 mod walk;

@@ -5,10 +5,10 @@ ghost use Rattle.cert_check.specs.Edges.{IsFirstEdge, IsFirstOfParts, part_at};
 ghost use Rattle.cert_check.specs.Walks.{CanStart, FailsAmong, FailsInBlock};
 
 use crate::class_table::ClassTable;
-use crate::early::edges_up_to;
-use crate::fewer::fewer_edges;
+use crate::small_sources::edges_up_to;
+use crate::fewer_edges::fewer_edges;
 use crate::position::{Edge, Edges, Position};
-use crate::tops::{first_from_tops, top_tables};
+use crate::top_tables::{first_from_tops, top_tables};
 use crate::walk::{first_failing, first_of};
 use order_model::{Mask, VarIx};
 use rayon::prelude::*;

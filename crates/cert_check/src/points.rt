@@ -27,7 +27,7 @@ fn append_bits(values: &mut Vec<u16>, words: &[u64], before: u8)
 /// The values of all functions at each point, as one number.
 pub(crate) fn values_by_point(alloc: Global, problem: &Problem) -> Result<Vec<u16>, AllocError>
     ensures long { IfOk result (λ v. length v.items ≡ 2 ^ problem.now.inputs) }
-    ensures told { IfOk result (λ v. TellValues problem.now v.items) }
+    ensures labels { IfOk result (λ v. TellValues problem.now v.items) }
 {
     let mut values = vec![in alloc; 0u16; 1usize << problem.inputs()]?;
     for output in 0..problem.outputs() {

@@ -47,9 +47,9 @@ fn has_later(judged: &[u16], set: Mask, y: VarIx) -> bool
     false
 }
 
-/// Whether a set has so great a value that it is hardly listed. The widths into a listed set are
-/// mostly no greater than needed, and seldom told.
-fn is_great(edges: Edges, set: Mask) -> bool
+/// Whether a set is hardly listed, by its value. The widths into a listed set are mostly no greater
+/// than needed, so its lower classes seldom decide.
+fn is_hardly_listed(edges: Edges, set: Mask) -> bool
     requires { set < 2 ^ edges.problem.now.inputs }
 {
     let inputs = edges.problem.inputs();
@@ -58,15 +58,15 @@ fn is_great(edges: Edges, set: Mask) -> bool
     u64::from(edges.values[set as usize]) + u64::from(outside) >= u64::from(total)
 }
 
-/// Whether the table tells that no edge into a set of the upper half fails.
-fn tells_none(alloc: Global, at: Position) -> Result<bool, AllocError>
+/// Whether the lower classes of the table show that no edge into a set of the upper half fails.
+fn passes_by_lower_classes(alloc: Global, at: Position) -> Result<bool, AllocError>
     requires { 0 < at.free }
     ensures { IfOk result (λ none. IsTrue none → IsFirstEdge (FailsInUpper at.entry) None) }
 {
     let Position { edges, table, free } = at;
     let x = free - 1;
     let set = table.set() + (1 << x);
-    if !is_great(edges, set) || has_later(edges.judged, set, x) {
+    if !is_hardly_listed(edges, set) || has_later(edges.judged, set, x) {
         return Ok(false);
     }
     let needed = needed_widths(alloc, edges, set)?;
@@ -81,5 +81,5 @@ pub(crate) fn upper_half_passes(alloc: Global, at: Position) -> Result<bool, All
     if !has_upper_judged(at) {
         return Ok(true);
     }
-    tells_none(alloc, at)
+    passes_by_lower_classes(alloc, at)
 }

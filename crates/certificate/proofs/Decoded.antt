@@ -17,7 +17,7 @@ use Rattle.certificate.proofs.Sections.{StandAt, entries_pass, entries_are, IsKi
 use Rattle.order_model.proofs.Bits.Masks.{power_small}
 
 pub pair_kind : (n : ℕ) → 1 ≤ n → n ≤ 16 → IsKind pair_words read_pair pair_key (IsPair n) (is_pair n) pair_key_of
-pair_kind n some small = record { written = written; back = back; told = told } where
+pair_kind n some small = record { written = written; back = back; stated = stated } where
   written : (p : Pair) → IsPair n p → (a : List ℕ) × (b : List ℕ) × (pair_words p ≡ a ∷ b ∷ []) × (is_pair n a b ≡ true) × (pair_key_of a b ≡ pair_key p)
   written p (above, below) = (
     decimal p.0,
@@ -30,13 +30,13 @@ pair_kind n some small = record { written = written; back = back; told = told } 
   back : (p : Pair) → IsPair n p → read_pair (pair_words p) ≡ p
   back (a, b) (above, below) = rw (decimal_back a (omega arith)) (rw (decimal_back b (omega arith)) refl)
 
-  told : (a b : List ℕ) → is_pair n a b ≡ true →
+  stated : (a b : List ℕ) → is_pair n a b ≡ true →
       (pair_words (read_pair (a ∷ b ∷ [])) ≡ a ∷ b ∷ []) × IsPair n (read_pair (a ∷ b ∷ []))
       × (pair_key (read_pair (a ∷ b ∷ [])) ≡ pair_key_of a b)
-  told a b e = grind (arith, decimal_is)
+  stated a b e = grind (arith, decimal_is)
 
 pub cell_kind : (n : ℕ) → n ≤ 16 → IsKind cell_words read_cell mask_key (IsCell n) (is_cell n) cell_key_of
-cell_kind n small = record { written = written; back = back; told = told } where
+cell_kind n small = record { written = written; back = back; stated = stated } where
   written : (c : Cell) → IsCell n c → (a : List ℕ) × (b : List ℕ) × (cell_words c ≡ a ∷ b ∷ []) × (is_cell n a b ≡ true) × (cell_key_of a b ≡ mask_key c)
   written c is =
       let mask = is.mask in let cost = is.cost in let top = power_small n small in (
@@ -51,10 +51,10 @@ cell_kind n small = record { written = written; back = back; told = told } where
   back c is = let mask = is.mask in let cost = is.cost in let top = power_small n small in
       rw (hex_back c.mask (omega arith)) (rw (decimal_back c.cost (omega arith)) refl)
 
-  told : (a b : List ℕ) → is_cell n a b ≡ true →
+  stated : (a b : List ℕ) → is_cell n a b ≡ true →
       (cell_words (read_cell (a ∷ b ∷ [])) ≡ a ∷ b ∷ []) × IsCell n (read_cell (a ∷ b ∷ []))
       × (mask_key (read_cell (a ∷ b ∷ [])) ≡ cell_key_of a b)
-  told a b e = let t = both_are _ _ e in let first = mask_is n a t.0 in grind (arith, decimal_is)
+  stated a b e = let t = both_are _ _ e in let first = mask_is n a t.0 in grind (arith, decimal_is)
 
 -- lines that stand between others
 pub stand_behind : (is_entry : List ℕ → List ℕ → Bool) (key : List ℕ → List ℕ → ℕ) (pre es post : List (List (List ℕ))) →

@@ -14,7 +14,7 @@ use Rattle.certificate.proofs.Rising.{RiseFrom, rise_pairs, pairs_rise}
 
 -- entries of a kind E, seen as X, that a test tells
 module _ {E X : Type 0} (see : E → X) (is : E → Bool) (Is : X → Type 0) (key : E → ℕ) (key_of : X → ℕ) (same_key : (e : E) → key e ≡ key_of (see e))
-    (told : (e : E) → is e ≡ true → Is (see e)) (tells : (e : E) → Is (see e) → is e ≡ true) where
+    (stated : (e : E) → is e ≡ true → Is (see e)) (tells : (e : E) → Is (see e) → is e ≡ true) where
   fit_rises : (before : Option ℕ) (es : List E) → fit is key before es ≡ true → AllByRecursion Is (map see es) × RiseFrom key_of before (map see es)
   fit_rises before [] e = (tt, tt)
   fit_rises before (x ∷ es) e =

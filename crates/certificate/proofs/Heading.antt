@@ -58,8 +58,8 @@ head_memory number₀ text after rest fault (Err e) is memory = rw (is ∙ memor
 -- numbers of a line that passes are in bounds
 pub small_numbers : {V : Type 0} (items : V → List ℕ) (name : List ℕ) (count most number after : ℕ) (text rest : List ℕ) (v : V) →
     Asks (field_fault name count 0 most) number text after rest (λ ws w. items w ≡ numbers_of ws) (Ok v) → All (λ k. k ≤ most) (items v)
-small_numbers items name count most number after text rest v (ws, parts, passes, left, told) =
-    let is = field_is name count 0 most ws passes in rw told (All-from_recursion _ _ (upper (numbers_of ws) is.bounds)) where
+small_numbers items name count most number after text rest v (ws, parts, passes, left, stated) =
+    let is = field_is name count 0 most ws passes in rw stated (All-from_recursion _ _ (upper (numbers_of ws) is.bounds)) where
       upper : (ns : List ℕ) → AllByRecursion (IsFrom 0 most) ns → AllByRecursion (λ k. k ≤ most) ns
       upper [] all = tt
       upper (n ∷ ns) (here, all) = (here.1, upper ns all)

@@ -46,8 +46,8 @@ module _ (text : List ℕ) (after : ℕ) (rest : List ℕ) (head : Head) (takes 
   body_refused fault (Err e) is short body = grind (arith, behind)
 
   module _ (pairs : Option (Vec Pair Global)) (cells : Vec ListedCell Global) (body : TakesBody head.format head.inputs after rest (Ok (pairs, cells))) where
-    told : Faultless text
-    told = faultless text (behind ∙ (body takes.1 takes.3 format_here inputs_here).0)
+    stated : Faultless text
+    stated = faultless text (behind ∙ (body takes.1 takes.3 format_here inputs_here).0)
 
     pub parts_are : parts_of head pairs cells.items ≡ cert_of (said text)
     parts_are =
@@ -56,7 +56,7 @@ module _ (text : List ℕ) (after : ℕ) (rest : List ℕ) (head : Head) (takes 
         (b.2 ∙ ap (λ ws. (cert_of ws).pairs) (sym takes.2)) (b.3 ∙ ap (λ ws. (cert_of ws).cells) (sym takes.2))
 
     pub parts_spelled : HasSpelling (parts_of head pairs cells.items)
-    parts_spelled = rw parts_are told.has
+    parts_spelled = rw parts_are stated.has
 
     pub text_spelled : text ≡ spelling (parts_of head pairs cells.items)
-    text_spelled = rw parts_are told.text_is
+    text_spelled = rw parts_are stated.text_is

@@ -24,8 +24,8 @@ module _ (is_entry : List ℕ → List ℕ → Bool) (key : List ℕ → List �
 
   above_after : (ws : List (List (List ℕ))) (first k : ℕ) (before : Option ℕ) (a b : List ℕ) → Before ws first k before →
       rises key ws first k a b ≡ true → IsAbove before (key a b)
-  above_after ws first k None a b e told = tt
-  above_after ws first k (Some j) a b (later, e) told = grind arith
+  above_after ws first k None a b e stated = tt
+  above_after ws first k (Some j) a b (later, e) stated = grind arith
 
   pub next_before : (ws : List (List (List ℕ))) (first k : ℕ) (before : Option ℕ) (a b : List ℕ) → Before ws first k before →
       get_or ws k [] ≡ a ∷ b ∷ [] → Before ws first (k + 1) (Some (key a b))
@@ -62,7 +62,7 @@ pub record IsKind {E : Type 0} (write : E → List (List ℕ)) (read : List (Lis
     (is_entry : List ℕ → List ℕ → Bool) (key : List ℕ → List ℕ → ℕ) : Type 0 where
   pub written : (e : E) → Is e → (a : List ℕ) × (b : List ℕ) × (write e ≡ a ∷ b ∷ []) × (is_entry a b ≡ true) × (key a b ≡ key_of e)
   pub back : (e : E) → Is e → read (write e) ≡ e
-  pub told : (a b : List ℕ) → is_entry a b ≡ true → (write (read (a ∷ b ∷ [])) ≡ a ∷ b ∷ []) × Is (read (a ∷ b ∷ [])) × (key_of (read (a ∷ b ∷ [])) ≡ key a b)
+  pub stated : (a b : List ℕ) → is_entry a b ≡ true → (write (read (a ∷ b ∷ [])) ≡ a ∷ b ∷ []) × Is (read (a ∷ b ∷ [])) × (key_of (read (a ∷ b ∷ [])) ≡ key a b)
 
 module _ {E : Type 0} (write : E → List (List ℕ)) (read : List (List ℕ) → E) (key_of : E → ℕ) (Is : E → Type 0)
     (is_entry : List ℕ → List ℕ → Bool) (key : List ℕ → List ℕ → ℕ)

@@ -88,8 +88,8 @@ module _ {E : Type 0} (read : List (List ℕ) → E) (key_of : E → ℕ) (name 
       Asks (entry_fault is_entry (λ a b. is_above last (key a b))) number rest after rest' (λ ws v. v ≡ read ws) (Ok e) → k ≡ key_of e →
       Reached number₀ text₀ count (i + 1) (Some k) (items ++ e ∷ []) after rest'
   reached_more number₀ text₀ count i last items number rest after rest' e k r more (ws, parts, passes, left, value) key_is =
-      let told = entry_is is_entry key (λ a b. is_above last (key a b)) ws passes in
-      let key_here : k ≡ key told.0 told.1 = key_is ∙ ap key_of (value ∙ ap read told.2) ∙ keyed told.0 told.1 in
+      let stated = entry_is is_entry key (λ a b. is_above last (key a b)) ws passes in
+      let key_here : k ≡ key stated.0 stated.1 = key_is ∙ ap key_of (value ∙ ap read stated.2) ∙ keyed stated.0 stated.1 in
       record {
         head = r.head;
         es = r.es ++ ws ∷ [];
@@ -97,7 +97,7 @@ module _ {E : Type 0} (read : List (List ℕ) → E) (key_of : E → ℕ) (name 
         parts = grind (arith, append_assoc);
         many = length-append r.es (ws ∷ []) ∙ ap (λ n. n + 1) r.many;
         items_are = grind (arith, map-append);
-        before = λ pre. later pre told.0 told.1 told.2 key_here;
+        before = λ pre. later pre stated.0 stated.1 stated.2 key_here;
         left = λ pre js. next_left pre js;
       } where
         place_is : (pre : List (List (List ℕ))) → length (pre ++ (r.head ∷ r.es)) ≡ (length pre + 1) + i

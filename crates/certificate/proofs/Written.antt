@@ -132,5 +132,5 @@ spelling_written s₀ s₁ s₂ s₃ s₄ cert none a b c d =
     grind arith
 
 -- a line of numbers that are told
-pub told : (s₀ s₁ name : List ℕ) (ms ns : List ℕ) → s₁ ≡ s₀ ++ text_line (field name ms) → ms ≡ ns → s₁ ≡ s₀ ++ text_line (field name ns)
-told s₀ s₁ name ms ns e same = e ∙ ap (λ ks. s₀ ++ text_line (field name ks)) same
+pub stated : (s₀ s₁ name : List ℕ) (ms ns : List ℕ) → s₁ ≡ s₀ ++ text_line (field name ms) → ms ≡ ns → s₁ ≡ s₀ ++ text_line (field name ns)
+stated s₀ s₁ name ms ns e same = e ∙ ap (λ ks. s₀ ++ text_line (field name ks)) same

@@ -49,6 +49,6 @@ module _ (ps : List (ℕ × ℕ)) (masks : List ℕ) (x : ℕ) where
   counting_all count j l h = record {
     joined = h.out;
     many = joined_many 0 ps (joined_mask masks x) h.out j l h.joined;
-    told = joined_told 0 ps (joined_mask masks x) h.out j l h.joined;
+    labels = joined_told 0 ps (joined_mask masks x) h.out j l h.joined;
     counted = h.counted;
   }

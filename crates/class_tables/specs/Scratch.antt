@@ -25,5 +25,5 @@ pub record AreLong (len : ℕ) (next stamps marks first : List ℕ) : Type 0 whe
 pub record CountsMasks (masks : List ℕ) (x : ℕ) (ps : List (ℕ × ℕ)) (count : ℕ) : Type 0 where
   pub joined : List ℕ
   pub many : length joined ≡ distinct_count same_pair ps
-  pub told : map (λ c. slice_index joined c) (ranks same_pair ps) ≡ map (joined_mask masks x) ps
+  pub labels : map (λ c. slice_index joined c) (ranks same_pair ps) ≡ map (joined_mask masks x) ps
   pub counted : count ≡ length (filter (λ m. bit_at m x == 1) joined)

@@ -91,7 +91,7 @@ module _ (t : ClassesOf) (count : ℕ) (d : AreDistinct t count) (x : ℕ) (insi
         ap (λ k. get_or (pairs (range_with_len 0 count) (2 ^ free_below t.set x)) k (0, 0))
         (sym (name_is i (omega arith)) ∙ e ∙ name_is j (omega arith));
     below = λ i a. let m = many in let n = name_is i (omega arith) in let l = length_same (bit_or t.set (2 ^ x)) (count / 2) in omega arith;
-    told = λ i a.
+    labels = λ i a.
         let m = many in
         let h : i < count / 2 = omega arith in
         let l = length-range_with_len 0 count in
@@ -128,7 +128,7 @@ pub distinct_width : (t : ClassesOf) (count x : ℕ) → AreDistinct t count →
     width t.problem.inputs (functions_of t) (without x (set_of t)) x ≡ count
 unfolding masks_in_use
 distinct_width t count x d small inside =
-    width_by_use t.problem.inputs (functions_of t) (set_of t) (range_with_len 0 count) d.masks d.keys.below d.keys.classes d.keys.told x small inside
+    width_by_use t.problem.inputs (functions_of t) (set_of t) (range_with_len 0 count) d.masks d.keys.below d.keys.classes d.keys.labels x small inside
     ∙ ap (λ us. length (filter (λ m. eqb (bit_at m x) 1) (map (λ k. get_or d.masks k 0) (filter (has (range_with_len 0 count)) us))))
     (ap (range_with_len 0) d.exact)
     ∙ ap (λ us. length (filter (λ m. eqb (bit_at m x) 1) (map (λ k. get_or d.masks k 0) us)))

@@ -61,21 +61,21 @@ module _ (t : ClassesOf) (x : ℕ) (inside : x < t.problem.inputs) (new : has (s
         below = h.below;
       }
 
-  pub bytes_more : (told joined : List ℕ) → TellsPairs masks x (pairs rows (2 ^ free_below t.set x)) told joined →
-      HoldsBytes (with_variable t x) 8 outer bytes told joined
-  bytes_more told joined names =
+  pub bytes_more : (labels joined : List ℕ) → TellsPairs masks x (pairs rows (2 ^ free_below t.set x)) labels joined →
+      HoldsBytes (with_variable t x) 8 outer bytes labels joined
+  bytes_more labels joined names =
       let r = rest t x inside new 3 inner in
       let f = free_below t.set x in
       let p = parts t x inside new 3 inner in
       let l = less t x inside new 3 inner in
       record {
-        named = subst (AreNamed bytes told) (sym l) (low_named bytes rows (2 ^ r) (2 ^ f) named (pow_pos r) (pow_pos f) masks x told joined names);
-        strips = subst (λ k. HoldsStrips (with_variable t x) 8 outer (unrolled bytes told k) joined) (sym l)
+        named = subst (AreNamed bytes labels) (sym l) (low_named bytes rows (2 ^ r) (2 ^ f) named (pow_pos r) (pow_pos f) masks x labels joined names);
+        strips = subst (λ k. HoldsStrips (with_variable t x) 8 outer (unrolled bytes labels k) joined) (sym l)
             (holds_low t x inside new 8 outer (unrolled bytes rows (2 ^ free_below t.set 3)) masks h.strips (omega arith)
-            (unrolled bytes told (2 ^ r * 2 ^ f)) joined
-            (subst (λ k. TellsPairs masks x (pairs (unrolled bytes rows k) (2 ^ f)) (unrolled bytes told (2 ^ r * 2 ^ f)) joined) (sym p)
-            (low_tells bytes rows (2 ^ r) (2 ^ f) named (pow_pos r) (pow_pos f) masks x told joined names)));
-        below = names_below masks x (pairs rows (2 ^ f)) told joined names;
-        few_rows = (let n = length_names masks x (pairs rows (2 ^ f)) told joined names in let m = length-pairs rows (2 ^ f) in
+            (unrolled bytes labels (2 ^ r * 2 ^ f)) joined
+            (subst (λ k. TellsPairs masks x (pairs (unrolled bytes rows k) (2 ^ f)) (unrolled bytes labels (2 ^ r * 2 ^ f)) joined) (sym p)
+            (low_tells bytes rows (2 ^ r) (2 ^ f) named (pow_pos r) (pow_pos f) masks x labels joined names)));
+        below = names_below masks x (pairs rows (2 ^ f)) labels joined names;
+        few_rows = (let n = length_names masks x (pairs rows (2 ^ f)) labels joined names in let m = length-pairs rows (2 ^ f) in
             let w = h.few_rows in omega arith);
       }

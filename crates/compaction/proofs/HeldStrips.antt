@@ -133,18 +133,18 @@ module _ (t : ClassesOf) (x : ℕ) (inside : x < t.problem.inputs) (new : has (s
             below = h.below;
           }
 
-      pub holds_high : (grown told joined : List ℕ) →
-          GrowsStrips (record { outer = outer; rank = rank; numbers = numbers; bits = free_below t.set low; masks = masks }) x grown told joined →
-          HoldsStrips (with_variable t x) low grown told joined
-      holds_high grown told joined g =
+      pub holds_high : (grown labels joined : List ℕ) →
+          GrowsStrips (record { outer = outer; rank = rank; numbers = numbers; bits = free_below t.set low; masks = masks }) x grown labels joined →
+          HoldsStrips (with_variable t x) low grown labels joined
+      holds_high grown labels joined g =
           let e : 2 ^ free_below (with_variable t x).set low ≡ 2 ^ free_below t.set low = ap (λ k. 2 ^ k) (free_other t.set x low high) in
           record {
-            strips = subst (AreStrips grown told) (sym e) g.strips;
-            keys = subst (λ k. HoldsKeys (with_variable t x) (unrolled grown told k) joined) (sym e)
+            strips = subst (AreStrips grown labels) (sym e) g.strips;
+            keys = subst (λ k. HoldsKeys (with_variable t x) (unrolled grown labels k) joined) (sym e)
                 (keys_by_names t x inside new (unrolled outer numbers (2 ^ free_below t.set low)) masks h.keys whole_keys
-                (unrolled grown told (2 ^ free_below t.set low)) joined
+                (unrolled grown labels (2 ^ free_below t.set low)) joined
                 (subst (λ k. TellsPairs masks x (pairs (unrolled outer numbers (2 ^ free_below t.set low)) k)
-                (unrolled grown told (2 ^ free_below t.set low)) joined)
+                (unrolled grown labels (2 ^ free_below t.set low)) joined)
                 (sym steps) g.tells));
             below = g.below;
             few_numbers = g.few;

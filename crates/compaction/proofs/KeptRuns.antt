@@ -36,14 +36,14 @@ run_added : (values : List Bool) (outer kept run : List ℕ) (count k : ℕ) →
     count ≤ length outer + 1 →
     ((i b : ℕ) → i < length outer → b < 256 → packed_bit kept (get_or outer i 0 * 256 + b) ≡ get_or values (i * 256 + b) false) →
     ((b : ℕ) → b < 256 → packed_bit run b ≡ get_or values (length outer * 256 + b) false) → KeepsRuns values (outer ++ k ∷ []) kept count
-run_added values outer kept run count k small same within used few told here = record {
+run_added values outer kept run count k small same within used few labels here = record {
   within = λ i h. at i h (λ n o. n < count) (within i) small;
   used = λ j h. elim (used j h) [
     | inl u ↦ (u.0, (let l = length_push outer k in let t = u.1.0 in omega arith, get_or_append_left outer (k ∷ []) 0 u.0 u.1.0 ∙ u.1.1))
     | inr e ↦ (length outer, (let l = length_push outer k in omega arith, get_or_push outer k 0 (length outer) refl ∙ sym e))
   ];
   few = (let l = length_push outer k in omega arith);
-  told = λ i b h small_b. at i h (λ n o. packed_bit kept (n * 256 + b) ≡ get_or values (o * 256 + b) false) (λ lt. told i b lt small_b)
+  labels = λ i b h small_b. at i h (λ n o. packed_bit kept (n * 256 + b) ≡ get_or values (o * 256 + b) false) (λ lt. labels i b lt small_b)
       (last b small_b ∙ here b small_b);
 }
   where
@@ -67,7 +67,7 @@ pub run_again : (values : List Bool) (outer kept run : List ℕ) (count k : ℕ)
     KeepsRuns values outer kept count → ((b : ℕ) → b < 256 → packed_bit run b ≡ get_or values (length outer * 256 + b) false) →
     KeepsRuns values (outer ++ k ∷ []) kept count
 run_again values outer kept run count k small same s here =
-    run_added values outer kept run count k small same s.within (λ j h. inl (s.used j h)) (let f = s.few in omega arith) s.told here
+    run_added values outer kept run count k small same s.within (λ j h. inl (s.used j h)) (let f = s.few in omega arith) s.labels here
 
 -- a run is kept, and named
 pub run_first : (values : List Bool) (outer kept run : List ℕ) (count : ℕ) → length kept ≡ count * 4 → length run ≡ 4 →
@@ -87,7 +87,7 @@ run_first values outer kept run count whole four s here =
         let w = s.within i h in
         same_bits (kept ++ run) kept (get_or outer i 0) (get_or outer i 0)
         (λ a lt. get_or_append_left kept run 0 (get_or outer i 0 * 4 + a) (omega arith)) b small
-        ∙ s.told i b h small
+        ∙ s.labels i b h small
 
 -- the same under other names
 pub renamed : (values : List Bool) (outer outer' kept kept' : List ℕ) (count count' : ℕ) → outer' ≡ outer → kept' ≡ kept → count' ≡ count →
@@ -166,7 +166,7 @@ kept_values values first outer kept numbers count e whole s all =
     at i b h small =
         let w = s.within i h in
         unrolled_at outer numbers 256 are i b h small ∙ ap (λ ns. get_or ns (get_or outer i 0 * 256 + b) 0) e
-        ∙ packed_at first kept (length kept * 64) (get_or outer i 0 * 256 + b) (omega arith) ∙ ap (number_of first) (s.told i b h small)
+        ∙ packed_at first kept (length kept * 64) (get_or outer i 0 * 256 + b) (omega arith) ∙ ap (number_of first) (s.labels i b h small)
         ∙ sym (get_or-map (number_of first) values (i * 256 + b) false 0 (omega arith))
 
     each : (k : ℕ) → k < length (unrolled outer numbers 256) → get_or (unrolled outer numbers 256) k 0 ≡ get_or (map (number_of first) values) k 0

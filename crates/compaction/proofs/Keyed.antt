@@ -123,10 +123,10 @@ module _ (n : ℕ) (F : List Function) (T : List ℕ) (x : ℕ) (small : x < n) 
       map (λ k. get_or masks k 0) keys ≡ map (dependence n) (reach F (reverse (outside n T))) →
       map (joined_mask masks x) (pairs keys (2 ^ r)) ≡ map (dependence n) (reach F (reverse (outside n (x ∷ T))))
   unfolding R own_pair both own
-  pairs_depend keys masks r whole step classes told =
+  pairs_depend keys masks r whole step classes labels =
       told_zip (both (λ k. get_or masks k 0)) own_pair (both (rank nat_eq keys)) (class_pair n F T x) (joined_mask masks x) (dependence n)
       (pairs keys (2 ^ r)) R
-      (sym (pairs_mapped keys r whole (λ k. get_or masks k 0)) ∙ ap₂ pairs told step ∙ pairs_told n T x small new F (dependence n))
+      (sym (pairs_mapped keys r whole (λ k. get_or masks k 0)) ∙ ap₂ pairs labels step ∙ pairs_told n T x small new F (dependence n))
       (sym (ranked_pairs keys r whole) ∙ ap₂ pairs (sym classes) step ∙ pairs_of_classes n T x small new F)
       (λ p g a b e d.
       ap₂ bit_or (ap₂ bit_or (ap (λ (z : ℕ × ℕ). z.0) e) (ap (λ (z : ℕ × ℕ). z.1) e))
@@ -156,7 +156,7 @@ keys_of_classes t numbers masks h = record {
   below = class_below t numbers masks h;
   classes = sym (ap (ranks nat_eq) h.classes ∙ ranks_alike nat_eq nat_decides same_table same_table_decides (rank same_table es) (λ u. u) es
       (λ u v a b. (rank_apart same_table same_table_decides es u v a b, ap (rank same_table es))) ∙ ap (ranks same_table) (map-id es));
-  told = ap (map (λ k. get_or masks k 0)) h.classes ∙ h.masks_are.told;
+  labels = ap (map (λ k. get_or masks k 0)) h.classes ∙ h.masks_are.labels;
 }
   where
     es : List (List Bool)
@@ -195,7 +195,7 @@ start_keys p numbers exact masks h long few same =
       few_masks = few;
       below = λ i lt. let b = k.below i lt in omega arith;
       classes = k.classes;
-      told = map_same (λ c. get_or masks c 0) (λ c. get_or exact c 0) numbers (λ c a. sym (same c)) ∙ k.told;
+      labels = map_same (λ c. get_or masks c 0) (λ c. get_or exact c 0) numbers (λ c a. sym (same c)) ∙ k.labels;
     }
 
 pub free_zero : (x : ℕ) → free_below 0 x ≡ x
@@ -255,7 +255,7 @@ keys_by_names t x inside new keys masks h whole numbers joined names =
       classes = sym (class_numbers_same n F (x ∷ T) (set_of (with_variable t x)) (members_more t x inside new))
           ∙ more_classes n F T x inside new keys (free_below t.set x) whole s h.classes
           ∙ sym (names_ranked masks x ps numbers joined names);
-      told = names_masks masks x ps numbers joined names
-          ∙ pairs_depend n F T x inside new keys masks (free_below t.set x) whole s h.classes h.told
+      labels = names_masks masks x ps numbers joined names
+          ∙ pairs_depend n F T x inside new keys masks (free_below t.set x) whole s h.classes h.labels
           ∙ outside_same n F (x ∷ T) (set_of (with_variable t x)) (members_more t x inside new);
     }

@@ -36,7 +36,7 @@ module _ (outer numbers : List ℕ) (len r : ℕ) (strips : AreStrips outer numb
             strips.whole;
         within =
             names_of_below strips.count pairs
-            (met_classes outer r strips.count whole strips.within numbered pairs h.numbered_are h.many h.told);
+            (met_classes outer r strips.count whole strips.within numbered pairs h.numbered_are h.many h.labels);
       }
 
   module _ (paired : List ℕ) (are : paired ≡ unrolled (names_of pairs) numbers len) where
@@ -53,8 +53,8 @@ module _ (outer numbers : List ℕ) (len r : ℕ) (strips : AreStrips outer numb
         let s = length-pairs outer (2 ^ r) in
         let n = length_names_of pairs in
         let k = get_or numbered j 0 in
-        let b = number_below (places.pairs outer (2 ^ r)) numbered pairs h.numbered_are h.many h.told j (omega arith) in
-        let p = pair_numbered (places.pairs outer (2 ^ r)) numbered pairs h.numbered_are h.many h.told j (omega arith) ∙ pair_listed outer (2 ^ r) j l in
+        let b = number_below (places.pairs outer (2 ^ r)) numbered pairs h.numbered_are h.many h.labels j (omega arith) in
+        let p = pair_numbered (places.pairs outer (2 ^ r)) numbered pairs h.numbered_are h.many h.labels j (omega arith) ∙ pair_listed outer (2 ^ r) j l in
         ap (λ us. get_or us (k * (2 * len) + a) 0) are
         ∙ ap (λ z. get_or (unrolled (names_of pairs) numbers len) z 0) (let e : k * (2 * len) + a ≡ k * 2 * len + a = grind arith in e)
         ∙ named_at (names_of pairs) numbers len paired_named (k * 2) a (omega arith) i
@@ -66,8 +66,8 @@ module _ (outer numbers : List ℕ) (len r : ℕ) (strips : AreStrips outer numb
         let s = length-pairs outer (2 ^ r) in
         let n = length_names_of pairs in
         let k = get_or numbered j 0 in
-        let b = number_below (places.pairs outer (2 ^ r)) numbered pairs h.numbered_are h.many h.told j (omega arith) in
-        let p = pair_numbered (places.pairs outer (2 ^ r)) numbered pairs h.numbered_are h.many h.told j (omega arith) ∙ pair_listed outer (2 ^ r) j l in
+        let b = number_below (places.pairs outer (2 ^ r)) numbered pairs h.numbered_are h.many h.labels j (omega arith) in
+        let p = pair_numbered (places.pairs outer (2 ^ r)) numbered pairs h.numbered_are h.many h.labels j (omega arith) ∙ pair_listed outer (2 ^ r) j l in
         ap (λ us. get_or us (k * (2 * len) + len + a) 0) are
         ∙ ap (λ z. get_or (unrolled (names_of pairs) numbers len) z 0) (let e : k * (2 * len) + len + a ≡ (k * 2 + 1) * len + a = grind arith in e)
         ∙ named_at (names_of pairs) numbers len paired_named (k * 2 + 1) a (omega arith) i

@@ -67,15 +67,15 @@ module _ (outer numbers : List ℕ) (len s : ℕ) (strips : AreStrips outer numb
     get_or paired (get_or numbered j 0 * (2 * len) + a) 0 ≡ get_or numbers (lower_at outer s j * len + a) 0)
     (upper : (j a : ℕ) → j < length outer / 2 → a < len →
     get_or paired (get_or numbered j 0 * (2 * len) + len + a) 0 ≡ get_or numbers (upper_at outer s j * len + a) 0)
-    (masks : List ℕ) (x : ℕ) (told joined : List ℕ) (names : TellsPairs masks x (pairs paired len) told joined) where
+    (masks : List ℕ) (x : ℕ) (labels joined : List ℕ) (names : TellsPairs masks x (pairs paired len) labels joined) where
   ps : List (ℕ × ℕ)
   ps = pairs outer s
 
   many_numbered : length numbered ≡ length outer / 2
   many_numbered = length-ranks (pairs outer s) numbered ranked ∙ length-pairs outer s
 
-  many_told : length told ≡ distinct_count same_pair (pairs outer s) * len
-  many_told = length_names masks x (pairs paired len) told joined names ∙ length-pairs paired len ∙ ap (λ k. k / 2) long
+  many_told : length labels ≡ distinct_count same_pair (pairs outer s) * len
+  many_told = length_names masks x (pairs paired len) labels joined names ∙ length-pairs paired len ∙ ap (λ k. k / 2) long
       ∙ half (distinct_count same_pair (pairs outer s)) len
 
   numbered_small : (i : ℕ) → i < length numbered → get_or numbered i 0 < distinct_count same_pair (pairs outer s)
@@ -86,7 +86,7 @@ module _ (outer numbers : List ℕ) (len s : ℕ) (strips : AreStrips outer numb
       let b = rank_below same_pair pair_decides (pairs outer s) (get_or (pairs outer s) i (0, 0)) (among_at (pairs outer s) i (0, 0) (omega arith)) in
       omega arith
 
-  pub high_strips : AreStrips numbered told len
+  pub high_strips : AreStrips numbered labels len
   high_strips = record {
     count = distinct_count same_pair (pairs outer s);
     whole = many_told;
@@ -151,10 +151,10 @@ module _ (outer numbers : List ℕ) (len s : ℕ) (strips : AreStrips outer numb
       ∙ ap (pair_at (unrolled outer numbers len) (len * s)) (sym e)
       ∙ sym (pair_listed (unrolled outer numbers len) (len * s) j (omega arith))
 
-  pub high_tells : TellsPairs masks x (pairs (unrolled outer numbers len) (len * s)) (unrolled numbered told len) joined
+  pub high_tells : TellsPairs masks x (pairs (unrolled outer numbers len) (len * s)) (unrolled numbered labels len) joined
   high_tells =
       subst (λ us. TellsPairs masks x (pairs (unrolled outer numbers len) (len * s)) us joined) (sym same)
-      (names_among masks x (pairs paired len) told joined names (pairs (unrolled outer numbers len) (len * s)) (λ j h.
+      (names_among masks x (pairs paired len) labels joined names (pairs (unrolled outer numbers len) (len * s)) (λ j h.
       let l = long_pairs in
       let i : j / len < length outer / 2 = (div-lt_iff_lt-mul some).1 (omega arith) in
       let n = name_place (j / len) (j % len) i (mod-lt j some) in
@@ -164,12 +164,12 @@ module _ (outer numbers : List ℕ) (len s : ℕ) (strips : AreStrips outer numb
       qs : List (ℕ × ℕ)
       qs = pairs (unrolled outer numbers len) (len * s)
 
-      same : unrolled numbered told len ≡ map names.name (pairs (unrolled outer numbers len) (len * s))
+      same : unrolled numbered labels len ≡ map names.name (pairs (unrolled outer numbers len) (len * s))
       same =
-          same_by_places (unrolled numbered told len) (map names.name (pairs (unrolled outer numbers len) (len * s)))
-          (length_unrolled numbered told len high_strips ∙ ap (λ z. z * len) many_numbered ∙ sym long_pairs
+          same_by_places (unrolled numbered labels len) (map names.name (pairs (unrolled outer numbers len) (len * s)))
+          (length_unrolled numbered labels len high_strips ∙ ap (λ z. z * len) many_numbered ∙ sym long_pairs
           ∙ sym (length-map (pairs (unrolled outer numbers len) (len * s)) names.name)) (λ j h.
-          let u = length_unrolled numbered told len high_strips in
+          let u = length_unrolled numbered labels len high_strips in
           let m = many_numbered in
           let v = ap (λ z. z * len) many_numbered in
           let l = long_pairs in
@@ -178,7 +178,7 @@ module _ (outer numbers : List ℕ) (len s : ℕ) (strips : AreStrips outer numb
           let e = parts_of j len some in
           let n = name_place (j / len) (j % len) i a in
           let k = length-pairs paired len in
-          ap (λ z. get_or (unrolled numbered told len) z 0) e ∙ unrolled_at numbered told len high_strips (j / len) (j % len) (omega arith) a
+          ap (λ z. get_or (unrolled numbered labels len) z 0) e ∙ unrolled_at numbered labels len high_strips (j / len) (j % len) (omega arith) a
           ∙ ap (λ us. get_or us (get_or numbered (j / len) 0 * len + j % len) 0) names.numbers_are
           ∙ get_or-map names.name (pairs paired len) (get_or numbered (j / len) 0 * len + j % len) (0, 0) 0 (omega arith)
           ∙ ap names.name (place_pair j (omega arith)) ∙ sym (get_or-map names.name (pairs (unrolled outer numbers len) (len * s)) j (0, 0) 0 (omega arith)))
@@ -186,15 +186,15 @@ module _ (outer numbers : List ℕ) (len s : ℕ) (strips : AreStrips outer numb
 -- ---- a variable inside the strips
 
 module _ (outer numbers : List ℕ) (c s : ℕ) (strips : AreNamed outer numbers (c * (2 * s))) (some : 0 < c) (some_s : 0 < s)
-    (masks : List ℕ) (x : ℕ) (told joined : List ℕ) (names : TellsPairs masks x (pairs numbers s) told joined) where
+    (masks : List ℕ) (x : ℕ) (labels joined : List ℕ) (names : TellsPairs masks x (pairs numbers s) labels joined) where
   whole_numbers : length numbers ≡ strips.count * c * (2 * s)
   whole_numbers = strips.whole ∙ grind arith
 
-  pub low_whole : length told ≡ strips.count * (c * s)
-  low_whole = length_names masks x (pairs numbers s) told joined names ∙ length-pairs numbers s ∙ ap (λ k. k / 2) whole_numbers
+  pub low_whole : length labels ≡ strips.count * (c * s)
+  low_whole = length_names masks x (pairs numbers s) labels joined names ∙ length-pairs numbers s ∙ ap (λ k. k / 2) whole_numbers
       ∙ half (strips.count * c) s ∙ grind arith
 
-  pub low_named : AreNamed outer told (c * s)
+  pub low_named : AreNamed outer labels (c * s)
   low_named = search low_whole
 
   some_strip : 0 < c * s
@@ -239,34 +239,34 @@ module _ (outer numbers : List ℕ) (c s : ℕ) (strips : AreNamed outer numbers
       ∙ sym (inner_pair (j / (c * s)) (j % (c * s)) i a)
       ∙ ap (pair_at (unrolled outer numbers (c * (2 * s))) s) (sym e) ∙ sym (pair_listed (unrolled outer numbers (c * (2 * s))) s j (omega arith))
 
-  pub low_tells : TellsPairs masks x (pairs (unrolled outer numbers (c * (2 * s))) s) (unrolled outer told (c * s)) joined
+  pub low_tells : TellsPairs masks x (pairs (unrolled outer numbers (c * (2 * s))) s) (unrolled outer labels (c * s)) joined
   low_tells =
       subst (λ us. TellsPairs masks x (pairs (unrolled outer numbers (c * (2 * s))) s) us joined) (sym same)
-      (names_among masks x (pairs numbers s) told joined names (pairs (unrolled outer numbers (c * (2 * s))) s) (λ j h.
+      (names_among masks x (pairs numbers s) labels joined names (pairs (unrolled outer numbers (c * (2 * s))) s) (λ j h.
       let l = long_pairs' in
       let i : j / (c * s) < length outer = (div-lt_iff_lt-mul some_strip).1 (omega arith) in
       let n = inner_small (j / (c * s)) (j % (c * s)) i (mod-lt j some_strip) in
       let k = length-pairs numbers s in
       (get_or outer (j / (c * s)) 0 * (c * s) + j % (c * s), (omega arith, place_pair' j h))))
     where
-      same : unrolled outer told (c * s) ≡ map names.name (pairs (unrolled outer numbers (c * (2 * s))) s)
+      same : unrolled outer labels (c * s) ≡ map names.name (pairs (unrolled outer numbers (c * (2 * s))) s)
       same =
-          same_by_places (unrolled outer told (c * s)) (map names.name (pairs (unrolled outer numbers (c * (2 * s))) s))
-          (length_named outer told (c * s) low_named ∙ sym long_pairs' ∙ sym (length-map (pairs (unrolled outer numbers (c * (2 * s))) s) names.name)) (λ j h.
-          let u = length_named outer told (c * s) low_named in
+          same_by_places (unrolled outer labels (c * s)) (map names.name (pairs (unrolled outer numbers (c * (2 * s))) s))
+          (length_named outer labels (c * s) low_named ∙ sym long_pairs' ∙ sym (length-map (pairs (unrolled outer numbers (c * (2 * s))) s) names.name)) (λ j h.
+          let u = length_named outer labels (c * s) low_named in
           let l = long_pairs' in
           let i : j / (c * s) < length outer = (div-lt_iff_lt-mul some_strip).1 (omega arith) in
           let a = mod-lt j some_strip in
           let e = parts_of j (c * s) some_strip in
           let n = inner_small (j / (c * s)) (j % (c * s)) i a in
           let k = length-pairs numbers s in
-          ap (λ z. get_or (unrolled outer told (c * s)) z 0) e ∙ named_at outer told (c * s) low_named (j / (c * s)) (j % (c * s)) i a
+          ap (λ z. get_or (unrolled outer labels (c * s)) z 0) e ∙ named_at outer labels (c * s) low_named (j / (c * s)) (j % (c * s)) i a
           ∙ ap (λ us. get_or us (get_or outer (j / (c * s)) 0 * (c * s) + j % (c * s)) 0) names.numbers_are
           ∙ get_or-map names.name (pairs numbers s) (get_or outer (j / (c * s)) 0 * (c * s) + j % (c * s)) (0, 0) 0 (omega arith)
           ∙ ap names.name (place_pair' j (omega arith)) ∙ sym (get_or-map names.name (pairs (unrolled outer numbers (c * (2 * s))) s) j (0, 0) 0 (omega arith)))
 
 pub low_strips : (outer numbers : List ℕ) (c s : ℕ) → AreStrips outer numbers (c * (2 * s)) → 0 < c → 0 < s →
-    (masks : List ℕ) (x : ℕ) (told joined : List ℕ) → TellsPairs masks x (pairs numbers s) told joined → AreStrips outer told (c * s)
-low_strips outer numbers c s strips some some_s masks x told joined names =
-    let w = low_whole outer numbers c s (named_of outer numbers (c * (2 * s)) strips) some some_s masks x told joined names in
+    (masks : List ℕ) (x : ℕ) (labels joined : List ℕ) → TellsPairs masks x (pairs numbers s) labels joined → AreStrips outer labels (c * s)
+low_strips outer numbers c s strips some some_s masks x labels joined names =
+    let w = low_whole outer numbers c s (named_of outer numbers (c * (2 * s)) strips) some some_s masks x labels joined names in
     record { count = strips.count; whole = w; within = strips.within; used = strips.used }

@@ -54,7 +54,7 @@ in_use_same p q m h = filter_range_same p q 0 m (λ k l u. h k (omega arith))
 
 module _ (n : ℕ) (F : List Function) (S keys masks : List ℕ) (below : (i : ℕ) → i < length keys → get_or keys i 0 < length masks)
     (classes : class_numbers n F S ≡ ranks nat_eq keys)
-    (told : map (λ k. get_or masks k 0) keys ≡ map (dependence n) (reach F (reverse (outside n S)))) where
+    (labels : map (λ k. get_or masks k 0) keys ≡ map (dependence n) (reach F (reverse (outside n S)))) where
   -- as many keys as classes
   pub many_keys : distinct_count nat_eq keys ≡ distinct_count same_table (entries n F S)
   unfolding class_numbers class_of ranks rank
@@ -226,7 +226,7 @@ strips_row t low outer numbers masks h wanted x w inside e = e ∙ elim (cases_e
       ∙ ap (λ ms. length (filter (λ m. eqb (bit_at m x) 1) ms))
       (in_use_strips outer numbers (2 ^ free_below t.set low) (pow_pos (free_below t.set low)) h.strips masks)
       ∙ sym (width_by_use t.problem.inputs (functions_of t) (set_of t) (unrolled outer numbers (2 ^ free_below t.set low)) masks
-      h.keys.below h.keys.classes h.keys.told x small s)
+      h.keys.below h.keys.classes h.keys.labels x small s)
       ∙ sym (ap (λ b. cond b (width t.problem.inputs (functions_of t) (without x (set_of t)) x) 0) (eq-eqb (bit_at wanted x) 1 one))
   | inr none ↦
       ap (λ b. cond b (length (filter (λ m. eqb (bit_at m x) 1) (masks_in_use numbers masks))) 0) (ne_eqb (bit_at wanted x) 1 none)

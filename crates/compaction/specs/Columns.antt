@@ -29,7 +29,7 @@ pub record KeepsRuns (values : List Bool) (outer kept : List ℕ) (count : ℕ) 
   pub within : (i : ℕ) → i < length outer → slice_index outer i < count
   pub used : (k : ℕ) → k < count → (i : ℕ) × ((i < length outer) × (slice_index outer i ≡ k))
   pub few : count ≤ length outer
-  pub told : (i b : ℕ) → i < length outer → b < 256 →
+  pub labels : (i b : ℕ) → i < length outer → b < 256 →
       packed_bit kept (slice_index outer i * 256 + b) ≡ get_or values (i * 256 + b) false
 
 abbrev pub KeepsValues : Columns → List Bool → Type 0

@@ -3,7 +3,7 @@
 --     AreStrips      each strip is whole, and used
 --     HoldsValues p outer numbers len      strips that hold a problem's values
 --     StripTableOf, IsStripTable outer rank numbers bits masks      strips whose names are paired by a variable
---     GrowsStrips t x grown told joined      the strips with that variable too
+--     GrowsStrips t x grown labels joined      the strips with that variable too
 --     masks_in_use numbers masks      the masks of the numbers that occur, rising
 --     HoldsKeys t keys masks      the numbers tell the set's subfunctions apart, in any order; the masks are what the function with each number depends on
 --     HoldsStrips t low outer numbers masks      the unrolled table holds the keys of t; `low` parts the variables
@@ -64,12 +64,12 @@ pub record IsStripTable (outer : List ℕ) (rank : ℕ) (numbers : List ℕ) (bi
   pub below : AllBelow numbers (length masks)
 
 -- strips with that variable x too: all their entries tell the pairs of the entries apart, and the masks are those of the pairs
-pub record GrowsStrips (t : StripTableOf) (x : ℕ) (grown told joined : List ℕ) : Type 0 where
-  pub strips : AreStrips grown told (2 ^ t.bits)
+pub record GrowsStrips (t : StripTableOf) (x : ℕ) (grown labels joined : List ℕ) : Type 0 where
+  pub strips : AreStrips grown labels (2 ^ t.bits)
   pub tells : TellsPairs t.masks x (pairs (unrolled t.outer t.numbers (2 ^ t.bits)) (2 ^ t.bits * 2 ^ t.rank))
-      (unrolled grown told (2 ^ t.bits)) joined
-  pub below : AllBelow told (length joined)
-  pub few : length told ≤ 2 ^ 20
+      (unrolled grown labels (2 ^ t.bits)) joined
+  pub below : AllBelow labels (length joined)
+  pub few : length labels ≤ 2 ^ 20
 
 -- the masks of the numbers that occur
 unfoldable pub masks_in_use : List ℕ → List ℕ → List ℕ
@@ -82,7 +82,7 @@ pub record HoldsKeys (t : ClassesOf) (keys masks : List ℕ) : Type 0 where
   pub few_masks : length masks ≤ 2 ^ 20
   pub below : AllBelow keys (length masks)
   pub classes : class_numbers t.problem.inputs (functions_of t) (set_of t) ≡ ranks nat_eq keys
-  pub told : map (λ k. slice_index masks k) keys
+  pub labels : map (λ k. slice_index masks k) keys
       ≡ map (dependence t.problem.inputs) (reach (functions_of t) (reverse (outside t.problem.inputs (set_of t))))
 
 -- a strip has an entry for each assignment of the variables below `low` outside the set

@@ -1,4 +1,4 @@
-//! One more variable in strips: pairs of strips, whose entries are told apart.
+//! One more variable in strips: pairs of strips, whose entries are numbered.
 
 ghost use Rattle.std.specs.Prelude.{◌≡◌, ℕ, ◌+◌, ◌*◌, ◌^◌, ◌<◌, ◌≤◌, length, slice_index, IfOk, IsTrue};
 ghost use Rattle.subfunction_classes.specs.PairTables.{AreOwn};
@@ -87,7 +87,7 @@ fn add_in_order(alloc: Global, table: &StripTable<'_>, x: VarIx) -> Result<Strip
     ensures { IfOk result (λ g.
         GrowsStrips table.now x g.outer.items g.numbers.items g.masks.items) }
 {
-    let told = label_pairs(
+    let labels = label_pairs(
         alloc,
         table.numbers,
         table.bits + table.rank,
@@ -97,9 +97,9 @@ fn add_in_order(alloc: Global, table: &StripTable<'_>, x: VarIx) -> Result<Strip
     let outer = first_numbers(alloc, table.outer.len() / 2)?;
     Ok(StripParts {
         outer,
-        numbers: told.numbers,
-        masks: told.masks,
-        all_used: told.all_used,
+        numbers: labels.numbers,
+        masks: labels.masks,
+        all_used: labels.all_used,
     })
 }
 
@@ -117,7 +117,7 @@ fn add_by_pairs(
 {
     let strips = table.numbers.len() >> table.bits;
     let runs = number_names(alloc, table.outer, table.rank, strips, known)?;
-    let told = label_strip_pairs(
+    let labels = label_strip_pairs(
         alloc,
         &runs.pairs,
         table.numbers,
@@ -127,9 +127,9 @@ fn add_by_pairs(
     )?;
     Ok(StripParts {
         outer: runs.numbers,
-        numbers: told.numbers,
-        masks: told.masks,
-        all_used: told.all_used,
+        numbers: labels.numbers,
+        masks: labels.masks,
+        all_used: labels.all_used,
     })
 }
 

@@ -125,14 +125,14 @@ impl<'a> ByteKeys<'a> {
         let outer = self.outer.to_vec(alloc)?;
         let mut bytes = Vec::with_capacity(alloc, self.bytes.len())?;
         bytes.extend_from_slice(&self.bytes)?;
-        let told = label_pairs(alloc, &self.rows, rank, x, &self.masks)?;
+        let labels = label_pairs(alloc, &self.rows, rank, x, &self.masks)?;
         Ok(ByteKeys {
             problem: self.problem,
             set: self.set | (1 << x),
             outer,
             bytes,
-            rows: told.numbers,
-            masks: told.masks,
+            rows: labels.numbers,
+            masks: labels.masks,
         })
     }
 

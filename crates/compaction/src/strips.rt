@@ -73,7 +73,7 @@ fn row_of(masks: &[u16], wanted: Mask) -> [u32; 16]
 fn numbers_in_use(alloc: Global, numbers: &[u32], count: usize) -> Result<Vec<bool>, AllocError>
     requires below { AllBelow numbers.now count }
     ensures long { IfOk result (λ v. length v.items ≡ count) }
-    ensures told { IfOk result
+    ensures labels { IfOk result
         (λ v. (k : ℕ) → k < count → get_or v.items k false ≡ has numbers.now k) }
 {
     let mut used = vec![in alloc; false; count]?;
@@ -226,13 +226,13 @@ impl<'a> Strips<'a> {
             Some(count) => Ok(Strips::of_count(alloc, self.problem, set, count / 2)),
             None => {
                 let rank = rank_of(self.set, x);
-                let told = label_pairs(alloc, &self.numbers, rank, x, &self.masks)?;
+                let labels = label_pairs(alloc, &self.numbers, rank, x, &self.masks)?;
                 let outer = self.outer.to_vec(alloc)?;
                 let parts = StripParts {
                     outer,
-                    numbers: told.numbers,
-                    masks: told.masks,
-                    all_used: told.all_used,
+                    numbers: labels.numbers,
+                    masks: labels.masks,
+                    all_used: labels.all_used,
                 };
                 Ok(Strips::of_parts(alloc, self.problem, set, parts))
             }

@@ -60,7 +60,7 @@ fn numbers_crowded_pairs(rt: &impl Abort, alloc: Global) -> bool {
 }
 
 #[test]
-fn numberings_of_pairs(rt: HostRuntime) {
+fn pairs_are_numbered_with_their_masks(rt: HostRuntime) {
     assert!(rt; numbers_pairs(&rt, rt.alloc()) && numbers_crowded_pairs(&rt, rt.alloc()));
     assert!(rt; labels_strip_pairs(&rt, rt.alloc()));
 }

@@ -76,7 +76,7 @@ fn is_found_at_once(rt: &impl Abort, alloc: Global, problem: &Problem, one: &Cla
 }
 
 #[test]
-fn classes_of_the_multiplexer(rt: HostRuntime) {
+fn the_multiplexer_has_its_classes(rt: HostRuntime) {
     let problem = problem_of(&rt, rt.alloc(), MULTIPLEXER);
     let mut tally = Tally::new();
     let none = Classes::of_problem(rt.alloc(), &problem).expect(&rt, "memory");
@@ -107,7 +107,7 @@ fn compact_all(rt: &impl Abort, alloc: Global, problem: &Problem) {
 }
 
 #[test]
-fn both_ways_of_compacting(rt: HostRuntime) {
+fn both_numberings_agree(rt: HostRuntime) {
     for tables in &PROBLEMS {
         compact_all(&rt, rt.alloc(), &problem_of(&rt, rt.alloc(), *tables));
     }

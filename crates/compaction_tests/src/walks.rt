@@ -77,7 +77,7 @@ fn row_at(rt: &impl Abort, alloc: Global, problem: &Problem, place: usize) -> ([
 // Of ten variables the walk goes on to two sets of three, with the ninth variable and with the
 // tenth.
 #[test]
-fn rows_of_one_set(rt: HostRuntime) {
+fn a_row_has_the_widths_of_its_set(rt: HostRuntime) {
     let multiplexer = problem_of(&rt, rt.alloc(), MULTIPLEXER);
     let (row, ahead) = row_at(&rt, rt.alloc(), &multiplexer, 0);
     assert!(rt; row == [1, 1, 0, 0, 0, 0, 0, 0, 0, 0, 0, 0, 0, 0, 0, 0] && ahead == 0);

@@ -102,7 +102,7 @@ fn has_one_at_each(rt: &impl Abort, alloc: Global, problem: &Problem, block: &Bl
 
 // The layer has three blocks, one for each set of two variables.
 #[test]
-fn first_block_of_the_multiplexer(rt: HostRuntime) {
+fn the_first_block_of_the_multiplexer_has_widths_of_one(rt: HostRuntime) {
     let problem = problem_of(&rt, rt.alloc(), MULTIPLEXER);
     let layer = Layer::of(rt.alloc(), 3, 2).expect(&rt, "memory");
     assert!(rt; layer.blocks() == 3);
@@ -117,7 +117,7 @@ fn sum_layers(rt: &impl Abort, alloc: Global, problem: &Problem) {
 }
 
 #[test]
-fn widths_of_blocks(rt: HostRuntime) {
+fn blocks_have_the_widths_of_their_sets(rt: HostRuntime) {
     for tables in &PROBLEMS {
         sum_layers(&rt, rt.alloc(), &problem_of(&rt, rt.alloc(), *tables));
     }
@@ -126,7 +126,7 @@ fn widths_of_blocks(rt: HostRuntime) {
 // Of the numbers two runs of 256 points are equal to others; of half the sets of the cubes all
 // subfunctions are distinct. The sums were counted by another program, by the definition.
 #[test]
-fn widths_of_ten_variables(rt: HostRuntime) {
+fn widths_of_ten_variables_have_the_counted_sums(rt: HostRuntime) {
     let numbers = five_bit_numbers(&rt, rt.alloc());
     assert!(rt; sum_of_layer(&rt, rt.alloc(), &numbers, 1) == 20);
     assert!(rt; sum_of_layer(&rt, rt.alloc(), &numbers, 5) == 41363);

@@ -8,7 +8,7 @@ use Rattle.unique_table.specs.Plans.{levels_of, variable_at}
 use Rattle.unique_table.specs.Sessions.{StoreId, Knowledge, Follows, Knows, Means, HasLevels, LiesNoHigher, IsKnownBelow, function_in, depth_in}
 use Rattle.unique_table.proofs.Following.{follows_trans, known_below_follows}
 use Rattle.dd_builder.specs.Operating.{IsFrom, Settles, IsCut, IsCombined, AreCombined}
-use Rattle.dd_builder.proofs.Going.{means_same, function_zero, function_one, terminal_known, terminal_depth}
+use Rattle.dd_builder.proofs.SessionSteps.{means_same, function_zero, function_one, terminal_known, terminal_depth}
 
 -- ---- operands that settle an operation
 

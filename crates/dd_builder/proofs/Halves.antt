@@ -16,7 +16,7 @@ use Rattle.dd_builder.specs.declared.workers.Job.{Job}
 use Rattle.dd_builder.specs.Building.{KnowsFull}
 use Rattle.dd_builder.specs.Parts.{KeepsFrom, Continues, halved, halvings_for, HasHalf, AreHalves, AreJobsOf, IsShareOf, AreSharesOf, IsOpened, IsEndOf, HasShare, HasPart, session_of}
 use Rattle.dd_builder.proofs.Ends.{End, ends_last, ends_front, joined_first, joined_more}
-use Rattle.dd_builder.proofs.Keeping.{of_grown, keeps_joined, kept_on}
+use Rattle.dd_builder.proofs.SubfunctionNodes.{of_grown, keeps_joined, kept_on}
 
 pub halved_none : (s : Stake) → halved 0 s ≡ s
 halved_none s = grind arith

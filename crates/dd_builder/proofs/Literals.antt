@@ -20,7 +20,7 @@ use Rattle.node_words.specs.Meaning.{branch}
 use Rattle.unique_table.specs.declared.plan.Plan.{Plan}
 use Rattle.unique_table.specs.Sessions.{Knowledge, Follows, Knows, Means, function_in}
 use Rattle.dd_builder.specs.Literals.{with_literal, with_product, product_in}
-use Rattle.dd_builder.proofs.Going.{means_same, means_own, means_at, function_zero, function_one, terminal_known}
+use Rattle.dd_builder.proofs.SessionSteps.{means_same, means_own, means_at, function_zero, function_one, terminal_known}
 use Rattle.std.proofs.Math.Bool.{or-true}
 
 -- ---- one literal

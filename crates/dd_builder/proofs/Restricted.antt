@@ -11,11 +11,11 @@ use Rattle.node_words.specs.Meaning.{branch}
 use Rattle.unique_table.specs.declared.plan.Plan.{Plan}
 use Rattle.unique_table.specs.declared.plan.PieceKind.{PieceKind}
 use Rattle.unique_table.specs.declared.plan.PieceKind.TheVariants.{Restrictions, Products}
-use Rattle.unique_table.specs.Plans.{order_of, levels_of, variable_at, output_at, fixed, tops, ways, part_function, piece_function, parts_count, IsPlan}
+use Rattle.unique_table.specs.Plans.{order_of, levels_of, variable_at, output_at, fixed, top_variables, top_assignments, part_function, piece_function, parts_count, IsPlan}
 use Rattle.unique_table.specs.Sessions.{StoreId, Knowledge, Follows, Means, function_in}
 use Rattle.dd_builder.specs.Building.{AreRestrictions}
 use Rattle.dd_builder.specs.Paths.{IsPointOf}
-use Rattle.dd_builder.proofs.Going.{means_same, means_at, function_zero, function_one, terminal_known}
+use Rattle.dd_builder.proofs.SessionSteps.{means_same, means_at, function_zero, function_one, terminal_known}
 use Rattle.dd_builder.proofs.Combining.{branch_same}
 use Rattle.dd_builder.proofs.Restricting.{fixed_point, fixed_step}
 
@@ -80,7 +80,7 @@ take_taken (suc k) [] = refl
 take_taken (suc k) (x ∷ xs) = ap (λ ys. x ∷ ys) (take_taken k xs)
 
 part_restriction : (kind : PieceKind) (order : List ℕ) (t : TruthTables) (q : ℕ) → AreRestrictions kind →
-    part_function kind order t q ≡ fixed (tops order) (q % ways order) (output_at t (q / ways order))
+    part_function kind order t q ≡ fixed (top_variables order) (q % top_assignments order) (output_at t (q / top_assignments order))
 unfolding part_function
 part_restriction Restrictions order t q h = refl
 part_restriction (Products terms) order t q h = absurd h
@@ -93,22 +93,22 @@ part_piece b q short =
     (lt-ltb q b.roots short)
 
 -- an output with the variables on top fixed is a piece
-pub restriction_piece : (b : Plan) (q count ways' output path : ℕ) → AreRestrictions b.kind → q < b.roots →
-    count ≡ length (tops (order_of b)) → ways' ≡ 2 ^ count → output ≡ q / ways' → path ≡ q % ways'
+pub restriction_piece : (b : Plan) (q count top_assignments' output path : ℕ) → AreRestrictions b.kind → q < b.roots →
+    count ≡ length (top_variables (order_of b)) → top_assignments' ≡ 2 ^ count → output ≡ q / top_assignments' → path ≡ q % top_assignments'
     → fixed (take count (order_of b)) path (output_at b.problem.value output) ≡ piece_function b q
-restriction_piece b q count ways' output path is short top w o r = grind (arith, take_taken, part_restriction, part_piece)
+restriction_piece b q count top_assignments' output path is short top w o r = grind (arith, take_taken, part_restriction, part_piece)
 
-restrictions_count : (kind : PieceKind) (order : List ℕ) (t : TruthTables) → AreRestrictions kind → parts_count kind order t ≡ outputs_of t * ways order
+restrictions_count : (kind : PieceKind) (order : List ℕ) (t : TruthTables) → AreRestrictions kind → parts_count kind order t ≡ outputs_of t * top_assignments order
 restrictions_count Restrictions order t is = refl
 restrictions_count (Products terms) order t is = absurd is
 
-restriction_inside : (b : Plan) (count path output : ℕ) → IsPlan b → AreRestrictions b.kind → count ≡ length (tops (order_of b)) →
+restriction_inside : (b : Plan) (count path output : ℕ) → IsPlan b → AreRestrictions b.kind → count ≡ length (top_variables (order_of b)) →
     output < outputs_of b.problem.value → path < 2 ^ count → output * 2 ^ count + path < b.roots
 restriction_inside b count path output plan is top short inside = grind (arith, restrictions_count, mul-le-mul_right)
 
 -- a part's number, as the program has it
 pub restriction_at : (b : Plan) (count q output path : ℕ) → IsPlan b → AreRestrictions b.kind → output < outputs_of b.problem.value →
-    count ≡ length (tops (order_of b)) → count ≤ 2 → output < 256 → path < 2 ^ count
+    count ≡ length (top_variables (order_of b)) → count ≤ 2 → output < 256 → path < 2 ^ count
     → q ≡ output * 2 ^ count % 18446744073709551616 + path → fixed (take count (order_of b)) path (output_at b.problem.value output) ≡ piece_function b q
 restriction_at b count q output path h k l m e p s t = grind (arith, restriction_inside, restriction_piece)
 

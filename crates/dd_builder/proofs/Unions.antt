@@ -15,7 +15,7 @@ use Rattle.unique_table.specs.declared.plan.PieceKind.TheVariants.{Restrictions,
 use Rattle.unique_table.specs.Plans.{levels_of, output_at, share, products_of, part_function, piece_function, AreTermsOf, IsPlan, parts_count}
 use Rattle.unique_table.specs.Sessions.{Knowledge, Follows, Means, function_in}
 use Rattle.dd_builder.specs.Parts.{AreOfTerms, shares_union}
-use Rattle.dd_builder.proofs.Going.{means_same, means_at}
+use Rattle.dd_builder.proofs.SessionSteps.{means_same, means_at}
 use Rattle.dd_builder.proofs.Restricted.{part_piece}
 use Rattle.dd_builder.proofs.Shares.{share_last, terms_part, none}
 use Rattle.std.proofs.Math.Bool.{or-false}

@@ -19,7 +19,7 @@ use Rattle.order_model.specs.Problems.{TruthTables, outputs_of}
 use Rattle.unique_table.specs.declared.plan.Plan.{Plan}
 use Rattle.unique_table.specs.declared.plan.PieceKind.{PieceKind}
 use Rattle.unique_table.specs.declared.plan.PieceKind.TheVariants.{Restrictions, Products}
-use Rattle.unique_table.specs.Plans.{order_of, products_of, tops, piece_function}
+use Rattle.unique_table.specs.Plans.{order_of, products_of, top_variables, piece_function}
 use Rattle.unique_table.specs.declared.session.Stake.{Stake}
 use Rattle.unique_table.specs.Sessions.{StoreId, Knowledge, Follows, HasPiece, Knows, IsAlone, depth_in}
 use Rattle.unique_table.specs.Stakes.{IsNoLess}
@@ -52,7 +52,7 @@ IsSourceFor b (Terms terms) = IsForTerms b terms.now
 
 -- the level from which the nodes of parts stand: below the variables that are fixed
 abbrev pub first_level : PieceKind → List ℕ → ℕ
-first_level Restrictions order = length (tops order)
+first_level Restrictions order = length (top_variables order)
 first_level (Products terms) order = 0
 
 abbrev pub part_level : Plan → ℕ

@@ -2,7 +2,7 @@
 
 ghost use Rattle.std.specs.Prelude.{◌≡◌, ◌+◌, ◌^◌, ◌<◌, ◌≤◌, length, take, IfOk, OnOk, OnErr};
 ghost use Rattle.order_model.specs.Problems.{outputs_of};
-ghost use Rattle.unique_table.specs.Plans.{order_of, output_at, piece_function, fixed, tops as tops_of};
+ghost use Rattle.unique_table.specs.Plans.{order_of, output_at, piece_function, fixed, top_variables as top_variables_of};
 ghost use Rattle.unique_table.specs.Sessions.{Means, Follows, depth_in};
 ghost use Rattle.dd_builder.specs.Building.{KnowsFull, AreRestrictions};
 ghost use Rattle.dd_builder.specs.Making.{Makes};
@@ -13,7 +13,7 @@ ghost use Rattle.dd_builder.specs.Parts.{IsSourceFor, AreOfTerms, KeepsFrom, Kno
 use crate::laws::stores_have_plans;
 use crate::operations::apply;
 use crate::parts::Source;
-use crate::tables::tops;
+use crate::tables::top_variables;
 use unique_table::{NodeId, Operation, Session, Store, StoreFull};
 
 /// The id of a part, which the session knows.
@@ -44,16 +44,16 @@ fn of_restrictions(
     requires session { KnowsParts store.now session.old }
     requires kind { AreRestrictions store.now.plan.kind }
     requires output { output < outputs_of store.now.plan.problem.value }
-    requires level { level ≤ length (tops_of (order_of store.now.plan)) }
+    requires level { level ≤ length (top_variables_of (order_of store.now.plan)) }
     requires path { path < 2 ^ level }
     ensures made { Makes session.old session.new result
         (output_along store.now.plan level path output) }
     ensures kept { KeepsSubfunctions session.old session.new }
     ensures level { IfOk result (λ id. level ≤ depth_in session.new id) }
 {
-    let tops = tops(store.order().variables());
-    if level == tops {
-        return Ok(part_id(store, session, (usize::from(output) << tops) + path));
+    let top_variables = top_variables(store.order().variables());
+    if level == top_variables {
+        return Ok(part_id(store, session, (usize::from(output) << top_variables) + path));
     }
     let low = of_restrictions(store, session, output, level + 1, path)?;
     let high = of_restrictions(store, session, output, level + 1, path + (1 << level))?;

@@ -3,7 +3,7 @@
 ghost use Rattle.std.specs.Prelude.{◌≡◌, ◌^◌, ◌<◌, ◌≤◌, length, take, IfOk, OnErr};
 ghost use Rattle.order_model.specs.Orders.{IsOrder};
 ghost use Rattle.order_model.specs.Problems.{outputs_of};
-ghost use Rattle.unique_table.specs.Plans.{order_of, levels_of, output_at, fixed, piece_function, tops};
+ghost use Rattle.unique_table.specs.Plans.{order_of, levels_of, output_at, fixed, piece_function, top_variables};
 ghost use Rattle.unique_table.specs.Sessions.{Means, Follows, depth_in};
 ghost use Rattle.dd_builder.specs.Building.{IsForTables};
 ghost use Rattle.dd_builder.specs.Making.{Makes};
@@ -77,9 +77,9 @@ fn output_below(
 }
 
 /// How many variables on top of an order are fixed in pieces.
-pub(crate) fn tops(order: &[VarIx]) -> u8
+pub(crate) fn top_variables(order: &[VarIx]) -> u8
     requires { 1 ≤ length order.now }
-    ensures value { result ≡ length (tops order.now) }
+    ensures value { result ≡ length (top_variables order.now) }
     ensures few { result ≤ 2 }
 {
     if order.len() == 1 { 1 } else { 2 }
@@ -98,13 +98,13 @@ pub(crate) fn restriction(
     ensures made { Makes session.old session.new result (piece_function store.now.plan piece) }
     ensures kept { KeepsSubfunctions session.old session.new }
     ensures level { IfOk result
-        (λ id. length (tops (order_of store.now.plan)) ≤ depth_in session.new id) }
+        (λ id. length (top_variables (order_of store.now.plan)) ≤ depth_in session.new id) }
 {
     let order = store.order().variables();
-    let level = tops(order);
-    let ways = 1usize << level;
-    let output = (piece / ways) as u8;
-    let bits = (piece % ways) as u32;
+    let level = top_variables(order);
+    let top_assignments = 1usize << level;
+    let output = (piece / top_assignments) as u8;
+    let bits = (piece % top_assignments) as u32;
     let point = point_of(order, bits);
     output_below(store, session, tables, output, Path { level, bits, point })
 }

@@ -11,9 +11,9 @@ use Rattle.atomic_table.proofs.Lists.{at_map, set_again}
 use Rattle.subset_layers.specs.Layers.{blocks_of}
 use Rattle.layer_core.specs.Machine.{World, Worker, Claimed, NoMore, Posted, Double, Seen, Empty, Claim, Post, Read, step, place_of, cell_at, claims_block, ends, learns, moved, claimed}
 use Rattle.layer_core.proofs.Cases.{claim_next, claim_past, read_empty, read_sees, post_double, post_fills}
-use Rattle.layer_core.specs.Settings.{layout_of}
+use Rattle.layer_core.specs.Instances.{layout_of}
 use Rattle.layer_board.specs.Views.{BriefOf, SeatView, after}
-use Rattle.layer_board.specs.Picture.{Kept, Sat, cell_in, cell_words, counter_of, worker_of, shows, claims, posts, reads, claim_reply, post_reply, read_reply}
+use Rattle.layer_board.specs.Invariant.{Kept, Sat, cell_in, cell_words, counter_of, worker_of, shows, claims, posts, reads, claim_reply, post_reply, read_reply}
 use Rattle.layer_board.proofs.Words.{counter_set, cells_set_counter, counter_read, counter_set_cell, cells_set, cell_read, cell_shown, cells_shown_set, full_word, empty_word}
 use Rattle.layer_board.proofs.Rule.{St, picture_moved, small_counter, posted_at, read_at}
 use Rattle.std.proofs.lemmas.Bool.{cases_lt}
@@ -32,13 +32,13 @@ module _ (b : BriefOf) (s : St) (k : Kept b s) (id : ℕ) (v : SeatView) (at : g
   after_step i n counter cells m w wrote new_counter new_cells is =
       picture_moved b.layer s.words s.views i n id counter cells m.0 new_counter new_cells ∙ ap (λ (z : Sat). moved (shows b s) counter cells id z.0.worker) is
 
-  pub claim_event : (slots : ℕ) (m : Sat) → v.worker.told ≡ false → claims (table_step slots 0 1 0 none) (v, []) (get_or s.words 0 0) m
+  pub claim_event : (slots : ℕ) (m : Sat) → v.worker.ended ≡ false → claims (table_step slots 0 1 0 none) (v, []) (get_or s.words 0 0) m
       → (
         claim_reply (length (blocks_of b.layer)) (get_or s.words 0 0),
         shows b (stepped s 0 ((get_or s.words 0 0 + 1) % 2 ^ 64) id [] m.0 keeps),
       ) ≡
       step (shows b s) (Claim id)
-  claim_event slots m untold told =
+  claim_event slots m untold ended =
       let n : ℕ = get_or s.words 0 0 in let is : n ≡ counter_of s.words = counter_read s.words in
       let small = small_counter b s k in let wide : 0 < length s.words = omega arith in
       let up : (n + 1) % 2 ^ 64 ≡ counter_of s.words + 1 = mod-eq_of_lt (omega arith) ∙ ap (λ (z : ℕ). z + 1) is in
@@ -50,7 +50,7 @@ module _ (b : BriefOf) (s : St) (k : Kept b s) (id : ℕ) (v : SeatView) (at : g
       let next : shows b (stepped s 0 ((n + 1) % 2 ^ 64) id [] m.0 keeps) ≡ moved (shows b s) (counter_of s.words + 1)
       (map cell_in (cell_words s.words)) id (claims_block v.worker n) =
       after_step 0 ((n + 1) % 2 ^ 64) (counter_of s.words + 1) (map cell_in (cell_words s.words)) m (claims_block v.worker n) 1 now same
-      (told.0 (omega (arith, same_blocks))).0 in
+      (ended.0 (omega (arith, same_blocks))).0 in
       (λ i. (cond (lt-ltb n (length (blocks_of b.layer)) low i) (Claimed n) NoMore, next i))
       ∙ ((λ i. (
         Claimed (is i),
@@ -61,7 +61,7 @@ module _ (b : BriefOf) (s : St) (k : Kept b s) (id : ℕ) (v : SeatView) (at : g
       let next : shows b (stepped s 0 ((n + 1) % 2 ^ 64) id [] m.0 keeps) ≡ moved (shows b s) (counter_of s.words + 1)
       (map cell_in (cell_words s.words)) id (ends v.worker) =
       after_step 0 ((n + 1) % 2 ^ 64) (counter_of s.words + 1) (map cell_in (cell_words s.words)) m (ends v.worker) 1 now same
-      (told.1 (omega (arith, same_blocks))) in
+      (ended.1 (omega (arith, same_blocks))) in
       (λ i. (cond (le-ltb n (length (blocks_of b.layer)) high i) (Claimed n) NoMore, next i))
       ∙ sym (claim_past (shows b s) id v.worker there untold (omega arith)))
       (cases_lt n (length (blocks_of b.layer)))
@@ -82,8 +82,8 @@ module _ (b : BriefOf) (s : St) (k : Kept b s) (id : ℕ) (v : SeatView) (at : g
 
     pub read_event : (slots : ℕ) (m : Sat) → reads (table_step slots (p + 1) 0 0 none) (v, []) (get_or s.words (p + 1) 0) m
         → (read_reply (get_or s.words (p + 1) 0), shows b (stepped s (p + 1) (get_or s.words (p + 1) 0) id [] m.0 keeps)) ≡ step (shows b s) (Read id mask)
-    read_event slots m told =
-        let n : ℕ = get_or s.words (p + 1) 0 in let tells = read_at slots p 0 0 n (v, []) m told in
+    read_event slots m ended =
+        let n : ℕ = get_or s.words (p + 1) 0 in let tells = read_at slots p 0 0 n (v, []) m ended in
         dite (ℕ_discrete n 0)
         (λ empty.
         let next = after_step (p + 1) n (counter_of s.words) (map cell_in (cell_words s.words)) m v.worker 0 (ap counter_of unchanged)
@@ -104,8 +104,8 @@ module _ (b : BriefOf) (s : St) (k : Kept b s) (id : ℕ) (v : SeatView) (at : g
           shows b (stepped s (p + 1) (either (eqb (get_or s.words (p + 1) 0) 0) new (get_or s.words (p + 1) 0)) id [] m.0 keeps),
         ) ≡
         step (shows b s) (Post id mask cell)
-    post_event slots new cell m mine stands told =
-        let n : ℕ = get_or s.words (p + 1) 0 in let tells = posted_at slots p 0 new n (v, []) m told in
+    post_event slots new cell m mine stands ended =
+        let n : ℕ = get_or s.words (p + 1) 0 in let tells = posted_at slots p 0 new n (v, []) m ended in
         dite (ℕ_discrete n 0)
         (λ empty.
         let counter : counter_of (set s.words (p + 1) new) ≡ counter_of s.words = ap (λ (z : ℕ). counter_of (set s.words z new)) (add-one p)

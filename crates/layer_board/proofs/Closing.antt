@@ -11,10 +11,10 @@ use Rattle.layer_core.specs.Machine.{Worker, knows, place_of}
 use Rattle.layer_core.specs.Rights.{total}
 use Rattle.layer_core.proofs.Runs.{cells_are}
 use Rattle.layer_board.specs.declared.closed.CloseError.TheVariants.{Missing, OutOfMemory}
-use Rattle.layer_core.specs.Settings.{layout_of}
+use Rattle.layer_core.specs.Instances.{layout_of}
 use Rattle.layer_board.specs.Views.{BriefOf, ClosedBoardOf, SeatOf, SeatView, knows_place}
 use Rattle.layer_board.specs.Closing.{IsLastState, IsFinalBoard, OneMissesTheLeast}
-use Rattle.layer_board.specs.Picture.{Kept, picture, worker_of, cell_words, cell_in}
+use Rattle.layer_board.specs.Invariant.{Kept, state_shown, worker_of, cell_words, cell_in}
 use Rattle.layer_core.specs.Pairing.{pair_of}
 use Rattle.layer_board.specs.Refusals.{SeatsLackWhatIsEmpty}
 use Rattle.layer_core.proofs.Layouts.{place_found, length-map_lem}
@@ -65,8 +65,8 @@ module _ (b : BriefOf) (V : SeatView) (id : ℕ) (ws : List ℕ) (slots : List (
       IsFinalBoard S c
   is_last S c same worker brief cells = record {
     brief = brief ∙ sym same;
-    last = picture b.layer end.0.words end.0.views;
-    is_last = subst (λ (z : BriefOf × Worker). IsLastState z.0 z.1 (picture b.layer end.0.words end.0.views)) (λ i. (sym brief i, sym worker i)) record {
+    last = state_shown b.layer end.0.words end.0.views;
+    is_last = subst (λ (z : BriefOf × Worker). IsLastState z.0 z.1 (state_shown b.layer end.0.words end.0.views)) (λ i. (sym brief i, sym worker i)) record {
       right = kept.right;
       layout = refl;
       few = few_workers;

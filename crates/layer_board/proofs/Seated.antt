@@ -5,7 +5,7 @@ use Rattle.subset_layers.specs.Layers.{LayerOf, masks_of, blocks_of, block_place
 use Rattle.layer_core.specs.Machine.{Worker, place_of, learns, claimed, knows}
 use Rattle.layer_board.specs.declared.boards.Board.TheInside as board
 use Rattle.layer_board.specs.declared.seats.BoardSeat.TheInside as seat
-use Rattle.layer_core.specs.Settings.{ResultOf, layout_of, cell_for}
+use Rattle.layer_core.specs.Instances.{ResultOf, layout_of, cell_for}
 use Rattle.layer_board.specs.Views.{BriefOf, BoardId, SeatOf, after, stepped, claims_place, knows_place, learns_place, has_claimed, knows_filled, learned, found_empty, found_empty_at}
 use Rattle.layer_board.specs.Held.{board_shown, seat_shown, view_of, IsBoard, IsBoardSeat}
 use Rattle.layer_core.proofs.Layouts.{place_found, block_at}
@@ -55,8 +55,8 @@ module _ (b : board.Inside) (s : seat.Inside) (B : BoardId) (S : SeatOf) (kept :
   still_there s' w wrote table me = ap (λ (z : SeatOf). z.board) (shown_after s s' w wrote table me) ∙ (same_board ∙ bv)
 
   -- what the board's cells are for
-  pub seen_setting : (view_of s).brief.setting ≡ B.brief.setting
-  seen_setting = ap (λ (z : BriefOf). z.setting) same_brief ∙ ap (λ (z : BoardId). z.brief.setting) bv
+  pub seen_instance : (view_of s).brief.instance ≡ B.brief.instance
+  seen_instance = ap (λ (z : BriefOf). z.instance) same_brief ∙ ap (λ (z : BoardId). z.brief.instance) bv
 
   abbrev L : LayerOf
   L = (view_of s).brief.layer
@@ -99,9 +99,9 @@ module _ (b : board.Inside) (s : seat.Inside) (B : BoardId) (S : SeatOf) (kept :
     claims_long block under = subst (λ (l : List Bool). block < length l) (sym held.claims) (omega (arith, held.claims_wide, same_blocks, under))
 
     -- the posted cell is the one of the mask
-    pub cell_there : (r : ResultOf) → r.cell ≡ cell_for r.setting r.mask → r.setting ≡ B.brief.setting → r.mask ≡ mask →
-        r.cell ≡ cell_for (view_of s).brief.setting (get_or (masks_of L) p 0)
-    cell_there r right same_setting same_mask = right ∙ λ i. cell_for ((same_setting ∙ sym seen_setting) i) ((same_mask ∙ sym mask_there) i)
+    pub cell_there : (r : ResultOf) → r.cell ≡ cell_for r.instance r.mask → r.instance ≡ B.brief.instance → r.mask ≡ mask →
+        r.cell ≡ cell_for (view_of s).brief.instance (get_or (masks_of L) p 0)
+    cell_there r right same_instance same_mask = right ∙ λ i. cell_for ((same_instance ∙ sym seen_instance) i) ((same_mask ∙ sym mask_there) i)
 
     module _ (s' : seat.Inside) (wrote : ℕ) (table : s'.seat.table_id ≡ s.seat.table_id) where
       -- the seat learned that the cell is filled

@@ -3,7 +3,7 @@ use Rattle.std.proofs.Common.{◌≡◌, ◌≢◌, ℕ, zero, suc, ◌+◌, ◌
 use mathlib.Core.Option.{some, some-injective, some-ne-none}
 use lib.ListN.{get_elem?}
 use lib.Seq.{map-set}
-use Rattle.layer_board.specs.Picture.{counter_of, cell_words, cell_in, word_of}
+use Rattle.layer_board.specs.Invariant.{counter_of, cell_words, cell_in, word_of}
 
 pub counter_set : (ws : List ℕ) (n : ℕ) → 0 < length ws → counter_of (set ws 0 n) ≡ n
 counter_set [] n h = absurd (omega arith)

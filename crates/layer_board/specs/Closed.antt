@@ -4,7 +4,7 @@ use Rattle.std.specs.Slots.{slots_items, slots_len, IsFull}
 use Rattle.subset_layers.specs.Layers.{masks_of}
 use Rattle.layer_board.specs.declared.closed.ClosedBoard.TheInside as closed
 use Rattle.layer_board.specs.Views.{ClosedBoardOf}
-use Rattle.layer_board.specs.Picture.{IsCellAt, IsCellWord, cell_in, cell_words}
+use Rattle.layer_board.specs.Invariant.{IsCellAt, IsCellWord, cell_in, cell_words}
 
 abbrev pub closed_board : closed.Inside → ClosedBoardOf
 closed_board c = record { brief = c.board.value.brief; cells = map cell_in (cell_words (slots_items c.closed.words)) }
@@ -19,4 +19,4 @@ pub record IsClosedBoard (c : closed.Inside) : Type 0 where
   pub words : (p : ℕ) → slice_index (cell_words (slots_items c.closed.words)) p ≢ 0 →
       IsCellWord (slice_index (cell_words (slots_items c.closed.words)) p)
   pub true_cells : (p : ℕ) → IfSome (slice_index_or (closed_board c).cells p None)
-      (IsCellAt c.board.value.brief.setting (slice_index (masks_of c.board.value.brief.layer) p))
+      (IsCellAt c.board.value.brief.instance (slice_index (masks_of c.board.value.brief.layer) p))

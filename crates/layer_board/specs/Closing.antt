@@ -9,9 +9,9 @@ use lib.ListN.{get_elem?}
 use Rattle.subset_layers.specs.Layers.{masks_of}
 use Rattle.layer_core.specs.Machine.{World, Worker, knows}
 use Rattle.layer_core.specs.Rights.{Right}
-use Rattle.layer_core.specs.Settings.{layout_of}
+use Rattle.layer_core.specs.Instances.{layout_of}
 use Rattle.layer_board.specs.Views.{BriefOf, ClosedBoardOf, SeatOf, knows_filled}
-use Rattle.layer_board.specs.Picture.{IsCellAt}
+use Rattle.layer_board.specs.Invariant.{IsCellAt}
 
 -- the mask's cell is empty, and that of each mask before it is filled
 pub record IsLeastEmptyMask (c : ClosedBoardOf) (mask : ℕ) : Type 0 where
@@ -22,7 +22,7 @@ pub record IsLeastEmptyMask (c : ClosedBoardOf) (mask : ℕ) : Type 0 where
 
 -- a last state of the board, in which the seat is one of the workers
 pub record IsLastState (b : BriefOf) (w : Worker) (s : World) : Type 0 where
-  pub right : Right (IsCellAt b.setting) s
+  pub right : Right (IsCellAt b.instance) s
   pub layout : s.layout ≡ layout_of b.layer
   pub few : length s.workers ≤ b.workers
   pub seat : ℕ

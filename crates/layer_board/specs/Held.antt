@@ -31,7 +31,7 @@ seat_shown s =
 -- the seat's own marks are what its view says
 pub record IsBoardSeat (s : seat.Inside) : Type 0 where
   pub claims : s.claims.items ≡ (view_of s).worker.claims
-  pub told : s.told ≡ (view_of s).worker.told
+  pub ended : s.ended ≡ (view_of s).worker.ended
   pub claims_wide : length (view_of s).worker.claims ≡ length (blocks_of (view_of s).brief.layer)
   pub known_wide : length (view_of s).worker.known ≡ length (masks_of (view_of s).brief.layer)
   pub no_slots : s.seat.me.1 ≡ []

@@ -1,5 +1,5 @@
 pub mod Views
-pub mod Picture
+pub mod Invariant
 pub mod Closing
 pub mod Refusals
 pub mod Held

@@ -3,14 +3,14 @@
 --     BoardId, ClosedBoardOf, SeatOf, ClaimOf      a board, a closed one, a seat, a claim
 use Rattle.std.specs.Prelude.{ℕ, ◌+◌, Bool, false, List, [], length, slice_index, Option, Some, None, if◌then◌else◌}
 use Rattle.atomic_table.specs.Seated.{TableId}
-use Rattle.order_model.specs.declared.reserve.Reserve.TheVariants.{Variables}
+use Rattle.order_model.specs.declared.bounds_above.BoundAbove.TheVariants.{Variables}
 use Rattle.subset_layers.specs.Layers.{LayerOf, BlockOf, masks_of, blocks_of}
 use Rattle.layer_core.specs.Machine.{Worker, unmarked, claimed, knows, place_of, ends, learns}
-use Rattle.layer_core.specs.Settings.{Setting, layout_of}
+use Rattle.layer_core.specs.Instances.{Instance, layout_of}
 
 -- what a board is for: the cells of a layer, for some workers
 pub record BriefOf : Type 0 where
-  pub setting : Setting
+  pub instance : Instance
   pub layer : LayerOf
   pub workers : ℕ
 
@@ -102,7 +102,7 @@ learned s mask wrote = stepped s (learns_place s.worker (place_of (layout_of s.b
 
 -- a seat after a claim that finds no block: a seat that was told so before takes no step
 abbrev pub no_more : SeatOf → SeatOf
-no_more s = if s.worker.told then s else stepped s (ends s.worker) 1
+no_more s = if s.worker.ended then s else stepped s (ends s.worker) 1
 
 abbrev pub found_empty_at : SeatOf → Option ℕ → SeatOf
 found_empty_at s None = s
@@ -116,11 +116,11 @@ found_empty s mask = found_empty_at s (place_of (layout_of s.board.brief.layer) 
 abbrev pub nothing_known : SeatView
 nothing_known = record {
   brief = record {
-    setting = record { problem = record { inputs = 0; tables = [] }; pairs = record { inputs = 0; pairs = [] }; reserve = Variables; bound = 0 };
+    instance = record { problem = record { inputs = 0; tables = [] }; pairs = record { inputs = 0; pairs = [] }; bound_above = Variables; bound = 0 };
     layer = record { inputs = 0; size = 0 };
     workers = 0;
   };
-  worker = record { claims = []; known = []; told = false };
+  worker = record { claims = []; known = []; ended = false };
   seats = 0;
   steps = 0;
   writes = 0;

@@ -3,7 +3,7 @@
 ghost use Rattle.std.specs.Prelude.{◌≡◌, ◌≢◌, ℕ, ◌+◌, ◌-◌, ◌^◌, ◌<◌, ◌≤◌, true, false, [], Some, All, IfOk, IfErr, IfSome, IsNone, IsTrue, slice_get, slice_index, length, vec_len, map, take, replicate};
 ghost use Rattle.subset_layers.specs.Layers.{masks_of, blocks_of};
 ghost use Rattle.layer_core.specs.Machine.{claimed, claims_block};
-ghost use Rattle.layer_core.specs.Settings.{cell_for, setting_of};
+ghost use Rattle.layer_core.specs.Instances.{cell_for, instance_of};
 ghost use Rattle.layer_board.specs.Views.{fresh, first_seat, stepped, no_more, found_empty, has_claimed, knows_filled, learned};
 ghost use Rattle.layer_core.specs.Pairing.{pair_of};
 ghost use Rattle.layer_board.specs.Closing.{IsFinalBoard};
@@ -11,7 +11,7 @@ ghost use Rattle.layer_board.specs.Refusals.{RefusesPost, LacksCell, LacksMask};
 
 use crate::cell_words::{cell_of_word, word_of_cell};
 use crate::closed::{CloseError, ClosedBoard};
-use crate::plays::{BoardRule, Claims, NewSeat, Posts, Reads};
+use crate::atomic_steps::{BoardRule, Claims, NewSeat, Posts, Reads};
 use crate::seats::{BoardSeat, Claim};
 use crate::views::{Brief, Knowledge};
 use atomic_table::{Seat, Table};
@@ -63,7 +63,7 @@ impl Board {
         requires { layer.now.inputs ≡ problem.now.inputs }
         ensures board { IfOk result
             (λ r. r.0.brief ≡ record {
-              setting = setting_of problem.now pairs.now limit;
+              instance = instance_of problem.now pairs.now limit;
               layer = layer.now;
               workers = workers;
             }) }
@@ -109,8 +109,8 @@ impl Board {
         Ok(seats)
     }
 
-    /// The next block. A seat that was told that there is none is told so ever after, and takes no
-    /// step.
+    /// The next block, or None if all are claimed. A seat that got None gets None ever after, and
+    /// takes no step.
     pub fn claim(&self, seat: &mut BoardSeat) -> Option<Claim>
         requires { seat.old.board ≡ self.now }
         ensures board { seat.new.board ≡ self.now }
@@ -121,10 +121,10 @@ impl Board {
         ensures claimed { IfSome result (λ c. IsTrue (claimed seat.new.worker c.place)) }
         ensures later { IfSome result
             (λ c. (b : ℕ) → IsTrue (claimed seat.old.worker b) → b < c.place) }
-        ensures told { IsTrue seat.old.worker.told → IsNone result }
+        ensures ended { IsTrue seat.old.worker.ended → IsNone result }
         ensures none { IsNone result → seat.new ≡ no_more seat.old }
     {
-        if seat.told {
+        if seat.ended {
             return None;
         }
         let place = self.table.shared.fetch_add::<Claims>(&mut seat.seat, 0, 1) as usize;
@@ -132,7 +132,7 @@ impl Board {
             seat.claims[place] = true;
             Some(Claim::new(place, self.layer.block(place)))
         } else {
-            seat.told = true;
+            seat.ended = true;
             None
         }
     }
@@ -140,7 +140,7 @@ impl Board {
     /// Fills the cell of a mask whose block the seat claimed.
     pub fn post(&self, seat: &mut BoardSeat, cell: CellResult) -> Result<(), PostRefused>
         requires board { seat.old.board ≡ self.now }
-        requires setting { cell.setting ≡ self.now.brief.setting }
+        requires instance { cell.instance ≡ self.now.brief.instance }
         ensures board { seat.new.board ≡ self.now }
         ensures claimed { IfOk result (λ _. has_claimed seat.old cell.mask ≡ true) }
         ensures filled { IfOk result (λ _. seat.new ≡ learned seat.old cell.mask 1) }
@@ -168,7 +168,7 @@ impl Board {
     pub fn read(&self, seat: &mut BoardSeat, mask: Mask) -> Option<Cell>
         requires { seat.old.board ≡ self.now }
         ensures board { seat.new.board ≡ self.now }
-        ensures cell { IfSome result (λ c. pair_of c ≡ cell_for self.now.brief.setting mask) }
+        ensures cell { IfSome result (λ c. pair_of c ≡ cell_for self.now.brief.instance mask) }
         ensures learned { IfSome result (λ _. seat.new ≡ learned seat.old mask 0) }
         ensures known { IfSome result (λ _. knows_filled seat.new mask ≡ true) }
         ensures unknown { IsNone result → knows_filled seat.old mask ≡ false }
@@ -195,7 +195,7 @@ impl Board {
         let BoardSeat {
             seat,
             claims: _,
-            told: _,
+            ended: _,
         } = seat;
         ClosedBoard {
             closed: table.close_with(seat),
@@ -213,7 +213,7 @@ impl Board {
     ) -> Result<Vec<Cell>, (ClosedBoard, CloseError)>
         requires { seat.board ≡ self }
         ensures cells { IfOk result
-            (λ v. map pair_of v.items ≡ map (cell_for self.brief.setting)
+            (λ v. map pair_of v.items ≡ map (cell_for self.brief.instance)
             (masks_of self.brief.layer)) }
         ensures last { IfErr result (λ e. IsFinalBoard seat e.0) }
         ensures lacks { IfErr result (λ e. LacksCell e.0 e.1) }

@@ -2,8 +2,8 @@
 
 ghost use Rattle.std.specs.Prelude.{◌≡◌, ◌<◌, ◌-◌, ◌/◌, ◌%◌};
 ghost use Rattle.layer_core.specs.Pairing.{pair_of};
-ghost use Rattle.layer_core.specs.Settings.{cell_for};
-ghost use Rattle.layer_board.specs.Picture.{word_of, IsCellWord};
+ghost use Rattle.layer_core.specs.Instances.{cell_for};
+ghost use Rattle.layer_board.specs.Invariant.{word_of, IsCellWord};
 
 use layer_core::CellResult;
 use subset_layers::Cell;
@@ -13,7 +13,7 @@ pub(crate) fn word_of_cell(posted: &CellResult) -> u64
     ensures word { result ≡ word_of posted.now.cell }
     ensures cell { IsCellWord result }
     ensures variable { posted.now.cell.1 < 32 }
-    ensures right { posted.now.cell ≡ cell_for posted.now.setting posted.now.mask }
+    ensures right { posted.now.cell ≡ cell_for posted.now.instance posted.now.mask }
 {
     let cell = posted.cell();
     (u64::from(cell.cost) + 1) * 32 + u64::from(cell.variable)

@@ -2,7 +2,7 @@
 
 ghost use Rattle.std.specs.Prelude.{◌≡◌, ◌<◌, Some, None, IfOk, IfErr, IfSome, IfNone, length, map, slice_index_or};
 ghost use Rattle.subset_layers.specs.Layers.{masks_of};
-ghost use Rattle.layer_core.specs.Settings.{cell_for};
+ghost use Rattle.layer_core.specs.Instances.{cell_for};
 ghost use Rattle.layer_core.specs.Pairing.{pair_of};
 ghost use Rattle.layer_board.specs.Refusals.{LacksCell};
 
@@ -58,7 +58,7 @@ impl ClosedBoard {
     pub fn cells(&self, alloc: Global) -> Result<Vec<Cell>, CloseError>
         ensures all { IfOk result (λ v. map (λ c. Some (pair_of c)) v.items ≡ self.now.cells) }
         ensures cells { IfOk result
-            (λ v. map pair_of v.items ≡ map (cell_for self.now.brief.setting)
+            (λ v. map pair_of v.items ≡ map (cell_for self.now.brief.instance)
             (masks_of self.now.brief.layer)) }
         ensures lacks { IfErr result (LacksCell self.now) }
     {

@@ -8,23 +8,23 @@ ghost use Rattle.atomic_table.specs.Table.{State, step as table_step, stepped, k
 ghost use Rattle.subset_layers.specs.Layers.{blocks_of};
 ghost use Rattle.layer_core.specs.Machine.{Claim, Post, Read, step, place_of, claimed};
 ghost use Rattle.layer_core.specs.Rights.{Right};
-ghost use Rattle.layer_core.specs.Settings.{layout_of};
+ghost use Rattle.layer_core.specs.Instances.{layout_of};
 ghost use Rattle.layer_board.specs.Views.{BriefOf, SeatView};
 ghost use Rattle.layer_board.specs.Closing.{OneMissesTheLeast};
 ghost use Rattle.layer_board.specs.Refusals.{SeatsLackWhatIsEmpty};
-ghost use Rattle.layer_board.specs.Picture.{Kept, IsCellAt, Sat, cell_in, shows, claims, posts, reads, claim_reply, post_reply, read_reply};
+ghost use Rattle.layer_board.specs.Invariant.{Kept, IsCellAt, Sat, cell_in, shows, claims, posts, reads, claim_reply, post_reply, read_reply};
 
 /// Between any two steps on the table, the words and the seats show a right state of the machine.
 pub fn tables_show_right_states()
     ensures { (b : BriefOf) (s : State (Unit {0}) SeatView) → Kept b s →
-        Right (IsCellAt b.setting) (shows b s) }
+        Right (IsCellAt b.instance) (shows b s) }
 {}
 
 /// The step of a claim is the machine's claim by the seat.
 pub fn claims_are_events()
     ensures { (b : BriefOf) (s : State (Unit {0}) SeatView) (id : ℕ) (v : SeatView) (slots : ℕ)
         (m : Sat) →
-        Kept b s → get_elem? s.views id ≡ some v → v.worker.told ≡ false →
+        Kept b s → get_elem? s.views id ≡ some v → v.worker.ended ≡ false →
         claims (table_step slots 0 1 0 none) (v, []) (slice_index s.words 0) m → (
           claim_reply (length (blocks_of b.layer)) (slice_index s.words 0),
           shows b (stepped s 0 ((slice_index s.words 0 + 1) % 2 ^ 64) id [] m.0 keeps),

@@ -5,12 +5,12 @@ mod boards;
 mod cell_words;
 mod closed;
 pub mod laws;
-mod plays;
+mod atomic_steps;
 mod seats;
 mod views;
 
 pub use boards::{Board, PostRefused};
 pub use closed::{CloseError, ClosedBoard};
-pub use plays::BoardRule;
+pub use atomic_steps::BoardRule;
 pub use seats::{BoardSeat, Claim};
 pub use views::{Brief, Knowledge};

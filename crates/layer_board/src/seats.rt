@@ -15,7 +15,7 @@ use subset_layers::Block;
 pub struct BoardSeat {
     pub(crate) seat: Seat<(), Knowledge>,
     pub(crate) claims: Vec<bool>,
-    pub(crate) told: bool,
+    pub(crate) ended: bool,
 }
 
 impl Model for BoardSeat {
@@ -46,7 +46,7 @@ impl BoardSeat {
         Ok(BoardSeat {
             seat,
             claims,
-            told: false,
+            ended: false,
         })
     }
 }

@@ -16,13 +16,13 @@ pub struct Brief {
 }
 
 impl Model for Brief {
-    ghost use Rattle.layer_core.specs.Settings.{setting_of};
+    ghost use Rattle.layer_core.specs.Instances.{instance_of};
     ghost use Rattle.layer_board.specs.Views.{BriefOf};
 
     ghost Value = { BriefOf };
 
     ghost view = { λ b. record {
-      setting = setting_of b.problem.value b.pairs.value b.limit;
+      instance = instance_of b.problem.value b.pairs.value b.limit;
       layer = b.layer.value;
       workers = b.workers;
     } };

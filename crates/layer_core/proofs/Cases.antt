@@ -38,15 +38,15 @@ module _ (s : World) (i : ℕ) (w : Worker) (at : get_elem? s.workers i ≡ foun
   claim_at : step s (Claim i) ≡ claim s i (found.some w)
   claim_at = ap (claim s i) at
 
-  pub claim_told : w.told ≡ true → step s (Claim i) ≡ (NoMore, s)
-  claim_told e = claim_at ∙ choose w.told _ _ e
+  pub claim_told : w.ended ≡ true → step s (Claim i) ≡ (NoMore, s)
+  claim_told e = claim_at ∙ choose w.ended _ _ e
 
-  pub claim_next : w.told ≡ false → s.counter < s.layout.blocks →
+  pub claim_next : w.ended ≡ false → s.counter < s.layout.blocks →
       step s (Claim i) ≡ (Claimed s.counter, moved s (s.counter + 1) s.cells i (claims_block w s.counter))
-  claim_next e low = claim_at ∙ (refuse w.told _ _ e ∙ choose (nat_lt s.counter s.layout.blocks) _ _ (lt-ltb s.counter s.layout.blocks low))
+  claim_next e low = claim_at ∙ (refuse w.ended _ _ e ∙ choose (nat_lt s.counter s.layout.blocks) _ _ (lt-ltb s.counter s.layout.blocks low))
 
-  pub claim_past : w.told ≡ false → s.layout.blocks ≤ s.counter → step s (Claim i) ≡ (NoMore, moved s (s.counter + 1) s.cells i (ends w))
-  claim_past e high = claim_at ∙ (refuse w.told _ _ e ∙ refuse (nat_lt s.counter s.layout.blocks) _ _ (le-ltb s.counter s.layout.blocks high))
+  pub claim_past : w.ended ≡ false → s.layout.blocks ≤ s.counter → step s (Claim i) ≡ (NoMore, moved s (s.counter + 1) s.cells i (ends w))
+  claim_past e high = claim_at ∙ (refuse w.ended _ _ e ∙ refuse (nat_lt s.counter s.layout.blocks) _ _ (le-ltb s.counter s.layout.blocks high))
 
   module _ (mask : ℕ) where
     module _ (p : ℕ) (there : place_of s.layout mask ≡ Some p) where

@@ -12,7 +12,7 @@ use Rattle.layer_core.proofs.Lists.{length-same, at_map, at_index}
 use Rattle.layer_core.proofs.Cases.{claim_told, claim_next, claim_past, read_missing, read_empty, read_sees, post_missing, post_stranger, post_double, post_fills}
 use Rattle.layer_core.specs.declared.machine.Marks.{Marks}
 use Rattle.layer_core.specs.declared.machine.Core.TheInside.{Inside}
-use Rattle.layer_core.specs.Settings.{layout_of}
+use Rattle.layer_core.specs.Instances.{layout_of}
 use Rattle.layer_core.specs.Pairing.{pair_of}
 use Rattle.layer_core.specs.Marked.{marks_of}
 use Rattle.layer_core.specs.Shown.{shown, cell_of, IsSound}
@@ -90,17 +90,17 @@ module _ (x : Inside) (sound : IsSound x) where
     pub known_wide : length m.known.items ≡ length (masks_of x.layer)
     known_wide = (sound.0.marks i (marks_of m) at).1
 
-    pub still_told : m.told ≡ true → (NoMore, shown x) ≡ step (shown x) (Claim i)
+    pub still_told : m.ended ≡ true → (NoMore, shown x) ≡ step (shown x) (Claim i)
     still_told e = sym (claim_told (shown x) i (marks_of m) at e)
 
-    pub drawn : (after : Marks) → marks_of after ≡ claims_block (marks_of m) x.counter → m.told ≡ false → x.counter < length (blocks_of x.layer)
+    pub drawn : (after : Marks) → marks_of after ≡ claims_block (marks_of m) x.counter → m.ended ≡ false → x.counter < length (blocks_of x.layer)
         → (Claimed x.counter, shown_with x (x.counter + 1) x.cells.items i after) ≡ step (shown x) (Claim i)
     drawn after new untold low =
         ap (λ (w : World). (Claimed x.counter, w))
         (shown_moved x (x.counter + 1) x.cells.items i after ∙ ap (moved (shown x) (x.counter + 1) (map cell_of x.cells.items) i) new)
         ∙ sym (claim_next (shown x) i (marks_of m) at untold low)
 
-    pub ended : (after : Marks) → marks_of after ≡ ends (marks_of m) → m.told ≡ false → length (blocks_of x.layer) ≤ x.counter
+    pub ended : (after : Marks) → marks_of after ≡ ends (marks_of m) → m.ended ≡ false → length (blocks_of x.layer) ≤ x.counter
         → (NoMore, shown_with x (x.counter + 1) x.cells.items i after) ≡ step (shown x) (Claim i)
     ended after new untold high =
         ap (λ (w : World). (NoMore, w))

@@ -10,7 +10,7 @@ use Rattle.subset_layers.proofs.BlockLists.{blocks_length}
 use Rattle.subset_layers.proofs.CostLists.{distinct_masks}
 use Rattle.layer_core.specs.Machine.{place_of}
 use Rattle.layer_core.specs.Rights.{IsLayout}
-use Rattle.layer_core.specs.Settings.{layout_of}
+use Rattle.layer_core.specs.Instances.{layout_of}
 use Rattle.layer_core.proofs.Positions.{found_at, not_found}
 use Rattle.order_model.proofs.Lists.Ranges.{filter_at_most}
 

@@ -24,7 +24,7 @@ module _ (C : ℕ → ℕ × ℕ → Type 0) where
   pub right_claim : (s : World) (i : ℕ) (o : found.Option Worker) → Right C s → get_elem? s.workers i ≡ o → Right C (claim s i o).1
   right_claim s i found.none r at = r
   right_claim s i (found.some w) r at =
-      either_way Ends w.told _ _ (λ t. r)
+      either_way Ends w.ended _ _ (λ t. r)
       (λ t. either_way Ends (nat_lt s.counter s.layout.blocks) _ _ (λ e. right_drawn C s i w r at (grind arith))
       (λ e. right_ended C s i w r at t (grind arith)))
 

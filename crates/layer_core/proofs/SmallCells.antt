@@ -4,8 +4,8 @@ use Rattle.order_model.specs.Functions.{Function}
 use Rattle.order_model.specs.Pairs.{Pair}
 use Rattle.order_model.specs.Orders.{has, members}
 use Rattle.order_model.specs.Widths.{least}
-use Rattle.order_model.specs.Reserves.{reserved}
-use Rattle.order_model.specs.declared.reserve.Reserve.{Reserve}
+use Rattle.order_model.specs.BoundsAbove.{nodes_above}
+use Rattle.order_model.specs.declared.bounds_above.BoundAbove.{BoundAbove}
 use Rattle.order_model.specs.Cells.{cell_of, first_of, is_within, best_top}
 use Rattle.order_model.proofs.Lists.Orders.{has_filter}
 use Rattle.order_model.proofs.Bits.Masks.{members_small}
@@ -29,7 +29,7 @@ first_small (x ∷ xs) n all = omega (arith, all x (ap (λ (b : Bool). b || has 
 sum_le : (a b c : ℕ) → nat_le (a + b) c ≡ true → a ≤ c
 sum_le a b c e = grind arith
 
-module _ (n : ℕ) (F : List Function) (P : List Pair) (r : Reserve) (bound mask : ℕ) where
+module _ (n : ℕ) (F : List Function) (P : List Pair) (r : BoundAbove) (bound mask : ℕ) where
   abbrev S : List ℕ
   S = members n mask
 
@@ -39,7 +39,7 @@ module _ (n : ℕ) (F : List Function) (P : List Pair) (r : Reserve) (bound mask
 
   within_bound : is_within n F P r bound S ≡ true → least n F P S ≤ bound
   unfolding is_within
-  within_bound h = sum_le (least n F P S) (reserved n F r S) bound (and_right _ _ h)
+  within_bound h = sum_le (least n F P S) (nodes_above n F r S) bound (and_right _ _ h)
 
   pub cell_small : ((cell_of n F P r bound mask).0 ≤ bound + 1) × ((cell_of n F P r bound mask).1 ≤ n)
   cell_small = grind (arith, open_is, within_bound, top_small, closed_cell, first_small, members_small)

@@ -43,6 +43,6 @@ module _ (C : ℕ → ℕ × ℕ → Type 0) where
     filled = λ p full. let z = r.filled p full in (z.0, z.1, at_longer workers (blank l ∷ []) z.0 z.1 z.2, z.3);
     known = each_snoc (λ (u : Worker). (p : ℕ) → knows u p ≡ true → get_or cells p None ≢ None) workers (blank l) r.known
         (λ p h. absurd (false_true (sym (no_knowledge l p) ∙ h)));
-    counted = let t = total_snoc (λ (u : Worker). weight u.told) workers (blank l) in omega arith;
-    told = each_snoc (λ (u : Worker). u.told ≡ true → l.blocks ≤ counter) workers (blank l) r.told (λ h. absurd (false_true h));
+    counted = let t = total_snoc (λ (u : Worker). weight u.ended) workers (blank l) in omega arith;
+    ended = each_snoc (λ (u : Worker). u.ended ≡ true → l.blocks ≤ counter) workers (blank l) r.ended (λ h. absurd (false_true h));
   }

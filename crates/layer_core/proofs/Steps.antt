@@ -42,12 +42,12 @@ module _ (C : ℕ → ℕ × ℕ → Type 0) where
         (claims_block w n) z.1 at z.2 z.3 (λ h. (marked_more w.claims n (get_or s.layout.block_of p 0) here h.0, h.1));
     known = each_set (λ j u. (p : ℕ) → knows u p ≡ true → cell_at s p ≢ None) s.workers i (claims_block w n) r.known (r.known i w at);
     counted = omega arith;
-    told = each_set (λ j u. u.told ≡ true → s.layout.blocks ≤ n + 1) s.workers i (claims_block w n)
-        (λ j u e h. omega (arith, r.told j u e h)) (λ h. omega (arith, r.told i w at h));
+    ended = each_set (λ j u. u.ended ≡ true → s.layout.blocks ≤ n + 1) s.workers i (claims_block w n)
+        (λ j u e h. omega (arith, r.ended j u e h)) (λ h. omega (arith, r.ended i w at h));
   }
 
   -- a worker was told that there is no block left
-  pub right_ended : (s : World) (i : ℕ) (w : Worker) → Right C s → get_elem? s.workers i ≡ some w → w.told ≡ false →
+  pub right_ended : (s : World) (i : ℕ) (w : Worker) → Right C s → get_elem? s.workers i ≡ some w → w.ended ≡ false →
       s.layout.blocks ≤ s.counter → Right C (moved s (s.counter + 1) s.cells i (ends w))
   right_ended s i w r at not_yet past = let n : ℕ = s.counter in record {
     laid = r.laid;
@@ -60,8 +60,8 @@ module _ (C : ℕ → ℕ × ℕ → Type 0) where
         found_set (λ (u : Worker). (claimed u (get_or s.layout.block_of p 0) ≡ true) × (knows u p ≡ true)) s.workers i z.0 w (ends w) z.1 at
         z.2 z.3 (λ h. h);
     known = each_set (λ j u. (p : ℕ) → knows u p ≡ true → cell_at s p ≢ None) s.workers i (ends w) r.known (r.known i w at);
-    counted = omega (arith, sum_at (λ (u : Worker). weight u.told) s.workers i w (ends w) at, ap weight not_yet);
-    told = grind arith;
+    counted = omega (arith, sum_at (λ (u : Worker). weight u.ended) s.workers i w (ends w) at, ap weight not_yet);
+    ended = grind arith;
   }
 
   -- a worker saw a filled cell
@@ -83,7 +83,7 @@ module _ (C : ℕ → ℕ × ℕ → Type 0) where
             (λ p h. ⊎_elim (λ (e : p ≡ n). subst (λ (z : ℕ). cell_at s z ≢ None) (sym e) full_here)
             (λ (e : get_or w.known p false ≡ true). r.known i w at p e) (marked_less w.known n p h));
         counted = grind (arith, sum_at);
-        told = each_set (λ j u. u.told ≡ true → s.layout.blocks ≤ s.counter) s.workers i (learns w n) r.told (r.told i w at);
+        ended = each_set (λ j u. u.ended ≡ true → s.layout.blocks ≤ s.counter) s.workers i (learns w n) r.ended (r.ended i w at);
       }
 
   -- a worker filled a cell of a block that it claimed
@@ -125,8 +125,8 @@ module _ (C : ℕ → ℕ × ℕ → Type 0) where
             (λ (e : p ≡ q). subst (λ (z : ℕ). get_or (set s.cells q (Some c)) z None ≢ None) (sym e)
             (λ none_there. some_cell c (sym there ∙ none_there)))
             (λ (e : get_or w.known p false ≡ true). still s.cells q p c inside (r.known i w at p e)) (marked_less w.known q p h));
-        counted = omega (arith, sum_at (λ (u : Worker). weight u.told) s.workers i w (learns w q) at);
-        told = each_set (λ j u. u.told ≡ true → s.layout.blocks ≤ s.counter) s.workers i (learns w q) r.told (r.told i w at);
+        counted = omega (arith, sum_at (λ (u : Worker). weight u.ended) s.workers i w (learns w q) at);
+        ended = each_set (λ j u. u.ended ≡ true → s.layout.blocks ≤ s.counter) s.workers i (learns w q) r.ended (r.ended i w at);
       }
 
   -- who claimed a filled mask is the one that knows it

@@ -1,7 +1,7 @@
 pub mod Machine
 pub mod Rights
 pub mod Pairing
-pub mod Settings
+pub mod Instances
 pub mod Results
 pub mod Events
 pub mod Marked

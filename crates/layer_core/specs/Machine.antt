@@ -17,7 +17,7 @@ pub record Layout : Type 0 where
 pub record Worker : Type 0 where
   pub claims : List Bool
   pub known : List Bool
-  pub told : Bool
+  pub ended : Bool
 
 -- the counter is the next block to be claimed, and each mask has a cell (cost, variable) once it is filled
 pub record World : Type 0 where
@@ -42,7 +42,7 @@ pub data Reply : Type 0 where
 
 -- a worker that made no step, at a layer of some blocks and masks
 abbrev pub unmarked : ℕ → ℕ → Worker
-unmarked blocks masks = record { claims = replicate blocks false; known = replicate masks false; told = false }
+unmarked blocks masks = record { claims = replicate blocks false; known = replicate masks false; ended = false }
 
 abbrev pub blank : Layout → Worker
 blank l = unmarked l.blocks (length l.masks)
@@ -72,7 +72,7 @@ abbrev pub claims_block : Worker → ℕ → Worker
 claims_block w block = record w { claims = slice_set w.claims block true }
 
 abbrev pub ends : Worker → Worker
-ends w = record w { told = true }
+ends w = record w { ended = true }
 
 abbrev pub learns : Worker → ℕ → Worker
 learns w p = record w { known = slice_set w.known p true }
@@ -90,7 +90,7 @@ moved s counter cells i w = record {
 abbrev pub claim : World → ℕ → found.Option Worker → Reply × World
 claim s i found.none = (NoMore, s)
 claim s i (found.some w) =
-    if w.told then (NoMore, s)
+    if w.ended then (NoMore, s)
     else (if nat_lt s.counter s.layout.blocks
     then (Claimed s.counter, moved s (s.counter + 1) s.cells i (claims_block w s.counter)) else
     (NoMore, moved s (s.counter + 1) s.cells i (ends w)))

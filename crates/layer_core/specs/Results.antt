@@ -1,18 +1,18 @@
 -- What a result shows and keeps.
 use Rattle.std.specs.Prelude.{◌≡◌, ◌<◌, ◌^◌}
 use Rattle.layer_core.specs.declared.results.CellResult.TheInside.{Inside}
-use Rattle.layer_core.specs.Settings.{ResultOf, setting_of, cell_for}
+use Rattle.layer_core.specs.Instances.{ResultOf, instance_of, cell_for}
 use Rattle.layer_core.specs.Pairing.{pair_of}
 
 abbrev pub result_shown : Inside → ResultOf
 result_shown r = record {
-  setting = setting_of r.problem.value r.pairs.value r.limit.value;
+  instance = instance_of r.problem.value r.pairs.value r.limit.value;
   mask = r.mask;
   cell = pair_of r.cell;
 }
 
 -- the cell is the definition's, and fits a word
 pub record IsResult (r : Inside) : Type 0 where
-  pub right : (result_shown r).cell ≡ cell_for (result_shown r).setting r.mask
+  pub right : (result_shown r).cell ≡ cell_for (result_shown r).instance r.mask
   pub cost : r.cell.cost < 2 ^ 32
   pub variable : r.cell.variable < 32

@@ -1,13 +1,13 @@
 -- What is right of each state of a layer's machine.
 --     Right IsCell s           the state is right, where IsCell says which cell each mask has
---     RightFor n F P r bound s   the same, where each mask has its cell for the functions, the pairs, what is counted on above a set, and the bound
+--     RightFor n F P r bound s   the same, where each mask has its cell for the functions, the pairs, the lower bound on the nodes above a set, and the bound
 --     ArePosted n F P r bound events     each posted cell is the one of its mask
 use Rattle.std.specs.Prelude.{◌≡◌, ◌≢◌, ℕ, ◌+◌, ◌<◌, ◌≤◌, true, List, [], ◌∷◌, length, map, slice_index, Option, Some, None, IfSome}
 use mathlib.Core.Option.{some}
 use lib.ListN.{get_elem?}
 use Rattle.order_model.specs.Functions.{Function, weight}
 use Rattle.order_model.specs.Pairs.{Pair}
-use Rattle.order_model.specs.declared.reserve.Reserve.{Reserve}
+use Rattle.order_model.specs.declared.bounds_above.BoundAbove.{BoundAbove}
 use Rattle.order_model.specs.Cells.{cell_of}
 use Rattle.layer_core.specs.Machine.{Layout, Worker, World, Event, Claim, Post, Read, cell_at, claimed, knows}
 
@@ -22,7 +22,7 @@ claimants block ws = total (λ w. weight (claimed w block)) ws
 
 -- how many workers were told that there is no block left
 abbrev pub told_number : List Worker → ℕ
-told_number ws = total (λ w. weight w.told) ws
+told_number ws = total (λ w. weight w.ended) ws
 
 -- each mask lies in a block
 pub record IsLayout (l : Layout) : Type 0 where
@@ -47,13 +47,13 @@ pub record Right (IsCell : ℕ → ℕ × ℕ → Type 0) (s : World) : Type 0 w
   pub known : (i : ℕ) (w : Worker) → get_elem? s.workers i ≡ some w → (p : ℕ) → knows w p ≡ true → cell_at s p ≢ None
   -- the counter passes the number of blocks only by the workers that were told so
   pub counted : s.counter ≤ s.layout.blocks + told_number s.workers
-  pub told : (i : ℕ) (w : Worker) → get_elem? s.workers i ≡ some w → w.told ≡ true → s.layout.blocks ≤ s.counter
+  pub ended : (i : ℕ) (w : Worker) → get_elem? s.workers i ≡ some w → w.ended ≡ true → s.layout.blocks ≤ s.counter
 
--- the cell of a mask for the functions, the pairs, what is counted on above a set, and the bound
-abbrev pub IsCellFor : ℕ → List Function → List Pair → Reserve → ℕ → ℕ → ℕ × ℕ → Type 0
+-- the cell of a mask for the functions, the pairs, the lower bound on the nodes above a set, and the bound
+abbrev pub IsCellFor : ℕ → List Function → List Pair → BoundAbove → ℕ → ℕ → ℕ × ℕ → Type 0
 IsCellFor n F P r bound mask cell = cell ≡ cell_of n F P r bound mask
 
-abbrev pub RightFor : ℕ → List Function → List Pair → Reserve → ℕ → World → Type 0
+abbrev pub RightFor : ℕ → List Function → List Pair → BoundAbove → ℕ → World → Type 0
 RightFor n F P r bound = Right (IsCellFor n F P r bound)
 
 -- each posted cell meets the fact
@@ -63,7 +63,7 @@ Posts IsCell (Claim i ∷ es) = Posts IsCell es
 Posts IsCell (Post i mask cell ∷ es) = IsCell mask cell × Posts IsCell es
 Posts IsCell (Read i mask ∷ es) = Posts IsCell es
 
-abbrev pub ArePosted : ℕ → List Function → List Pair → Reserve → ℕ → List Event → Type 0
+abbrev pub ArePosted : ℕ → List Function → List Pair → BoundAbove → ℕ → List Event → Type 0
 ArePosted n F P r bound = Posts (IsCellFor n F P r bound)
 
 -- every mask of the layer has a cell
@@ -71,5 +71,5 @@ abbrev pub IsFilled : World → Type 0
 IsFilled s = (p : ℕ) → p < length s.layout.masks → cell_at s p ≢ None
 
 -- the cells of masks
-abbrev pub all_cells : ℕ → List Function → List Pair → Reserve → ℕ → List ℕ → List (Option (ℕ × ℕ))
+abbrev pub all_cells : ℕ → List Function → List Pair → BoundAbove → ℕ → List ℕ → List (Option (ℕ × ℕ))
 all_cells n F P r bound masks = map (λ mask. Some (cell_of n F P r bound mask)) masks

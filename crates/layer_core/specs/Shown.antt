@@ -6,7 +6,7 @@ use Rattle.layer_core.specs.Rights.{Right}
 use Rattle.subset_layers.specs.declared.costs.Cell.{Cell}
 use Rattle.layer_core.specs.Marked.{marks_of}
 use Rattle.layer_core.specs.declared.machine.Core.TheInside.{Inside}
-use Rattle.layer_core.specs.Settings.{layout_of}
+use Rattle.layer_core.specs.Instances.{layout_of}
 use Rattle.layer_core.specs.Pairing.{pair_of}
 
 abbrev pub cell_of : Option Cell → Option (ℕ × ℕ)

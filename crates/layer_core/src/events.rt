@@ -1,4 +1,4 @@
-//! What a worker asks of a layer's machine, and what it is told.
+//! Events of a layer's machine, and its replies.
 
 use crate::results::CellResult;
 use order_model::Mask;
@@ -15,7 +15,7 @@ pub enum Event {
     Read(u8, Mask),
 }
 
-/// What a worker is told.
+/// The machine's reply to a worker.
 #[derive(Clone, Copy, Debug, PartialEq, Eq)]
 pub enum Reply {
     /// The worker has the block at this place of the layer.

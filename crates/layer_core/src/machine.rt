@@ -3,7 +3,7 @@
 ghost use Rattle.std.specs.Prelude.{◌≡◌, ◌<◌, ◌≤◌, IfOk, length, replicate, map};
 ghost use Rattle.layer_core.specs.Machine.{opening, step, unmarked, Claim, Post, Read};
 ghost use Rattle.layer_core.specs.Rights.{IsLayout};
-ghost use Rattle.layer_core.specs.Settings.{layout_of};
+ghost use Rattle.layer_core.specs.Instances.{layout_of};
 ghost use Rattle.layer_core.specs.Marked.{marks_of};
 ghost use Rattle.layer_core.specs.Events.{event_of, reply_of, IsByWorker};
 ghost use Rattle.layer_core.specs.Pairing.{pair_of};
@@ -14,12 +14,12 @@ use std::alloc::{AllocError, Global};
 use std::marker::Model;
 use subset_layers::{Cell, Layer};
 
-/// What a worker claimed, knows to be filled and was told.
+/// What a worker claimed and knows to be filled, and whether no block was left for it.
 #[derive(Drop)]
 pub(crate) struct Marks {
     pub(crate) claims: Vec<bool>,
     pub(crate) known: Vec<bool>,
-    pub(crate) told: bool,
+    pub(crate) ended: bool,
 }
 
 /// The machine of a layer: workers claim its blocks in turn, and post and read the cells of its
@@ -81,7 +81,7 @@ impl Core {
         requires { worker < length self.old.workers }
         ensures { (reply_of result, self.new) ≡ step self.old (Claim worker) }
     {
-        if self.workers[worker].told {
+        if self.workers[worker].ended {
             return Reply::NoMore;
         }
         let block = self.counter;
@@ -90,7 +90,7 @@ impl Core {
             self.workers[worker].claims[block] = true;
             Reply::Claimed(block)
         } else {
-            self.workers[worker].told = true;
+            self.workers[worker].ended = true;
             Reply::NoMore
         }
     }
@@ -153,7 +153,7 @@ fn blank_marks(
         marks.push(Marks {
             claims: vec![in alloc; false; blocks]?,
             known: vec![in alloc; false; masks]?,
-            told: false,
+            ended: false,
         })?;
     }
     Ok(marks)

@@ -18,7 +18,7 @@ pub struct CellResult {
 }
 
 impl Model for CellResult {
-    ghost use Rattle.layer_core.specs.Settings.{ResultOf};
+    ghost use Rattle.layer_core.specs.Instances.{ResultOf};
 
     ghost Value = { ResultOf };
 
@@ -30,15 +30,15 @@ impl Model for CellResult {
 }
 
 impl CellResult {
-    ghost use Rattle.layer_core.specs.Settings.{cell_for, setting_of};
+    ghost use Rattle.layer_core.specs.Instances.{cell_for, instance_of};
     ghost use Rattle.layer_core.specs.Pairing.{pair_of};
 
     /// The cell of a mask.
     pub fn new(problem: &Problem, limit: Limit, mask: Mask, cell: Cell, pairs: &Pairs) -> CellResult
         requires bound { limit.bound < 2 ^ 32 - 1 }
-        requires cell { pair_of cell ≡ cell_for (setting_of problem.now pairs.now limit) mask }
+        requires cell { pair_of cell ≡ cell_for (instance_of problem.now pairs.now limit) mask }
         ensures { result ≡ record {
-          setting = setting_of problem.now pairs.now limit;
+          instance = instance_of problem.now pairs.now limit;
           mask = mask;
           cell = pair_of cell;
         } }
@@ -64,7 +64,7 @@ impl CellResult {
     pub fn cell(&self) -> Cell
         ensures value { pair_of result ≡ self.now.cell }
         ensures variable { self.now.cell.1 < 32 }
-        ensures right { self.now.cell ≡ cell_for self.now.setting self.now.mask }
+        ensures right { self.now.cell ≡ cell_for self.now.instance self.now.mask }
     {
         self.cell
     }

@@ -1,7 +1,7 @@
 -- What minorder_check answers.
---     told_verdict v      a verdict, as C is told it
+--     returned_verdict v      a verdict, as C is told it
 --     IsNoCertificate text, RefusesText shape text r      why a text is refused
---     IsJudged n F text told      the verdict on the certificate that a text spells
+--     IsJudged n F text returned      the verdict on the certificate that a text spells
 use Rattle.std.specs.Prelude.{◌≡◌, ℕ, ◌<◌, ◌⊎◌, List, length}
 use Rattle.order_model.specs.Functions.{Function}
 use Rattle.order_model.specs.Certificates.{Certificate}
@@ -15,24 +15,24 @@ use Rattle.cert_check.specs.declared.verdict.Reason.TheVariants as why
 use Rattle.cert_check.specs.Verdicts.{IsVerdict}
 use Rattle.minorder_c.specs.declared.status.Refusal.{Refusal}
 use Rattle.minorder_c.specs.declared.status.Refusal.TheVariants as refused
-use Rattle.minorder_c.specs.declared.judging.ToldVerdict.{ToldVerdict}
+use Rattle.minorder_c.specs.declared.judging.ReturnedVerdict.{ReturnedVerdict}
 use Rattle.minorder_c.specs.Statuses.{IsPlainStatus}
 
 -- a reason without an edge
-abbrev pub plain : ℕ → ToldVerdict
+abbrev pub plain : ℕ → ReturnedVerdict
 plain reason = record { reason = reason; mask = 0; variable = 0 }
 
 -- a verdict, as C is told it
-abbrev pub told_verdict : Verdict → ToldVerdict
-told_verdict Valid = plain 0
-told_verdict (Invalid why.Shape) = plain 1
-told_verdict (Invalid why.Order) = plain 2
-told_verdict (Invalid why.Pairs) = plain 3
-told_verdict (Invalid why.Levels) = plain 4
-told_verdict (Invalid why.Total) = plain 5
-told_verdict (Invalid why.Start) = plain 6
-told_verdict (Invalid why.CellTooBig) = plain 7
-told_verdict (Invalid (why.Edge mask x)) = record { reason = 8; mask = mask; variable = x }
+abbrev pub returned_verdict : Verdict → ReturnedVerdict
+returned_verdict Valid = plain 0
+returned_verdict (Invalid why.Shape) = plain 1
+returned_verdict (Invalid why.Order) = plain 2
+returned_verdict (Invalid why.Pairs) = plain 3
+returned_verdict (Invalid why.Levels) = plain 4
+returned_verdict (Invalid why.Total) = plain 5
+returned_verdict (Invalid why.Start) = plain 6
+returned_verdict (Invalid why.CellTooBig) = plain 7
+returned_verdict (Invalid (why.Edge mask x)) = record { reason = 8; mask = mask; variable = x }
 
 -- the text has a first fault, or is too long
 abbrev pub IsNoCertificate : List ℕ → Type 0
@@ -52,10 +52,10 @@ pub record IsJudged (n : ℕ) (F : List Function) (text : List ℕ) (v : Verdict
   pub verdict : IsVerdict n F cert v
 
 -- the same, as C is told it
-pub record IsVerdictTold (n : ℕ) (F : List Function) (text : List ℕ) (told : ToldVerdict) : Type 0 where
+pub record IsVerdictReturned (n : ℕ) (F : List Function) (text : List ℕ) (returned : ReturnedVerdict) : Type 0 where
   pub verdict : Verdict
   pub judged : IsJudged n F text verdict
-  pub told_is : told ≡ told_verdict verdict
+  pub returned_is : returned ≡ returned_verdict verdict
 
 -- the numbers of a call with a certificate
 abbrev pub IsTextStatus : ℕ → Type 0

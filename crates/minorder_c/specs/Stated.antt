@@ -1,7 +1,7 @@
 -- What minorder_check_total answers.
 --     pair_for_c p      a pair, as C is told it
 --     AreFront pairs place place'      the first of the pairs stand in a place, as many as it has room for, and the rest stays
---     IsStated n F text told total place place' count      the verdict on a certificate, its total, and its pairs
+--     IsStated n F text returned total place place' count      the verdict on a certificate, its total, and its pairs
 use Rattle.std.specs.Prelude.{◌≡◌, ℕ, ◌++◌, List, drop, length, map, take}
 use Rattle.order_model.specs.Functions.{Function}
 use Rattle.order_model.specs.Pairs.{Pair}
@@ -10,8 +10,8 @@ use Rattle.certificate.specs.Spelling.{spelling}
 use Rattle.cert_check.specs.declared.verdict.Verdict.{Verdict}
 use Rattle.cert_check.specs.Verdicts.{IsVerdict}
 use Rattle.minorder_c.specs.declared.above.AbovePair.{AbovePair}
-use Rattle.minorder_c.specs.declared.judging.ToldVerdict.{ToldVerdict}
-use Rattle.minorder_c.specs.Judged.{told_verdict}
+use Rattle.minorder_c.specs.declared.judging.ReturnedVerdict.{ReturnedVerdict}
+use Rattle.minorder_c.specs.Judged.{returned_verdict}
 
 -- a pair, as C is told it
 abbrev pub pair_for_c : Pair → AbovePair
@@ -22,13 +22,13 @@ abbrev pub AreFront : List Pair → List AbovePair → List AbovePair → Type 0
 AreFront pairs place place' = place' ≡ take (length place) (map pair_for_c pairs) ++ drop (length pairs) place
 
 -- the text spells a certificate; this is the verdict on it, as C is told it, its total, its first pairs and their number
-pub record IsStated (n : ℕ) (F : List Function) (text : List ℕ) (told : ToldVerdict) (total : ℕ)
+pub record IsStated (n : ℕ) (F : List Function) (text : List ℕ) (returned : ReturnedVerdict) (total : ℕ)
     (place place' : List AbovePair) (count : ℕ) : Type 0 where
   pub cert : Certificate
   pub text_is : text ≡ spelling cert
   pub verdict : Verdict
   pub judged : IsVerdict n F cert verdict
-  pub told_is : told ≡ told_verdict verdict
+  pub returned_is : returned ≡ returned_verdict verdict
   pub total_is : total ≡ cert.total
   pub count_is : count ≡ length cert.pairs
   pub pairs_are : AreFront cert.pairs place place'

@@ -20,7 +20,7 @@ use small_search::{is_small, solve};
 use std::alloc::{AllocError, Global};
 use truth_table::Tables;
 
-/// The number that C is told if a certificate is longer than its place.
+/// The status of a certificate that is longer than its place.
 const SHORT_TEXT: u32 = 7;
 
 /// The first order of the fewest nodes among those that keep the pairs, and the cells of its

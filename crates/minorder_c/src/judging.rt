@@ -3,7 +3,7 @@
 ghost use Rattle.std.specs.Prelude.{◌≡◌, ◌≢◌, IfOk, IfErr, OnOk};
 ghost use Rattle.certificate.specs.Spelling.{spelling};
 ghost use Rattle.minorder_c.specs.Answers.{AreTables, functions_in};
-ghost use Rattle.minorder_c.specs.Judged.{IsJudged, IsNoCertificate, IsTextStatus, IsVerdictTold, RefusesText, told_verdict};
+ghost use Rattle.minorder_c.specs.Judged.{IsJudged, IsNoCertificate, IsTextStatus, IsVerdictReturned, RefusesText, returned_verdict};
 ghost use Rattle.minorder_c.specs.Statuses.{TellsShape};
 
 use crate::arguments::tables_of;
@@ -12,29 +12,29 @@ use cert_check::{Reason, Verdict, check_alone};
 use certificate::{CertFault, Certificate};
 use std::alloc::Global;
 
-/// A verdict, as C is told it: 0 is valid, and an edge has the mask of its set and its variable.
+/// A verdict in C: 0 is valid, and an edge has the mask of its set and its variable.
 #[repr(C)]
 #[derive(Clone, Copy, Debug)]
-pub(crate) struct ToldVerdict {
+pub(crate) struct ReturnedVerdict {
     pub reason: u32,
     pub mask: u32,
     pub variable: u32,
 }
 
 /// A reason without an edge.
-fn plain(reason: u32) -> ToldVerdict
+fn plain(reason: u32) -> ReturnedVerdict
     ensures { result ≡ record { reason = reason; mask = 0; variable = 0 } }
 {
-    ToldVerdict {
+    ReturnedVerdict {
         reason,
         mask: 0,
         variable: 0,
     }
 }
 
-/// A verdict, as C is told it.
-pub(crate) fn verdict_for_c(verdict: Verdict) -> ToldVerdict
-    ensures { result ≡ told_verdict verdict }
+/// A verdict in C.
+pub(crate) fn verdict_for_c(verdict: Verdict) -> ReturnedVerdict
+    ensures { result ≡ returned_verdict verdict }
 {
     match verdict {
         Verdict::Valid => plain(0),
@@ -45,7 +45,7 @@ pub(crate) fn verdict_for_c(verdict: Verdict) -> ToldVerdict
         Verdict::Invalid(Reason::Total) => plain(5),
         Verdict::Invalid(Reason::Start) => plain(6),
         Verdict::Invalid(Reason::CellTooBig) => plain(7),
-        Verdict::Invalid(Reason::Edge { mask, x }) => ToldVerdict {
+        Verdict::Invalid(Reason::Edge { mask, x }) => ReturnedVerdict {
             reason: 8,
             mask: u32::from(mask),
             variable: u32::from(x),
@@ -95,13 +95,13 @@ pub extern "C" fn minorder_check(
     inputs: u32,
     outputs: u32,
     certificate: &[u8],
-    verdict: &mut ToldVerdict,
+    verdict: &mut ReturnedVerdict,
 ) -> u32
     ensures status { IsTextStatus result }
     ensures shape { TellsShape (AreTables inputs outputs tables.now) result }
     ensures no_certificate { result ≡ 3 → IsNoCertificate certificate.now }
-    ensures told { result ≡ 0 →
-        IsVerdictTold inputs (functions_in inputs outputs tables.now) certificate.now verdict.new }
+    ensures returned { result ≡ 0 →
+        IsVerdictReturned inputs (functions_in inputs outputs tables.now) certificate.now verdict.new }
     ensures refused { result ≢ 0 → verdict.new ≡ verdict.old }
 {
     match verdict_on(alloc, tables, inputs, outputs, certificate) {

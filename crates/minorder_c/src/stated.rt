@@ -10,7 +10,7 @@ ghost use Rattle.minorder_c.specs.Statuses.{TellsShape};
 
 use crate::above::AbovePair;
 use crate::arguments::tables_of;
-use crate::judging::{ToldVerdict, certificate_of, verdict_for_c};
+use crate::judging::{ReturnedVerdict, certificate_of, verdict_for_c};
 use crate::status::Refusal;
 use cert_check::{Verdict, check_alone};
 use certificate::Certificate;
@@ -68,7 +68,7 @@ pub extern "C" fn minorder_check_total_with_pairs(
     inputs: u32,
     outputs: u32,
     certificate: &[u8],
-    verdict: &mut ToldVerdict,
+    verdict: &mut ReturnedVerdict,
     total: &mut u32,
     pairs: &mut [AbovePair],
     count: &mut usize,

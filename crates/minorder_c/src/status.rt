@@ -22,7 +22,7 @@ pub(crate) enum Refusal {
 }
 
 impl Refusal {
-    /// The number that C is told.
+    /// The status in C.
     pub fn status(self) -> u32
         ensures { result ≡ status_of self }
     {

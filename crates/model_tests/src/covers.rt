@@ -52,7 +52,7 @@ fn cover_of(rt: &impl Abort, alloc: Global, text: &[u8]) -> Cover {
 }
 
 #[test]
-fn holds_what_was_read(rt: HostRuntime) {
+fn covers_hold_what_was_read(rt: HostRuntime) {
     let named = cover_of(&rt, rt.alloc(), NAMED);
     assert!(rt; is_named(&named, &["a", "b", "s"], &["f"]) && is_multiplexer(&named));
     let unnamed = cover_of(&rt, rt.alloc(), UNNAMED);

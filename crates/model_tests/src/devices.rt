@@ -40,7 +40,7 @@ impl Write for Fails {
 static TEXT: &[u8] = b"0 1 2";
 
 #[test]
-fn devices_that_are_read(rt: HostRuntime) {
+fn devices_are_read_to_their_end(rt: HostRuntime) {
     let bytes = read_all(rt.alloc(), &mut Counting::new(TEXT), 5).expect(&rt, "five bytes");
     assert!(rt; bytes.as_slice() == TEXT);
     let too_long = read_all(rt.alloc(), &mut Counting::new(TEXT), 4).err();
@@ -55,7 +55,7 @@ fn ended(after: u8) -> Result<(), Refused> {
 }
 
 #[test]
-fn devices_that_are_written(rt: HostRuntime) {
+fn devices_take_all_or_a_beginning(rt: HostRuntime) {
     let mut written = Vec::new(rt.alloc());
     let whole = write_whole(&mut Counting::new(&mut written), TEXT);
     assert!(rt; whole == Ok(()) && written.as_slice() == TEXT);

@@ -61,7 +61,7 @@ fn lengths_of_parts(diagram: Diagram) -> [usize; 3] {
 }
 
 #[test]
-fn values_and_parts_of_diagrams(rt: HostRuntime) {
+fn diagrams_have_values_and_parts(rt: HostRuntime) {
     assert!(rt; eval(3, &[], Ref::Terminal(true), 0));
     let diagram = multiplexer(&rt, rt.alloc());
     assert!(rt; is_multiplexer(&diagram) && has_one_a_level(&diagram));

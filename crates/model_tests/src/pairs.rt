@@ -12,7 +12,7 @@ static REFUSED: [(&[(VarIx, VarIx)], PairsFault); 3] = [
 ];
 
 #[test]
-fn faults_of_pairs(rt: HostRuntime) {
+fn faulty_pairs_are_refused(rt: HostRuntime) {
     for (pairs, wanted) in &REFUSED {
         assert!(rt; Pairs::of(pairs, 3).err() == Some(*wanted));
     }
@@ -36,7 +36,7 @@ fn pairs_of(rt: &impl Abort, text: &[u8]) -> Pairs {
 }
 
 #[test]
-fn pairs_as_they_are_listed(rt: HostRuntime) {
+fn pairs_are_read_as_they_are_listed(rt: HostRuntime) {
     assert!(rt; are_two(&rt, rt.alloc(), &pairs_of(&rt, b"2,0:1,0:2,0")));
     let listed = Pairs::of(&[(2, 0), (1, 0), (2, 0)], 3).expect(&rt, "pairs");
     assert!(rt; are_two(&rt, rt.alloc(), &listed));
@@ -50,7 +50,7 @@ fn keeps(rt: &impl Abort, alloc: Global, pairs: &Pairs, order: &[VarIx]) -> bool
 }
 
 #[test]
-fn orders_and_sets_that_keep_pairs(rt: HostRuntime) {
+fn orders_and_sets_keep_pairs(rt: HostRuntime) {
     let pairs = pairs_of(&rt, b"2,0:1,0");
     assert!(rt; keeps(&rt, rt.alloc(), &pairs, &[1, 2, 0]));
     assert!(rt; !keeps(&rt, rt.alloc(), &pairs, &[1, 0, 2]));

@@ -31,7 +31,7 @@ fn dependence(rt: &impl Abort, alloc: Global, tables: &Tables, care: Mask, value
 }
 
 #[test]
-fn cofactors_of_interleaved_products(rt: HostRuntime) {
+fn cofactors_depend_on_fewer_variables(rt: HostRuntime) {
     let tables = tables_of(&rt, rt.alloc(), INTERLEAVED);
     // Variable 0 is fixed to 0: variables 0 and 3 don't matter any more.
     assert!(rt; dependence(&rt, rt.alloc(), &tables, 1, 0) == 0b110110);
@@ -67,7 +67,7 @@ fn have_values(tables: &Tables) -> bool {
 }
 
 #[test]
-fn functions_of_sixteen_variables(rt: HostRuntime) {
+fn tables_of_sixteen_variables_have_their_values(rt: HostRuntime) {
     let tables = tables_of(&rt, rt.alloc(), WIDE);
     assert!(rt; have_values(&tables));
     // Where variable 15 is 1 the first function depends on the variables 5 and 6.

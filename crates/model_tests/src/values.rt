@@ -1,10 +1,10 @@
-//! Workers, orders, truth tables and what is counted on above sets.
+//! Workers, orders, truth tables and the lower bound on the nodes above sets.
 
 ghost use Rattle.std.specs.Prelude.{◌≡◌, ◌≤◌};
 
 use order_model::packed::{bit_of, block, depends_on, lower_half, words_per_table};
 use order_model::{
-    BadOrder, Gate, NoGate, Order, Problem, Reserve, Reserves, VarIx, Workers, contains,
+    BadOrder, Gate, NoGate, Order, Problem, BoundAbove, BoundsAbove, VarIx, Workers, contains,
     decimal_number, total,
 };
 use std::alloc::Global;
@@ -16,7 +16,7 @@ fn counted(count: u8) -> Option<u8> {
 }
 
 #[test]
-fn workers(rt: HostRuntime) {
+fn one_to_sixty_four_workers_are_accepted(rt: HostRuntime) {
     let counts = [counted(0), counted(1), counted(64), counted(65)];
     assert!(rt; counts == [None, Some(1), Some(64), None]);
     NoGate.between(1, 7);
@@ -34,14 +34,14 @@ static NUMBERS: [(&[u8], Option<u32>); 7] = [
 ];
 
 #[test]
-fn decimal_numbers(rt: HostRuntime) {
+fn decimal_numbers_have_one_to_nine_digits(rt: HostRuntime) {
     for (text, wanted) in &NUMBERS {
         assert!(rt; decimal_number(text) == *wanted);
     }
 }
 
 #[test]
-fn members_of_sets(rt: HostRuntime) {
+fn sets_contain_their_members(rt: HostRuntime) {
     let members = [
         contains(5, 2),
         contains(5, 1),
@@ -65,7 +65,7 @@ static REFUSED: [(&[VarIx], BadOrder); 5] = [
 ];
 
 #[test]
-fn lists_that_are_no_orders(rt: HostRuntime) {
+fn lists_that_are_no_orders_are_refused(rt: HostRuntime) {
     for (list, wanted) in &REFUSED {
         assert!(rt; Order::try_from_slice(rt.alloc(), list).err() == Some(*wanted));
     }
@@ -92,7 +92,7 @@ fn is_exchanged(rt: &impl Abort, alloc: Global, order: &mut Order) -> bool {
 }
 
 #[test]
-fn orders(rt: HostRuntime) {
+fn orders_are_copied_and_exchanged(rt: HostRuntime) {
     let file_order = Order::file_order(rt.alloc(), 4).expect(&rt, "memory");
     assert!(rt; is_copied(&rt, rt.alloc(), &file_order, &[0, 1, 2, 3]));
     let list = [2, 0, 1];
@@ -154,7 +154,7 @@ fn is_made_of_words(rt: &impl Abort, alloc: Global, problem: &Problem) -> bool {
 }
 
 #[test]
-fn functions_of_their_values(rt: HostRuntime) {
+fn problems_have_the_values_that_were_set(rt: HostRuntime) {
     let ones = [(0, 3), (1, 1), (1, 2), (1, 3)];
     assert!(rt; is_of_both(&problem_of(&rt, rt.alloc(), 2, 2, &ones)));
     let ones = [(0, 1), (0, 3), (0, 6), (0, 7)];
@@ -166,36 +166,36 @@ fn functions_of_their_values(rt: HostRuntime) {
     assert!(rt; long.essential() == 0b0111_1111);
 }
 
-/// The nodes that are counted on above the variable 0 of three, if its width is 2.
-fn above_the_first(problem: &Problem, reserve: Reserve) -> u64
+/// The lower bound on the nodes above the variable 0 of three, if its width is 2.
+fn above_the_first(problem: &Problem, bound_above: BoundAbove) -> u64
     requires { problem.now.inputs ≡ 3 }
 {
     let mut widths = [0; 16];
     widths[0] = 2;
-    Reserves::new(problem, reserve).above(1, &widths)
+    BoundsAbove::new(problem, bound_above).above(1, &widths)
 }
 
-/// Whether the reserves of three essential variables count on two nodes by the variables that are
-/// left, and on three by the widths.
+/// Whether the lower bounds above sets of three essential variables count two nodes by the variables that are
+/// left, and three by the widths.
 fn counts_on_what_is_left(rt: &impl Abort, problem: &Problem) -> bool {
     assert!(rt; problem.inputs() == 3);
-    let reserves = Reserves::new(problem, Reserve::Widths);
-    reserves.essential() == 0b111
-        && reserves.reserve() == Reserve::Widths
-        && above_the_first(problem, Reserve::Variables) == 2
-        && above_the_first(problem, Reserve::Widths) == 3
+    let bounds_above = BoundsAbove::new(problem, BoundAbove::Widths);
+    bounds_above.essential() == 0b111
+        && bounds_above.bound_above() == BoundAbove::Widths
+        && above_the_first(problem, BoundAbove::Variables) == 2
+        && above_the_first(problem, BoundAbove::Widths) == 3
 }
 
 // The conjunction of 1 and 2, and the parity of 0, 1 and 2, of which two subfunctions depend on 0.
 #[test]
-fn nodes_above_a_set(rt: HostRuntime) {
+fn lower_bounds_count_the_nodes_above_a_set(rt: HostRuntime) {
     let ones = [(0, 6), (0, 7), (1, 1), (1, 2), (1, 4), (1, 7)];
     let problem = problem_of(&rt, rt.alloc(), 3, 2, &ones);
     assert!(rt; counts_on_what_is_left(&rt, &problem));
 }
 
 #[test]
-fn packed_words(rt: HostRuntime) {
+fn packed_words_hold_truth_tables(rt: HostRuntime) {
     let counts = [
         words_per_table(1),
         words_per_table(6),

@@ -79,7 +79,7 @@ fn place_in_list(variables: &[VarIx], x: VarIx) -> usize
 }
 
 impl Order {
-    /// The order of a list, top first. A list that is out of range is told first.
+    /// The order of a list, top first. `OutOfRange` is decided first.
     pub fn try_from_slice(alloc: Global, variables: &[VarIx]) -> Result<Order, BadOrder>
         ensures accepted { OnOk result (Accepts variables.now) }
         ensures value { IfOk result (λ order. order ≡ variables.now) }

@@ -4,7 +4,7 @@
 use Rattle.std.proofs.Common.{if◌then◌else◌, ◌≡◌, ℕ, Bool, true, false, List, get_or, Option, Some, None, refl, sym, ap, ◌∙◌}
 use Rattle.layer_core.specs.Machine.{Worker, place_of, knows, ends}
 use Rattle.subset_layers.specs.Layers.{LayerOf}
-use Rattle.layer_core.specs.Settings.{layout_of}
+use Rattle.layer_core.specs.Instances.{layout_of}
 use Rattle.layer_board.specs.Views.{BoardId, SeatOf, stepped, no_more, claims_place, knows_place, has_claimed}
 use Rattle.order_solve.specs.Gains.{StaysClaimed, IsPosted}
 
@@ -43,7 +43,7 @@ posted_stays s s' h mask p e = h.known mask (p (sym (claimed_same s s' h mask) �
 
 -- a seat that is told that there is no more
 pub no_more_stays : (s : SeatOf) → StaysClaimed s (no_more s)
-no_more_stays s = by s.worker.told
+no_more_stays s = by s.worker.ended
   where
     by : (b : Bool) → StaysClaimed s (if b then s else stepped s (ends s.worker) 1)
     by true = stays_same s

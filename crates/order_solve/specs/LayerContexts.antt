@@ -1,26 +1,26 @@
 -- What the workers of a layer read.
 --     ContextOf      what the cells are for, the layer, the costs of the layer before, and whether there is a source of widths
---     context_with setting layer before      without one
+--     context_with instance layer before      without one
 --     IsContext c      the costs are the definition's, and the layer is the one after theirs
 use Rattle.std.specs.Prelude.{◌≡◌, ◌+◌, Bool, false}
 use Rattle.subset_layers.specs.Layers.{LayerOf, layer_with}
 use Rattle.subset_layers.specs.Costs.{CostsOf}
-use Rattle.layer_core.specs.Settings.{Setting}
+use Rattle.layer_core.specs.Instances.{Instance}
 use Rattle.solutions.specs.LayerCosts.{AreCostsFor}
 
 -- what the cells are for, the layer, the costs of the layer before, and whether there is a source of widths
 pub record ContextOf : Type 0 where
-  pub setting : Setting
+  pub instance : Instance
   pub layer : LayerOf
   pub before : CostsOf
   pub has_source : Bool
 
 -- without a source of widths
-abbrev pub context_with : Setting → LayerOf → CostsOf → ContextOf
-context_with setting layer before = record { setting = setting; layer = layer; before = before; has_source = false }
+abbrev pub context_with : Instance → LayerOf → CostsOf → ContextOf
+context_with instance layer before = record { instance = instance; layer = layer; before = before; has_source = false }
 
 -- the layer is the one after the costs', which are the definition's
 pub record IsContext (c : ContextOf) : Type 0 where
-  pub inputs : c.before.inputs ≡ c.setting.problem.inputs
-  pub layer : c.layer ≡ layer_with c.setting.problem.inputs (c.before.size + 1)
-  pub costs : AreCostsFor c.setting c.before
+  pub inputs : c.before.inputs ≡ c.instance.problem.inputs
+  pub layer : c.layer ≡ layer_with c.instance.problem.inputs (c.before.size + 1)
+  pub costs : AreCostsFor c.instance c.before

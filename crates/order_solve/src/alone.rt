@@ -7,9 +7,9 @@ ghost use Rattle.solutions.specs.LayerCosts.{AreAllLayers, AreCells, AreDone, Is
 use crate::cells::cells_of_block;
 use crate::context::LayerContext;
 use crate::layering::add_layer;
-use crate::looking::look_ahead;
+use crate::look_ahead::look_ahead;
 use compaction::{Preparation, Tallies, WidthSource, WidthsAhead};
-use solutions::{Setting, first_layer, place_cells};
+use solutions::{Instance, first_layer, place_cells};
 use std::alloc::{AllocError, Global};
 use subset_layers::{Cell, Costs, Layer};
 
@@ -19,11 +19,11 @@ pub(crate) fn cells_alone(
     context: &LayerContext<'_>,
     found: &mut WidthsAhead<'_>,
 ) -> Result<Vec<Cell>, AllocError>
-    requires { found.old.problem ≡ context.now.setting.problem }
-    ensures cells { IfOk result (λ v. AreCells context.now.setting (masks_of context.now.layer) v.items) }
+    requires { found.old.problem ≡ context.now.instance.problem }
+    ensures cells { IfOk result (λ v. AreCells context.now.instance (masks_of context.now.layer) v.items) }
     ensures found { OnOk result (found.new.problem ≡ found.old.problem) }
 {
-    prove!(context.setting.inputs() <= 16);
+    prove!(context.instance.inputs() <= 16);
     let layer = context.layer;
     let none = Cell {
         cost: 0,
@@ -42,20 +42,20 @@ pub(crate) fn cells_alone(
 /// The layer after those that are done. What its walks find ahead goes to `found`.
 fn next_layer_alone(
     alloc: Global,
-    setting: &Setting<'_>,
+    instance: &Instance<'_>,
     source: &WidthSource<'_>,
     done: &[Costs],
     found: &mut WidthsAhead<'_>,
 ) -> Result<Costs, AllocError>
-    requires source { source.now ≡ setting.now.problem }
-    requires done { AreDone setting.now done.now }
-    requires found { found.old.problem ≡ setting.now.problem }
-    ensures layer { IfOk result (IsLayerFor setting.now (length done.now)) }
+    requires source { source.now ≡ instance.now.problem }
+    requires done { AreDone instance.now done.now }
+    requires found { found.old.problem ≡ instance.now.problem }
+    ensures layer { IfOk result (IsLayerFor instance.now (length done.now)) }
     ensures found { OnOk result (found.new.problem ≡ found.old.problem) }
 {
-    let layer = Layer::of(alloc, setting.inputs(), done.len() as u8)?;
+    let layer = Layer::of(alloc, instance.inputs(), done.len() as u8)?;
     let before = &done[done.len() - 1];
-    let context = LayerContext::new(setting, &layer, before).with_source(source);
+    let context = LayerContext::new(instance, &layer, before).with_source(source);
     let cells = cells_alone(alloc, &context, found)?;
     Ok(Costs::of(layer, cells))
 }
@@ -63,28 +63,28 @@ fn next_layer_alone(
 /// The layers of all sets, from what was prepared.
 fn layers_from(
     alloc: Global,
-    setting: &Setting<'_>,
+    instance: &Instance<'_>,
     prepared: Preparation<'_>,
 ) -> Result<Vec<Costs>, AllocError>
-    requires { prepared.problem ≡ setting.now.problem }
-    ensures { IfOk result (λ v. AreAllLayers setting.now v.items) }
+    requires { prepared.problem ≡ instance.now.problem }
+    ensures { IfOk result (λ v. AreAllLayers instance.now v.items) }
 {
     let (shared, mut ahead) = prepared.into_parts();
-    let mut layers = first_layer(alloc, setting)?;
-    for _size in 0..setting.inputs() {
-        ahead = look_ahead(alloc, setting, ahead, &layers);
-        let mut found = WidthsAhead::up_to(alloc, setting.problem, 0);
-        let source = WidthSource::new(&shared, &ahead, setting.pairs);
-        let next = next_layer_alone(alloc, setting, &source, &layers, &mut found)?;
+    let mut layers = first_layer(alloc, instance)?;
+    for _size in 0..instance.inputs() {
+        ahead = look_ahead(alloc, instance, ahead, &layers);
+        let mut found = WidthsAhead::up_to(alloc, instance.problem, 0);
+        let source = WidthSource::new(&shared, &ahead, instance.pairs);
+        let next = next_layer_alone(alloc, instance, &source, &layers, &mut found)?;
         add_layer(&mut layers, &mut ahead, next, found)?;
     }
     Ok(layers)
 }
 
 /// The layers of all sets.
-pub(crate) fn layers_alone(alloc: Global, setting: &Setting<'_>) -> Result<Vec<Costs>, AllocError>
-    ensures { IfOk result (λ v. AreAllLayers setting.now v.items) }
+pub(crate) fn layers_alone(alloc: Global, instance: &Instance<'_>) -> Result<Vec<Costs>, AllocError>
+    ensures { IfOk result (λ v. AreAllLayers instance.now v.items) }
 {
-    let prepared = Preparation::of(alloc, setting.problem)?;
-    layers_from(alloc, setting, prepared)
+    let prepared = Preparation::of(alloc, instance.problem)?;
+    layers_from(alloc, instance, prepared)
 }

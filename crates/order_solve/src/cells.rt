@@ -23,19 +23,19 @@ fn widths_of(
     found: &mut WidthsAhead<'_>,
     tallies: &mut Tallies,
 ) -> Result<Vec<[u32; 16]>, AllocError>
-    requires asked { AreAsked context.now.setting.problem block.now needed.now }
-    requires found { found.old.problem ≡ context.now.setting.problem }
+    requires asked { AreAsked context.now.instance.problem block.now needed.now }
+    requires found { found.old.problem ≡ context.now.instance.problem }
     requires room { HasRoom tallies.old (wanted_count needed.now) }
     ensures rows { IfOk result
-        (λ rows. AreRowsOf context.now.setting.problem block.now needed.now rows.items) }
+        (λ rows. AreRowsOf context.now.instance.problem block.now needed.now rows.items) }
     ensures counts { OnOk result
         (Counts (wanted_count needed.now) found.old tallies.old found.new tallies.new) }
     ensures alone { context.now.has_source ≡ false → OnOk result (found.new ≡ found.old) }
 {
-    let setting = context.setting;
+    let instance = context.instance;
     let Some(source) = context.source else {
         let cells = &mut tallies.cells;
-        let widths = block_widths(alloc, setting.problem, block, needed, cells)?;
+        let widths = block_widths(alloc, instance.problem, block, needed, cells)?;
         return Ok(widths.into_rows());
     };
     let widths = source.block_rows(alloc, block, needed, found, tallies)?;
@@ -50,11 +50,11 @@ fn cells_by_rows(
     rows: &[[u32; 16]],
 ) -> Result<Vec<Cell>, AllocError>
     requires layer { layer_of block.now ≡ context.now.layer }
-    requires rows { AreWidthRows context.now.setting.problem (block_masks block.now)
-        (map (needed context.now.setting) (block_masks block.now)) rows.now }
-    ensures { IfOk result (λ v. AreCells context.now.setting (block_masks block.now) v.items) }
+    requires rows { AreWidthRows context.now.instance.problem (block_masks block.now)
+        (map (needed context.now.instance) (block_masks block.now)) rows.now }
+    ensures { IfOk result (λ v. AreCells context.now.instance (block_masks block.now) v.items) }
 {
-    let setting = context.setting;
+    let instance = context.instance;
     let mut cells = Vec::with_capacity(alloc, block.len())?;
     for (i, mask) in block.masks().iter().enumerate() {
         let row = rows[i];
@@ -62,9 +62,9 @@ fn cells_by_rows(
             *mask,
             context.before,
             &row,
-            setting.limit.bound,
-            &setting.reserves,
-            setting.pairs,
+            instance.limit.bound,
+            &instance.bounds_above,
+            instance.pairs,
         ))?;
     }
     Ok(cells)
@@ -80,15 +80,15 @@ pub(crate) fn cells_of_block(
     tallies: &mut Tallies,
 ) -> Result<Vec<Cell>, AllocError>
     requires layer { layer_of block.now ≡ context.now.layer }
-    requires found { found.old.problem ≡ context.now.setting.problem }
-    requires room { HasRoom tallies.old (widths_for context.now.setting (block_masks block.now)) }
-    ensures cells { IfOk result (λ v. AreCells context.now.setting (block_masks block.now) v.items) }
-    ensures counts { OnOk result (Counts (widths_for context.now.setting (block_masks block.now))
+    requires found { found.old.problem ≡ context.now.instance.problem }
+    requires room { HasRoom tallies.old (widths_for context.now.instance (block_masks block.now)) }
+    ensures cells { IfOk result (λ v. AreCells context.now.instance (block_masks block.now) v.items) }
+    ensures counts { OnOk result (Counts (widths_for context.now.instance (block_masks block.now))
         found.old tallies.old found.new tallies.new) }
     ensures alone { context.now.has_source ≡ false → OnOk result (found.new ≡ found.old) }
 {
-    prove!(context.setting.inputs() <= 16);
-    let needs = needs_of_block(alloc, context.setting, context.before, block)?;
+    prove!(context.instance.inputs() <= 16);
+    let needs = needs_of_block(alloc, context.instance, context.before, block)?;
     let rows = widths_of(alloc, block, context, &needs, found, tallies)?;
     cells_by_rows(alloc, block, context, &rows)
 }

@@ -3,7 +3,7 @@
 ghost use Rattle.std.specs.Prelude.{◌≡◌, true};
 
 use compaction::WidthSource;
-use solutions::Setting;
+use solutions::Instance;
 use std::marker::Model;
 use subset_layers::{Costs, Layer};
 
@@ -11,7 +11,7 @@ use subset_layers::{Costs, Layer};
 /// if several layers are done, where the widths of blocks come from.
 #[derive(Drop)]
 pub struct LayerContext<'a> {
-    pub(crate) setting: &'a Setting<'a>,
+    pub(crate) instance: &'a Instance<'a>,
     pub(crate) layer: &'a Layer,
     pub(crate) before: &'a Costs,
     pub(crate) source: Option<&'a WidthSource<'a>>,
@@ -23,23 +23,23 @@ impl<'a> Model for LayerContext<'a> {
 
     ghost Value = { ContextOf };
 
-    ghost view = { λ c. record (context_with c.setting.now c.layer.now c.before.now)
+    ghost view = { λ c. record (context_with c.instance.now c.layer.now c.before.now)
         { has_source = is_some c.source } };
 
-    ghost invariant = { λ c. IsContext (context_with c.setting.now c.layer.now c.before.now)
-        × IfSome c.source (λ w. w.now ≡ c.setting.now.problem) };
+    ghost invariant = { λ c. IsContext (context_with c.instance.now c.layer.now c.before.now)
+        × IfSome c.source (λ w. w.now ≡ c.instance.now.problem) };
 }
 
 impl<'a> LayerContext<'a> {
     ghost use Rattle.order_solve.specs.LayerContexts.{context_with, IsContext};
 
-    /// The context of a layer: the costs are those of the layer before, for the setting.
-    pub fn new(setting: &'a Setting<'a>, layer: &'a Layer, before: &'a Costs) -> LayerContext<'a>
-        requires { IsContext (context_with setting.now layer.now before.now) }
-        ensures { result ≡ context_with setting.now layer.now before.now }
+    /// The context of a layer: the costs are those of the layer before, for the instance.
+    pub fn new(instance: &'a Instance<'a>, layer: &'a Layer, before: &'a Costs) -> LayerContext<'a>
+        requires { IsContext (context_with instance.now layer.now before.now) }
+        ensures { result ≡ context_with instance.now layer.now before.now }
     {
         LayerContext {
-            setting,
+            instance,
             layer,
             before,
             source: None,
@@ -48,7 +48,7 @@ impl<'a> LayerContext<'a> {
 
     /// The same context, with a source of widths.
     pub(crate) fn with_source(self, source: &'a WidthSource<'a>) -> LayerContext<'a>
-        requires { source.now ≡ self.setting.problem }
+        requires { source.now ≡ self.instance.problem }
         ensures { result ≡ record self.entry { has_source = true } }
     {
         LayerContext {

@@ -49,7 +49,7 @@ fn do_jobs<'a, R: Threads + Sync, G: Gate>(
     context: &LayerContext<'a>,
 ) -> Result<Vec<Result<WorkerResult<'a>, AllocError>>, AllocError>
     requires seats { All (λ j. j.seat.board ≡ board.now) jobs.items }
-    requires setting { board.now.brief.setting ≡ context.now.setting }
+    requires instance { board.now.brief.instance ≡ context.now.instance }
     requires layer { board.now.brief.layer ≡ context.now.layer }
     ensures count { IfOk result (λ v. vec_len v ≡ vec_len jobs) }
     ensures seats { IfOk result (λ v. All (λ r. IfOk r (λ e. e.seat.board ≡ board.now)) v.items) }
@@ -60,7 +60,7 @@ fn do_jobs<'a, R: Threads + Sync, G: Gate>(
         jobs,
         &|job: Job| -> Result<WorkerResult<'_>, AllocError>
             requires { IsSync G.row × (job.seat.board ≡ board.now)
-                × (board.now.brief.setting ≡ context.now.setting)
+                × (board.now.brief.instance ≡ context.now.instance)
                 × (board.now.brief.layer ≡ context.now.layer) }
             ensures { IfOk result (λ e. e.seat.board ≡ board.entry.now) }
         {
@@ -78,7 +78,7 @@ fn gather(
 ) -> Result<BoardSeat, AllocError>
     requires some { 1 ≤ vec_len ended }
     requires seats { All (λ r. IfOk r (λ e. e.seat.board ≡ board.now)) ended.items }
-    requires found { found.old.problem ≡ board.now.brief.setting.problem }
+    requires found { found.old.problem ≡ board.now.brief.instance.problem }
     ensures seat { IfOk result (λ s. s.board ≡ board.now) }
     ensures found { OnOk result (found.new.problem ≡ found.old.problem) }
 {
@@ -109,9 +109,9 @@ fn post_by_workers<R: Threads + Sync, G: Gate>(
     requires some { 1 ≤ vec_len seats }
     requires few { vec_len seats ≤ 64 }
     requires seats { All (λ s. s.board ≡ board.now) seats.items }
-    requires setting { board.now.brief.setting ≡ context.now.setting }
+    requires instance { board.now.brief.instance ≡ context.now.instance }
     requires layer { board.now.brief.layer ≡ context.now.layer }
-    requires found { found.old.problem ≡ context.now.setting.problem }
+    requires found { found.old.problem ≡ context.now.instance.problem }
     ensures seat { IfOk result (λ s. s.board ≡ board.now) }
     ensures found { OnOk result (found.new.problem ≡ found.old.problem) }
 {
@@ -129,18 +129,18 @@ pub(crate) fn cells_of_layer<R: Threads + Sync, G: Gate>(
     context: &LayerContext<'_>,
     found: &mut WidthsAhead<'_>,
 ) -> Result<Vec<Cell>, AllocError>
-    requires { found.old.problem ≡ context.now.setting.problem }
-    ensures cells { IfOk result (λ v. AreCells context.now.setting (masks_of context.now.layer) v.items) }
+    requires { found.old.problem ≡ context.now.instance.problem }
+    ensures cells { IfOk result (λ v. AreCells context.now.instance (masks_of context.now.layer) v.items) }
     ensures found { OnOk result (found.new.problem ≡ found.old.problem) }
 {
-    let setting = context.setting;
+    let instance = context.instance;
     let (board, seats) = Board::new(
         alloc,
-        setting.problem,
-        setting.limit,
+        instance.problem,
+        instance.limit,
         context.layer,
-        busy_workers(setting, context.layer, crew.workers),
-        setting.pairs,
+        busy_workers(instance, context.layer, crew.workers),
+        instance.pairs,
     )?;
     let seat = post_by_workers(crew, alloc, &board, seats, context, found)?;
     match board.close(alloc, seat) {

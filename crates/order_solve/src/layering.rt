@@ -5,10 +5,10 @@ ghost use Rattle.solutions.specs.LayerCosts.{AreAllLayers, AreDone, IsLayerFor};
 
 use crate::context::LayerContext;
 use crate::crews::cells_of_layer;
-use crate::looking::look_ahead;
+use crate::look_ahead::look_ahead;
 use compaction::{Preparation, WidthSource, WidthsAhead};
 use order_model::{Crew, Gate};
-use solutions::{Setting, first_layer};
+use solutions::{Instance, first_layer};
 use std::alloc::{AllocError, Global};
 use std::thread::Threads;
 use subset_layers::{Costs, Layer};
@@ -17,20 +17,20 @@ use subset_layers::{Costs, Layer};
 fn next_layer<R: Threads + Sync, G: Gate>(
     crew: &Crew<'_, R, G>,
     alloc: Global,
-    setting: &Setting<'_>,
+    instance: &Instance<'_>,
     source: &WidthSource<'_>,
     done: &[Costs],
     found: &mut WidthsAhead<'_>,
 ) -> Result<Costs, AllocError>
-    requires source { source.now ≡ setting.now.problem }
-    requires done { AreDone setting.now done.now }
-    requires found { found.old.problem ≡ setting.now.problem }
-    ensures layer { IfOk result (IsLayerFor setting.now (length done.now)) }
+    requires source { source.now ≡ instance.now.problem }
+    requires done { AreDone instance.now done.now }
+    requires found { found.old.problem ≡ instance.now.problem }
+    ensures layer { IfOk result (IsLayerFor instance.now (length done.now)) }
     ensures found { OnOk result (found.new.problem ≡ found.old.problem) }
 {
-    let layer = Layer::of(alloc, setting.inputs(), done.len() as u8)?;
+    let layer = Layer::of(alloc, instance.inputs(), done.len() as u8)?;
     let before = &done[done.len() - 1];
-    let context = LayerContext::new(setting, &layer, before).with_source(source);
+    let context = LayerContext::new(instance, &layer, before).with_source(source);
     let cells = cells_of_layer(crew, alloc, &context, found)?;
     Ok(Costs::of(layer, cells))
 }
@@ -55,19 +55,19 @@ pub(crate) fn add_layer(
 pub(crate) fn layers_of<R: Threads + Sync, G: Gate>(
     crew: &Crew<'_, R, G>,
     alloc: Global,
-    setting: &Setting<'_>,
+    instance: &Instance<'_>,
     prepared: Preparation<'_>,
 ) -> Result<Vec<Costs>, AllocError>
-    requires { prepared.problem ≡ setting.now.problem }
-    ensures { IfOk result (λ v. AreAllLayers setting.now v.items) }
+    requires { prepared.problem ≡ instance.now.problem }
+    ensures { IfOk result (λ v. AreAllLayers instance.now v.items) }
 {
     let (shared, mut ahead) = prepared.into_parts();
-    let mut layers = first_layer(alloc, setting)?;
-    for _size in 0..setting.inputs() {
-        ahead = look_ahead(alloc, setting, ahead, &layers);
-        let mut found = WidthsAhead::up_to(alloc, setting.problem, 0);
-        let source = WidthSource::new(&shared, &ahead, setting.pairs);
-        let next = next_layer(crew, alloc, setting, &source, &layers, &mut found)?;
+    let mut layers = first_layer(alloc, instance)?;
+    for _size in 0..instance.inputs() {
+        ahead = look_ahead(alloc, instance, ahead, &layers);
+        let mut found = WidthsAhead::up_to(alloc, instance.problem, 0);
+        let source = WidthSource::new(&shared, &ahead, instance.pairs);
+        let next = next_layer(crew, alloc, instance, &source, &layers, &mut found)?;
         add_layer(&mut layers, &mut ahead, next, found)?;
     }
     Ok(layers)

@@ -2,7 +2,7 @@
 
 ghost use Rattle.std.specs.Prelude.{◌≡◌, IfOk};
 ghost use Rattle.order_model.specs.Problems.{functions};
-ghost use Rattle.order_model.specs.declared.reserve.Reserve.TheVariants.{Variables};
+ghost use Rattle.order_model.specs.declared.bounds_above.BoundAbove.TheVariants.{Variables};
 ghost use Rattle.order_model.specs.Cells.{widths_taken};
 ghost use Rattle.symmetries.specs.SymmetricPairs.{IsHarmless};
 ghost use Rattle.solutions.specs.Bounded.{IsBounded};
@@ -11,27 +11,27 @@ ghost use Rattle.solutions.specs.Solutions.{IsOptimumFor, IsSolution};
 use crate::alone::layers_alone;
 use crate::layering::layers_of;
 use compaction::Preparation;
-use order_model::{Crew, Gate, Limit, Pairs, Problem, Reserve, Workers};
+use order_model::{Crew, Gate, Limit, Pairs, Problem, BoundAbove, Workers};
 use sifting::Sifted;
-use solutions::{AllCells, Optimum, Setting, Solution, optimum_of, pairs_to_keep, solution_of};
+use solutions::{AllCells, Optimum, Instance, Solution, optimum_of, pairs_to_keep, solution_of};
 use std::alloc::{AllocError, Global};
 use std::thread::Threads;
 
 /// What the search is for that a sifted order bounds: its size is the bound, and pairs are kept to
 /// which each order that keeps its pairs can be sorted.
-fn setting_of<'a>(
+fn instance_of<'a>(
     problem: &'a Problem,
     sifted: &'a Sifted,
     pairs: &'a Pairs,
-    reserve: Reserve,
-) -> Setting<'a>
+    bound_above: BoundAbove,
+) -> Instance<'a>
     requires problem { sifted.now.problem ≡ problem.now }
     requires inputs { pairs.now.inputs ≡ problem.now.inputs }
     requires harmless { IsHarmless problem.now.inputs (functions problem.now) sifted.now.pairs
         pairs.now.pairs }
     ensures problem { result.problem ≡ problem.now }
     ensures pairs { result.pairs ≡ pairs.now }
-    ensures reserve { result.reserve ≡ reserve }
+    ensures bound_above { result.bound_above ≡ bound_above }
     ensures bound { result.bound ≡ sifted.now.size }
     ensures bounded { IsBounded result }
 {
@@ -39,24 +39,24 @@ fn setting_of<'a>(
     prove!(problem.inputs() <= 16);
     let limit = Limit {
         bound: sifted.size(),
-        reserve,
+        bound_above,
     };
-    Setting::new(problem, pairs, limit)
+    Instance::new(problem, pairs, limit)
 }
 
 /// The first order of the fewest nodes that a search is for.
 fn optimum_for<R: Threads + Sync, G: Gate>(
     crew: &Crew<'_, R, G>,
     alloc: Global,
-    setting: &Setting<'_>,
+    instance: &Instance<'_>,
     prepared: Preparation<'_>,
 ) -> Result<Optimum, AllocError>
-    requires bounded { IsBounded setting.now }
-    requires problem { prepared.problem ≡ setting.now.problem }
-    ensures { IfOk result (IsOptimumFor setting.now.problem setting.now.pairs.pairs) }
+    requires bounded { IsBounded instance.now }
+    requires problem { prepared.problem ≡ instance.now.problem }
+    ensures { IfOk result (IsOptimumFor instance.now.problem instance.now.pairs.pairs) }
 {
-    let layers = layers_of(crew, alloc, setting, prepared)?;
-    let cells = AllCells::of_layers(setting, layers);
+    let layers = layers_of(crew, alloc, instance, prepared)?;
+    let cells = AllCells::of_layers(instance, layers);
     optimum_of(alloc, &cells)
 }
 
@@ -79,8 +79,8 @@ pub fn find_optimum<R: Threads + Sync, G: Gate>(
 {
     let problem = prepared.problem();
     let pairs = pairs_to_keep(alloc, problem, sifted.pairs())?;
-    let setting = setting_of(problem, &sifted, &pairs, Reserve::Widths);
-    optimum_for(&Crew::new(rt, workers, gate), alloc, &setting, prepared)
+    let instance = instance_of(problem, &sifted, &pairs, BoundAbove::Widths);
+    optimum_for(&Crew::new(rt, workers, gate), alloc, &instance, prepared)
 }
 
 /// The same as `find_optimum`, by the calling thread alone.
@@ -93,8 +93,8 @@ pub fn find_optimum_alone(
     ensures { IfOk result (IsOptimumFor problem.now sifted.pairs) }
 {
     let pairs = pairs_to_keep(alloc, problem, sifted.pairs())?;
-    let setting = setting_of(problem, &sifted, &pairs, Reserve::Widths);
-    let cells = AllCells::of_layers(&setting, layers_alone(alloc, &setting)?);
+    let instance = instance_of(problem, &sifted, &pairs, BoundAbove::Widths);
+    let cells = AllCells::of_layers(&instance, layers_alone(alloc, &instance)?);
     optimum_of(alloc, &cells)
 }
 
@@ -115,9 +115,9 @@ pub fn solve<R: Threads + Sync, G: Gate>(
         (functions prepared.entry.problem) sifted.pairs Variables sifted.size) }
 {
     let problem = prepared.problem();
-    let setting = setting_of(problem, &sifted, sifted.pairs(), Reserve::Variables);
-    let layers = layers_of(&Crew::new(rt, workers, gate), alloc, &setting, prepared)?;
-    let cells = AllCells::of_layers(&setting, layers);
+    let instance = instance_of(problem, &sifted, sifted.pairs(), BoundAbove::Variables);
+    let layers = layers_of(&Crew::new(rt, workers, gate), alloc, &instance, prepared)?;
+    let cells = AllCells::of_layers(&instance, layers);
     solution_of(alloc, &cells)
 }
 
@@ -129,7 +129,7 @@ pub fn solve_alone(alloc: Global, problem: &Problem, sifted: Sifted) -> Result<S
         (λ s. s.widths ≡ widths_taken problem.now.inputs (functions problem.now) sifted.pairs
         Variables sifted.size) }
 {
-    let setting = setting_of(problem, &sifted, sifted.pairs(), Reserve::Variables);
-    let cells = AllCells::of_layers(&setting, layers_alone(alloc, &setting)?);
+    let instance = instance_of(problem, &sifted, sifted.pairs(), BoundAbove::Variables);
+    let cells = AllCells::of_layers(&instance, layers_alone(alloc, &instance)?);
     solution_of(alloc, &cells)
 }

@@ -4,7 +4,7 @@ ghost use Rattle.std.specs.Prelude.{◌≡◌, ℕ, false, [], Some, IfOk, IsTru
 ghost use Rattle.order_model.specs.Orders.{has};
 ghost use Rattle.subset_layers.specs.Layers.{block_masks};
 ghost use Rattle.compaction.specs.Ahead.{widths_ahead};
-ghost use Rattle.layer_core.specs.Settings.{cell_for};
+ghost use Rattle.layer_core.specs.Instances.{cell_for};
 ghost use Rattle.layer_board.specs.Views.{has_claimed, knows_filled};
 ghost use Rattle.layer_core.specs.Pairing.{pair_of};
 ghost use Rattle.solutions.specs.Needs.{widths_for};
@@ -27,7 +27,7 @@ pub struct WorkerResult<'a> {
     pub tally: Tally,
     pub ahead: Tally,
     pub found: WidthsAhead<'a>,
-    pub ghost same_problem: { found.problem ≡ seat.board.brief.setting.problem },
+    pub ghost same_problem: { found.problem ≡ seat.board.brief.instance.problem },
 }
 
 /// A worker at a board: what it is lent, its number, and what it calls between a claim and its
@@ -64,21 +64,21 @@ impl<'a, G: Gate> Worker<'a, G> {
 /// Posts the cell of a set. The gate is called before.
 fn post_cell<G: Gate>(worker: &Worker<'_, G>, seat: &mut BoardSeat, mask: Mask, cell: Cell)
     requires seat { seat.old.board ≡ worker.now.board.now }
-    requires setting { worker.now.board.now.brief.setting ≡ worker.now.context.now.setting }
-    requires cell { pair_of cell ≡ cell_for worker.now.context.now.setting mask }
+    requires instance { worker.now.board.now.brief.instance ≡ worker.now.context.now.instance }
+    requires cell { pair_of cell ≡ cell_for worker.now.context.now.instance mask }
     ensures stays { StaysClaimed seat.old seat.new }
     ensures posted { IsPosted seat.new mask }
 {
     let context = worker.context;
     worker.gate.between(worker.number, u32::from(mask));
-    let _ = worker.board.post(seat, context.setting.result(mask, cell));
+    let _ = worker.board.post(seat, context.instance.result(mask, cell));
 }
 
 /// Posts the cells of a block's sets.
 fn post_block<G: Gate>(worker: &Worker<'_, G>, seat: &mut BoardSeat, block: &Block, cells: &[Cell])
     requires seat { seat.old.board ≡ worker.now.board.now }
-    requires setting { worker.now.board.now.brief.setting ≡ worker.now.context.now.setting }
-    requires cells { AreCells worker.now.context.now.setting (block_masks block.now) cells.now }
+    requires instance { worker.now.board.now.brief.instance ≡ worker.now.context.now.instance }
+    requires cells { AreCells worker.now.context.now.instance (block_masks block.now) cells.now }
     ensures stays { StaysClaimed seat.old seat.new }
     ensures posted { (mask : ℕ) → IsTrue (has (block_masks block.now) mask) →
         IsPosted seat.new mask }
@@ -101,26 +101,26 @@ pub fn work_layer<'a, G: Gate>(
     gate: &G,
 ) -> Result<WorkerResult<'a>, AllocError>
     requires seat { seat.board ≡ board.now }
-    requires setting { board.now.brief.setting ≡ context.now.setting }
+    requires instance { board.now.brief.instance ≡ context.now.instance }
     requires layer { board.now.brief.layer ≡ context.now.layer }
     ensures board { IfOk result (λ e. e.seat.board ≡ board.now) }
-    ensures told { IfOk result (λ e. IsTrue e.seat.worker.told) }
+    ensures ended { IfOk result (λ e. IsTrue e.seat.worker.ended) }
     ensures kept { IfOk result
         (λ e. (mask : ℕ) → IsTrue (has_claimed seat mask) → IsTrue (has_claimed e.seat mask)) }
     ensures known { IfOk result
         (λ e. (mask : ℕ) → IsTrue (knows_filled seat mask) → IsTrue (knows_filled e.seat mask)) }
     ensures posted { IfOk result
         (λ e. (mask : ℕ) → IsTrue (gains seat e.seat mask) → IsTrue (knows_filled e.seat mask)) }
-    ensures tally { IfOk result (λ e. e.tally ≡ widths_for context.now.setting (gained seat e.seat)) }
+    ensures tally { IfOk result (λ e. e.tally ≡ widths_for context.now.instance (gained seat e.seat)) }
     ensures ahead { IfOk result (λ e. e.ahead ≡ widths_ahead e.found) }
     ensures alone { context.now.has_source ≡ false → IfOk result
         (λ e. (e.ahead ≡ 0) × (e.found.rows ≡ [])) }
 {
-    prove!(context.setting.inputs() <= 16);
+    prove!(context.instance.inputs() <= 16);
     let worker = Worker::new(board, context, worker, gate);
     let mut tallies = Tallies::new();
-    let setting = context.setting;
-    let mut found = WidthsAhead::up_to(alloc, setting.problem, 0);
+    let instance = context.instance;
+    let mut found = WidthsAhead::up_to(alloc, instance.problem, 0);
     while let Some(claim) = board.claim(&mut seat) {
         let cells = cells_of_block(alloc, claim.block(), context, &mut found, &mut tallies)?;
         post_block(&worker, &mut seat, claim.block(), &cells);

@@ -43,7 +43,7 @@ module _ (masks : List ℕ) (x : ℕ) (ps : List (ℕ × ℕ)) (numbers joined :
       ap (map (λ k. get_or joined k 0)) t.numbers_are ∙ map-map (λ k. get_or joined k 0) t.name ps
       ∙ map_same (λ p. get_or joined (t.name p) 0) (joined_mask masks x) ps
       (λ p a. let i = place_of (0, 0) ps p a in
-      subst (λ q. get_or joined (t.name q) 0 ≡ joined_mask masks x q) i.1.1 (t.told i.0 i.1.0))
+      subst (λ q. get_or joined (t.name q) 0 ≡ joined_mask masks x q) i.1.1 (t.labels i.0 i.1.0))
 
   pub names_below : (i : ℕ) → i < length numbers → get_or numbers i 0 < length joined
   names_below i lt =
@@ -66,7 +66,7 @@ module _ (masks : List ℕ) (x : ℕ) (ps : List (ℕ × ℕ)) (numbers joined :
         let l = at j b in
         sym k.1.1 ∙ t.apart k.0 l.0 k.1.0 l.1.0 (ap t.name k.1.1 ∙ e ∙ sym (ap t.name l.1.1)) ∙ l.1.1;
     below = λ i a. let k = at i a in subst (λ q. t.name q < length joined) k.1.1 (t.below k.0 k.1.0);
-    told = λ i a. let k = at i a in subst (λ q. get_or joined (t.name q) 0 ≡ joined_mask masks x q) k.1.1 (t.told k.0 k.1.0);
+    labels = λ i a. let k = at i a in subst (λ q. get_or joined (t.name q) 0 ≡ joined_mask masks x q) k.1.1 (t.labels k.0 k.1.0);
     few = t.few;
   }
 
@@ -79,10 +79,10 @@ names_numbered masks x ps numbers joined small h = record {
   numbers_are = h.numbers_are;
   apart = λ i j a b. rank_apart same_pair pair_decides ps (get_or ps i (0, 0)) (get_or ps j (0, 0)) (among_at ps i (0, 0) a) (among_at ps j (0, 0) b);
   below = λ i a. omega (arith, rank_below same_pair pair_decides ps (get_or ps i (0, 0)) (among_at ps i (0, 0) a));
-  told = λ i a.
+  labels = λ i a.
       sym (ap (λ c. get_or joined c 0) (ap (λ us. get_or us i 0) h.numbers_are ∙ get_or-map (rank same_pair ps) ps i (0, 0) 0 a))
       ∙ sym (get_or-map (λ c. get_or joined c 0) numbers i 0 0 (omega (arith, ap length h.numbers_are ∙ length-map ps (rank same_pair ps))))
-      ∙ ap (λ us. get_or us i 0) h.told ∙ get_or-map (joined_mask masks x) ps i (0, 0) 0 a;
+      ∙ ap (λ us. get_or us i 0) h.labels ∙ get_or-map (joined_mask masks x) ps i (0, 0) 0 a;
   few = omega (arith, distinct_count-le same_pair ps);
 }
 
@@ -103,7 +103,7 @@ names_joined masks x cs r table narrow numbers joined e d = record {
       λ k. (lower k, upper k);
   below = λ i a. let k = ap length d ∙ length-map-range_with_len (joined_key_mask masks x) 0 (length masks * length masks) in
       let s = key_small i a in omega arith;
-  told = λ i a.
+  labels = λ i a.
       let low = (parts i a).0 in
       let q = high (at i) low (omega arith) in
       ap (λ us. get_or us (joined_key (length masks) (at i)) 0) d

@@ -21,7 +21,7 @@ pub record TellsPairs (masks : List ℕ) (x : ℕ) (ps : List (ℕ × ℕ)) (num
   pub apart : (i j : ℕ) → i < length ps → j < length ps → name (get_or ps i (0, 0)) ≡ name (get_or ps j (0, 0)) →
       get_or ps i (0, 0) ≡ get_or ps j (0, 0)
   pub below : (i : ℕ) → i < length ps → name (get_or ps i (0, 0)) < length joined
-  pub told : (i : ℕ) → i < length ps →
+  pub labels : (i : ℕ) → i < length ps →
       slice_index joined (name (get_or ps i (0, 0))) ≡ joined_mask masks x (get_or ps i (0, 0))
   pub few : length joined ≤ 2 ^ 20
 

@@ -16,4 +16,4 @@ ArePairsBelow pairs classes = (k : ℕ) → k < length pairs →
 pub record ArePairsNumbered (numbers : List ℕ) (rank : ℕ) (numbered : List ℕ) (pairs : List (ℕ × ℕ)) : Type 0 where
   pub numbered_are : numbered ≡ ranks same_pair (places.pairs numbers (2 ^ rank))
   pub many : length pairs ≡ distinct_count same_pair (places.pairs numbers (2 ^ rank))
-  pub told : map (λ c. get_or pairs c (0, 0)) numbered ≡ places.pairs numbers (2 ^ rank)
+  pub labels : map (λ c. get_or pairs c (0, 0)) numbered ≡ places.pairs numbers (2 ^ rank)

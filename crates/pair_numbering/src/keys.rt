@@ -133,8 +133,8 @@ pub fn label_pairs(
     ensures used { IfOk result (λ v. IsTrue v.all_used → AreUsed v.numbers.items v.masks.items) }
 {
     let entries = EntryPairs::of_table(numbers, rank);
-    let told = tell_entries(alloc, &entries, x, masks)?;
-    Ok(told)
+    let labels = tell_entries(alloc, &entries, x, masks)?;
+    Ok(labels)
 }
 
 /// The same of the entries of pairs of strips of 2 ^ bits entries, which are read where they stand.
@@ -160,6 +160,6 @@ pub fn label_strip_pairs(
     ensures used { IfOk result (λ v. IsTrue v.all_used → AreUsed v.numbers.items v.masks.items) }
 {
     let entries = EntryPairs::of_strips(names, numbers, bits);
-    let told = tell_entries(alloc, &entries, x, masks)?;
-    Ok(told)
+    let labels = tell_entries(alloc, &entries, x, masks)?;
+    Ok(labels)
 }

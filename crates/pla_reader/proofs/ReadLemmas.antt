@@ -109,28 +109,28 @@ unfolding faults
 first_is_found lines rest line number s fault here unended some =
     let before = here.before in
     let more = line ∷ description rest in
-    let told : description lines ≡ before ++ more = ap description here.whole ∙ description_open before (line ∷ rest) here.open_so_far
+    let stated : description lines ≡ before ++ more = ap description here.whole ∙ description_open before (line ∷ rest) here.open_so_far
     ∙ ap (λ ls. before ++ ls) (description_cons line rest unended) in
     let found : judged (before ++ more) (length before) ≡ Some (number + 1, fault) = judged_next before (description rest) line
     ∙ rw some (rw (here.numbered) refl) in
     record {
       others = filter_map (judged (before ++ more)) (range_with_len (length before + 1) (length (description rest))) ++ end_faults lines;
-      first = rw told (rw (faults_behind before more here.faultless) (rw found refl));
+      first = rw stated (rw (faults_behind before more here.faultless) (rw found refl));
     }
 
 -- the end, where the lines before it are all of the description
 end_is_found : (lines : List Line) (before : List Line) → description lines ≡ before →
     ((k : ℕ) → k < length before → judged before k ≡ None) → faults lines ≡ end_faults lines
 unfolding faults
-end_is_found lines before told none =
-    rw told (ap (λ found. found ++ end_faults lines) (none_in_range (judged before) 0 (length before) (λ k low high. none k (omega arith))))
+end_is_found lines before stated none =
+    rw stated (ap (λ found. found ++ end_faults lines) (none_in_range (judged before) 0 (length before) (λ k low high. none k (omega arith))))
 
 -- the end of a description without a fault
 ending : (lines before : List Line) (number : ℕ) (s : State) → description lines ≡ before → min (length before + 1) (length lines) ≡ number →
     ((k : ℕ) → k < length before → judged before k ≡ None) → Agrees before s →
     faults lines ≡ cond (is_some s.inputs && is_some s.outputs) [] ((number, MissingHead) ∷ [])
 unfolding end_faults
-ending lines before number s told counted none agrees = grind (arith, end_is_found, comes_known)
+ending lines before number s stated counted none agrees = grind (arith, end_is_found, comes_known)
 
 -- what came, or else another value
 first_known : {A : Type 0} (other : A) (known : Option A) (xs : List A) → xs ≡ option_to_list known → first_or other xs ≡ unwrap_or known other
@@ -145,7 +145,7 @@ cover_known before s cover agrees is = grind (arith, inputs_known, unwrap_or, ou
 -- where a description ends, with its last line's number
 pub record Ends (lines : List Line) (number : ℕ) (s : State) : Type 0 where
   pub before : List Line
-  pub told : description lines ≡ before
+  pub stated : description lines ≡ before
   pub counted : min (length before + 1) (length lines) ≡ number
   pub faultless : (k : ℕ) → k < length before → judged before k ≡ None
   pub agrees : Agrees before s
@@ -163,15 +163,15 @@ ends_with_input lines number s here = grind (arith, append-nil, description_open
 
 pub gives_cover : (lines : List Line) (number : ℕ) (s : State) (cover : NamedCover) → Ends lines number s → IsCoverOf s cover → Gives lines cover
 gives_cover lines number s cover ends is = record {
-  faultless = ending lines ends.before number s ends.told ends.counted ends.faultless ends.agrees ∙ rw is.inputs (rw is.outputs refl);
-  given = ap cover_of ends.told ∙ cover_known ends.before s cover ends.agrees is;
+  faultless = ending lines ends.before number s ends.stated ends.counted ends.faultless ends.agrees ∙ rw is.inputs (rw is.outputs refl);
+  given = ap cover_of ends.stated ∙ cover_known ends.before s cover ends.agrees is;
 }
 
 pub misses_head : (lines : List Line) (number : ℕ) (s : State) → Ends lines number s → (is_some s.inputs && is_some s.outputs) ≡ false →
     HasFirst lines number MissingHead
 misses_head lines number s ends none = record {
   others = [];
-  first = ending lines ends.before number s ends.told ends.counted ends.faultless ends.agrees ∙ rw none refl;
+  first = ending lines ends.before number s ends.stated ends.counted ends.faultless ends.agrees ∙ rw none refl;
 }
 
 -- the lines of an input without its first one

@@ -9,7 +9,7 @@ ghost use Rattle.run_texts.specs.Texts.{file_order_levels};
 use crate::best::{Best, best_order, small_best};
 use crate::diagrams::{file_order_levels_of, first_diagram};
 use crate::instance::Instance;
-use order_model::{Diagram, Limit, Order, Reserve, Workers, total};
+use order_model::{Diagram, Limit, Order, BoundAbove, Workers, total};
 use order_solve::{Preparation, prepare};
 use sifting::laws::diagrams_have_their_functions_tables;
 use sifting::{Manager, Sifted};
@@ -68,10 +68,10 @@ fn prepare_below<'a, R: Threads + Sync>(
 {
     let limit = Limit {
         bound: size.min(1 << 20),
-        reserve: if instance.certify {
-            Reserve::Variables
+        bound_above: if instance.certify {
+            BoundAbove::Variables
         } else {
-            Reserve::Widths
+            BoundAbove::Widths
         },
     };
     let problem = instance.tables.problem();

@@ -19,7 +19,7 @@ use Rattle.sifting.specs.Managed.{truth_tables_of}
 use Rattle.sifting.specs.LevelLists.{nodes_of, problem_at}
 use Rattle.sifting.specs.Cuts.{code_of, ref_of, split_ref, ref_at, is_true, Splits, Numbers, IsBuilt}
 use Rattle.sifting.proofs.Paths.{place_inside}
-use Rattle.sifting.proofs.Held.{twice}
+use Rattle.sifting.proofs.ManagerFields.{twice}
 use Rattle.sifting.proofs.Cutting.{half, ref_code, code_ref, Stands, split_value, split_stands, split_tells}
 use Rattle.order_model.proofs.Sifting.Placements.{own_place}
 

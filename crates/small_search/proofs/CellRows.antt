@@ -10,33 +10,33 @@ use Rattle.order_model.specs.Orders.{has, members, without}
 use Rattle.order_model.specs.Problems.{functions}
 use Rattle.order_model.specs.Widths.{width}
 use Rattle.order_model.specs.Cells.{AreForCell, asked, candidates, cell_cost}
-use Rattle.order_model.specs.declared.reserve.Reserve.{Reserve}
-use Rattle.order_model.specs.declared.reserve.Reserve.TheVariants.{Variables, Widths}
+use Rattle.order_model.specs.declared.bounds_above.BoundAbove.{BoundAbove}
+use Rattle.order_model.specs.declared.bounds_above.BoundAbove.TheVariants.{Variables, Widths}
 use Rattle.order_model.proofs.Widths.Cells.{candidate_parts}
 use Rattle.order_model.proofs.Bits.Masks.{members_small}
 use Rattle.subset_layers.specs.declared.costs.Cell.{Cell}
 use Rattle.subset_layers.proofs.Rows.{row_passed, row_written}
-use Rattle.layer_core.specs.Settings.{Setting, cell_for}
+use Rattle.layer_core.specs.Instances.{Instance, cell_for}
 use Rattle.solutions.specs.FlatCells.{no_cell}
 use Rattle.small_search.specs.FirstCells.{AreFirstCells}
 
 -- whether a variable is a member
-abbrev pub IsMember : Setting → ℕ → ℕ → Type 0
+abbrev pub IsMember : Instance → ℕ → ℕ → Type 0
 IsMember t mask y = has (members t.problem.inputs mask) y ≡ true
 
-abbrev pub cost_without : Setting → ℕ → ℕ → ℕ
-cost_without t mask y = cell_cost t.problem.inputs (functions t.problem) t.pairs.pairs t.reserve t.bound (mask - 2 ^ y)
+abbrev pub cost_without : Instance → ℕ → ℕ → ℕ
+cost_without t mask y = cell_cost t.problem.inputs (functions t.problem) t.pairs.pairs t.bound_above t.bound (mask - 2 ^ y)
 
-abbrev pub width_without : Setting → ℕ → ℕ → ℕ
+abbrev pub width_without : Instance → ℕ → ℕ → ℕ
 width_without t mask y = width t.problem.inputs (functions t.problem) (without y (members t.problem.inputs mask)) y
 
-pub record AreRowsBelow (t : Setting) (mask : ℕ) (below widths : List ℕ) (k : ℕ) : Type 0 where
+pub record AreRowsBelow (t : Instance) (mask : ℕ) (below widths : List ℕ) (k : ℕ) : Type 0 where
   pub below_long : length below ≡ 16
   pub widths_long : length widths ≡ 16
   pub costs_are : (y : ℕ) → y < k → IsMember t mask y → get_or below y 0 ≡ cost_without t mask y
   pub widths_are : (y : ℕ) → y < k → IsMember t mask y → get_or widths y 0 ≡ width_without t mask y
 
-module _ (t : Setting) (mask : ℕ) where
+module _ (t : Instance) (mask : ℕ) where
   pub rows_start : (below widths : List ℕ) → length below ≡ 16 → length widths ≡ 16 → AreRowsBelow t mask below widths 0
   rows_start below widths b w = record { below_long = b; widths_long = w; costs_are = λ y l. absurd (omega arith); widths_are = λ y l. absurd (omega arith) }
 
@@ -57,7 +57,7 @@ module _ (t : Setting) (mask : ℕ) where
     widths_are = row_passed (IsMember t mask) (width_without t mask) widths x r.widths_are none;
   }
 
-  asked_member : (r : Reserve) (bound : ℕ) (costs : ℕ → ℕ) (y : ℕ) → has (asked t.problem.inputs r bound mask costs) y ≡ true → IsMember t mask y
+  asked_member : (r : BoundAbove) (bound : ℕ) (costs : ℕ → ℕ) (y : ℕ) → has (asked t.problem.inputs r bound mask costs) y ≡ true → IsMember t mask y
   unfolding asked
   asked_member Variables bound costs y h = (candidate_parts t.problem.inputs bound mask costs y h).0
   asked_member Widths bound costs y h = by (nat_eq (length (candidates t.problem.inputs bound mask costs)) 0) h
@@ -67,17 +67,17 @@ module _ (t : Setting) (mask : ℕ) where
       by false h = h
 
   pub rows_all : (below widths : List ℕ) (k : ℕ) → AreRowsBelow t mask below widths k → t.problem.inputs ≤ k →
-      AreForCell t.problem.inputs (functions t.problem) t.pairs.pairs t.reserve t.bound mask (slice_index below) (slice_index widths)
+      AreForCell t.problem.inputs (functions t.problem) t.pairs.pairs t.bound_above t.bound mask (slice_index below) (slice_index widths)
   rows_all below widths k r le = record {
     are_costs = λ y m. r.costs_are y (let s = members_small t.problem.inputs mask y m in omega (arith, s, le)) m;
     are_widths = λ l y a.
-        let m = asked_member t.reserve t.bound (slice_index below) y a in
+        let m = asked_member t.bound_above t.bound (slice_index below) y a in
         r.widths_are y (let s = members_small t.problem.inputs mask y m in omega (arith, s, le)) m;
   }
 
 -- the cost of a smaller set
-pub cost_at : (t : Setting) (count : ℕ) (cells : List Cell) → AreFirstCells t count cells → (mask : ℕ) → mask < count →
-    (get_or cells mask no_cell).cost ≡ cell_cost t.problem.inputs (functions t.problem) t.pairs.pairs t.reserve t.bound mask
+pub cost_at : (t : Instance) (count : ℕ) (cells : List Cell) → AreFirstCells t count cells → (mask : ℕ) → mask < count →
+    (get_or cells mask no_cell).cost ≡ cell_cost t.problem.inputs (functions t.problem) t.pairs.pairs t.bound_above t.bound mask
 unfolding cell_cost
 cost_at t count cells h mask lt =
     elim (cases_eq mask 0) [

@@ -82,7 +82,7 @@ module _ (p : TruthTables) (mask x size : ℕ) (tables : List Numbered) (low : I
         let more = holds_more parent x inside new numbers masks t.numbers.items t.masks.items (parent_holds d)
         (subst (λ ps. t.numbers.items ≡ ranks same_pair ps) r made.numbers_are)
         (subst (λ ps. length t.masks.items ≡ distinct_count same_pair ps) r made.many)
-        (subst (λ ps. map (λ c. get_or t.masks.items c 0) t.numbers.items ≡ map (joined_mask masks x) ps) r made.told) in
+        (subst (λ ps. map (λ c. get_or t.masks.items c 0) t.numbers.items ≡ map (joined_mask masks x) ps) r made.labels) in
         subst (λ (i : ℕ). Holds p i t) (high_or (mask - 2 ^ x) x free ∙ parent_back mask x low) more
 
     pub path_more : (e : Numbered) → size < length tables → HoldPath p mask (set (set tables size e) size t)

@@ -5,29 +5,29 @@ ghost use Rattle.order_model.specs.Orders.{members};
 ghost use Rattle.order_model.specs.Problems.{functions};
 ghost use Rattle.subfunction_classes.specs.Dependence.{AreMasks};
 ghost use Rattle.layer_core.specs.Pairing.{pair_of};
-ghost use Rattle.layer_core.specs.Settings.{cell_for};
+ghost use Rattle.layer_core.specs.Instances.{cell_for};
 ghost use Rattle.small_search.specs.FirstCells.{AreFirstCells};
 
 use order_model::{Mask, contains};
-use solutions::Setting;
+use solutions::Instance;
 use subfunction_classes::count_with;
 use subset_layers::{Cell, cell_from};
 
 /// The cell of a set, from those of all smaller masks and the masks of the set's classes: one
 /// numbering gives the widths of all its members.
-pub(crate) fn cell_of_set(setting: &Setting<'_>, cells: &[Cell], masks: &[u16], set: Mask) -> Cell
+pub(crate) fn cell_of_set(instance: &Instance<'_>, cells: &[Cell], masks: &[u16], set: Mask) -> Cell
     requires some { 0 < set }
-    requires within { set < 2 ^ setting.now.problem.inputs }
-    requires cells { AreFirstCells setting.now set cells.now }
-    requires masks { AreMasks setting.now.problem.inputs (functions setting.now.problem)
-        (members setting.now.problem.inputs set) masks.now }
+    requires within { set < 2 ^ instance.now.problem.inputs }
+    requires cells { AreFirstCells instance.now set cells.now }
+    requires masks { AreMasks instance.now.problem.inputs (functions instance.now.problem)
+        (members instance.now.problem.inputs set) masks.now }
     requires few { length masks.now ≤ 2 ^ 20 }
-    requires room { setting.now.bound + 1 < 2 ^ 32 }
-    ensures { pair_of result ≡ cell_for setting.now set }
+    requires room { instance.now.bound + 1 < 2 ^ 32 }
+    ensures { pair_of result ≡ cell_for instance.now set }
 {
     let mut below = [0; 16];
     let mut widths = [0; 16];
-    for x in 0..setting.inputs() {
+    for x in 0..instance.inputs() {
         if contains(set, x) {
             below[x as usize] = cells[(set - (1 << x)) as usize].cost;
             widths[x as usize] = count_with(masks, x);
@@ -37,8 +37,8 @@ pub(crate) fn cell_of_set(setting: &Setting<'_>, cells: &[Cell], masks: &[u16], 
         set,
         &below,
         &widths,
-        setting.limit().bound,
-        setting.reserves(),
-        setting.pairs(),
+        instance.limit().bound,
+        instance.bounds_above(),
+        instance.pairs(),
     )
 }

@@ -2,9 +2,9 @@
 
 ghost use Rattle.std.specs.Prelude.{◌≡◌, ◌*◌, ◌+◌, ◌-◌, ◌^◌, ◌<◌, ◌≤◌, ◌↔◌, IfOk, IsTrue, OnOk};
 ghost use Rattle.order_model.specs.Problems.{outputs_of};
-ghost use Rattle.order_model.specs.declared.reserve.Reserve.TheVariants.{Variables};
+ghost use Rattle.order_model.specs.declared.bounds_above.BoundAbove.TheVariants.{Variables};
 ghost use Rattle.layer_core.specs.Pairing.{pair_of};
-ghost use Rattle.layer_core.specs.Settings.{cell_for};
+ghost use Rattle.layer_core.specs.Instances.{cell_for};
 ghost use Rattle.small_search.specs.FirstCells.{AreFirstCells};
 ghost use Rattle.small_search.specs.Paths.{HoldPath};
 ghost use Rattle.solutions.specs.Bounded.{IsBounded};
@@ -13,9 +13,9 @@ ghost use Rattle.solutions.specs.Solutions.{IsOptimumFor, IsSolution};
 
 use crate::cells::cell_of_set;
 use crate::tables::{add_lowest, first_tables};
-use order_model::{Limit, Mask, Pairs, Problem, Reserve};
+use order_model::{Limit, Mask, Pairs, Problem, BoundAbove};
 use pair_chains::{Numbered, PairNumbers};
-use solutions::{AllCells, Optimum, Setting, Solution, optimum_of, solution_of};
+use solutions::{AllCells, Optimum, Instance, Solution, optimum_of, solution_of};
 use std::alloc::{AllocError, Global};
 use subset_layers::Cell;
 
@@ -38,11 +38,11 @@ pub fn is_small(problem: &Problem) -> bool
 }
 
 /// What a search without a bound is for.
-fn setting_of<'a>(problem: &'a Problem, pairs: &'a Pairs) -> Setting<'a>
+fn instance_of<'a>(problem: &'a Problem, pairs: &'a Pairs) -> Instance<'a>
     requires { pairs.now.inputs ≡ problem.now.inputs }
     ensures problem { result.problem ≡ problem.now }
     ensures pairs { result.pairs ≡ pairs.now }
-    ensures reserve { result.reserve ≡ Variables }
+    ensures bound_above { result.bound_above ≡ Variables }
     ensures bounded { IsBounded result }
     ensures room { result.bound + 1 < 2 ^ 32 }
 {
@@ -51,41 +51,41 @@ fn setting_of<'a>(problem: &'a Problem, pairs: &'a Pairs) -> Setting<'a>
     prove!(pairs.inputs() <= 16);
     let limit = Limit {
         bound: NO_BOUND,
-        reserve: Reserve::Variables,
+        bound_above: BoundAbove::Variables,
     };
-    Setting::new(problem, pairs, limit)
+    Instance::new(problem, pairs, limit)
 }
 
 /// The cell of the set after those that have cells; the tables on the way to it follow.
 fn next_cell(
     alloc: Global,
-    setting: &Setting<'_>,
+    instance: &Instance<'_>,
     tables: &mut [Numbered],
     seen: &mut PairNumbers,
     cells: &[Cell],
     set: Mask,
 ) -> Result<Cell, AllocError>
-    requires room { setting.now.bound + 1 < 2 ^ 32 }
+    requires room { instance.now.bound + 1 < 2 ^ 32 }
     requires some { 0 < set }
-    requires within { set < 2 ^ setting.now.problem.inputs }
-    requires path { HoldPath setting.now.problem (set - 1) tables.old }
-    requires cells { AreFirstCells setting.now set cells.now }
-    ensures path { OnOk result (HoldPath setting.now.problem set tables.new) }
-    ensures cell { IfOk result (λ c. pair_of c ≡ cell_for setting.now set) }
+    requires within { set < 2 ^ instance.now.problem.inputs }
+    requires path { HoldPath instance.now.problem (set - 1) tables.old }
+    requires cells { AreFirstCells instance.now set cells.now }
+    ensures path { OnOk result (HoldPath instance.now.problem set tables.new) }
+    ensures cell { IfOk result (λ c. pair_of c ≡ cell_for instance.now set) }
 {
-    add_lowest(alloc, setting.problem(), tables, seen, set)?;
+    add_lowest(alloc, instance.problem(), tables, seen, set)?;
     let table = &tables[set.count_ones() as usize];
-    Ok(cell_of_set(setting, cells, &table.masks, set))
+    Ok(cell_of_set(instance, cells, &table.masks, set))
 }
 
 /// The cells of all sets, each at its set's mask.
-fn all_cells(alloc: Global, setting: &Setting<'_>) -> Result<Vec<Cell>, AllocError>
-    requires { setting.now.bound + 1 < 2 ^ 32 }
-    ensures { IfOk result (λ v. AreFlatCells setting.now v.items) }
+fn all_cells(alloc: Global, instance: &Instance<'_>) -> Result<Vec<Cell>, AllocError>
+    requires { instance.now.bound + 1 < 2 ^ 32 }
+    ensures { IfOk result (λ v. AreFlatCells instance.now v.items) }
 {
-    let mut tables = first_tables(alloc, setting.problem())?;
+    let mut tables = first_tables(alloc, instance.problem())?;
     let mut seen = PairNumbers::new(alloc)?;
-    let sets = 1u32 << setting.inputs();
+    let sets = 1u32 << instance.inputs();
     let mut cells = Vec::with_capacity(alloc, sets as usize)?;
     cells.push(Cell {
         cost: 0,
@@ -93,7 +93,7 @@ fn all_cells(alloc: Global, setting: &Setting<'_>) -> Result<Vec<Cell>, AllocErr
     })?;
     for number in 1..sets {
         let set = number as Mask;
-        let cell = next_cell(alloc, setting, &mut tables, &mut seen, &cells, set)?;
+        let cell = next_cell(alloc, instance, &mut tables, &mut seen, &cells, set)?;
         cells.push(cell)?;
     }
     Ok(cells)
@@ -105,9 +105,9 @@ pub fn find_optimum(alloc: Global, problem: &Problem, pairs: &Pairs) -> Result<O
     requires { pairs.now.inputs ≡ problem.now.inputs }
     ensures { IfOk result (IsOptimumFor problem.now pairs.now.pairs) }
 {
-    let setting = setting_of(problem, pairs);
-    let cells = all_cells(alloc, &setting)?;
-    optimum_of(alloc, &AllCells::of_cells(&setting, cells))
+    let instance = instance_of(problem, pairs);
+    let cells = all_cells(alloc, &instance)?;
+    optimum_of(alloc, &AllCells::of_cells(&instance, cells))
 }
 
 /// The same, with what the order's certificate lists.
@@ -115,7 +115,7 @@ pub fn solve(alloc: Global, problem: &Problem, pairs: &Pairs) -> Result<Solution
     requires { pairs.now.inputs ≡ problem.now.inputs }
     ensures { IfOk result (IsSolution problem.now pairs.now.pairs) }
 {
-    let setting = setting_of(problem, pairs);
-    let cells = all_cells(alloc, &setting)?;
-    solution_of(alloc, &AllCells::of_cells(&setting, cells))
+    let instance = instance_of(problem, pairs);
+    let cells = all_cells(alloc, &instance)?;
+    solution_of(alloc, &AllCells::of_cells(&instance, cells))
 }

@@ -6,7 +6,7 @@ use Rattle.order_model.specs.Orders.{IsOrder, variables, members}
 use Rattle.order_model.specs.Pairs.{Pair, Keeps}
 use Rattle.order_model.specs.Levels.{size_under}
 use Rattle.order_model.specs.Widths.{least}
-use Rattle.order_model.specs.declared.reserve.Reserve.{Reserve}
+use Rattle.order_model.specs.declared.bounds_above.BoundAbove.{BoundAbove}
 use Rattle.order_model.specs.Cells.{is_within, IsReadFrom, AreUnclipped}
 use Rattle.order_model.specs.Diagrams.{IsFirstKeeping}
 use Rattle.order_model.proofs.Bits.Masks.{members_full}
@@ -16,12 +16,12 @@ use Rattle.order_model.proofs.Widths.Cells.{within_parts, within_from, lawful_me
 use Rattle.order_model.proofs.Widths.Clipped.{FirstRead, first_read, full_within, moved, unclipped}
 
 -- a set within a bound is within a larger one
-within_more : (n : ℕ) (F : List Function) (P : List Pair) (r : Reserve) (bound more : ℕ) (S : List ℕ) → bound ≤ more →
+within_more : (n : ℕ) (F : List Function) (P : List Pair) (r : BoundAbove) (bound more : ℕ) (S : List ℕ) → bound ≤ more →
     is_within n F P r bound S ≡ true → is_within n F P r more S ≡ true
 within_more n F P r bound more S le h =
     let parts = within_parts n F P r bound S h in within_from n F P r more S parts.0 (let k = parts.1 in omega (arith, k, le))
 
-module _ (n : ℕ) (F : List Function) (P : List Pair) (r : Reserve) (bound : ℕ) (other : List ℕ) (o : IsOrder n other) (k : Keeps P other)
+module _ (n : ℕ) (F : List Function) (P : List Pair) (r : BoundAbove) (bound : ℕ) (other : List ℕ) (o : IsOrder n other) (k : Keeps P other)
     (le : size_under n F other ≤ bound) (order : List ℕ) (read : IsReadFrom n F P r bound (2 ^ n - 1) order) where
   within : is_within n F P r bound (members n (2 ^ n - 1)) ≡ true
   within = within_more n F P r (size_under n F other) bound (members n (2 ^ n - 1)) le (full_within n F P other o k r other o k)

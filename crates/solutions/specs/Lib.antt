@@ -1,4 +1,4 @@
-pub mod Settings
+pub mod Instances
 pub mod LayerCosts
 pub mod FlatCells
 pub mod Storages

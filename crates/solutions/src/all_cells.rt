@@ -5,7 +5,7 @@ ghost use Rattle.order_model.specs.Cells.{candidates};
 ghost use Rattle.order_model.specs.Orders.{mask_of};
 ghost use Rattle.order_model.specs.Problems.{functions};
 ghost use Rattle.order_model.specs.Widths.{essential_mask};
-ghost use Rattle.layer_core.specs.Settings.{cell_for};
+ghost use Rattle.layer_core.specs.Instances.{cell_for};
 ghost use Rattle.layer_core.specs.Pairing.{pair_of};
 ghost use Rattle.solutions.specs.Needs.{needed};
 ghost use Rattle.solutions.specs.Solutions.{cost_for, cost_for_without};
@@ -13,7 +13,7 @@ ghost use Rattle.solutions.specs.LayerCosts.{AreAllLayers, IsLayerFor};
 ghost use Rattle.solutions.specs.FlatCells.{AreFlatCells};
 
 use crate::needs::asked_members;
-use crate::setting::Setting;
+use crate::instance::Instance;
 use order_model::{Mask, contains};
 use std::marker::Model;
 use subset_layers::{Cell, Costs};
@@ -29,28 +29,28 @@ enum Storage {
 /// bound as its size.
 #[derive(Drop)]
 pub struct AllCells<'a> {
-    setting: &'a Setting<'a>,
+    instance: &'a Instance<'a>,
     storage: Storage,
 }
 
 impl<'a> Model for AllCells<'a> {
-    ghost use Rattle.layer_core.specs.Settings.{Setting};
+    ghost use Rattle.layer_core.specs.Instances.{Instance};
     ghost use Rattle.solutions.specs.Bounded.{HoldsCells};
 
-    ghost Value = { Setting };
+    ghost Value = { Instance };
 
-    ghost view = { λ a. a.setting.now };
+    ghost view = { λ a. a.instance.now };
 
-    ghost invariant = { λ a. HoldsCells a.setting.now a.storage };
+    ghost invariant = { λ a. HoldsCells a.instance.now a.storage };
 }
 
 /// The layer of a size.
-fn layer_of<'c>(setting: &Setting<'_>, layers: &'c [Costs], size: u32) -> &'c Costs
-    requires layers { AreAllLayers setting.now layers.now }
-    requires few { size ≤ setting.now.problem.inputs }
-    ensures { IsLayerFor setting.now size result.now }
+fn layer_of<'c>(instance: &Instance<'_>, layers: &'c [Costs], size: u32) -> &'c Costs
+    requires layers { AreAllLayers instance.now layers.now }
+    requires few { size ≤ instance.now.problem.inputs }
+    ensures { IsLayerFor instance.now size result.now }
 {
-    let _inputs = setting.inputs();
+    let _inputs = instance.inputs();
     &layers[size as usize]
 }
 
@@ -58,25 +58,25 @@ impl<'a> AllCells<'a> {
     ghost use Rattle.solutions.specs.Bounded.{IsBounded};
 
     /// The cells of the layers of all sets.
-    pub fn of_layers(setting: &'a Setting<'a>, layers: Vec<Costs>) -> AllCells<'a>
-        requires bounded { IsBounded setting.now }
-        requires layers { AreAllLayers setting.now layers.items }
-        ensures { result ≡ setting.now }
+    pub fn of_layers(instance: &'a Instance<'a>, layers: Vec<Costs>) -> AllCells<'a>
+        requires bounded { IsBounded instance.now }
+        requires layers { AreAllLayers instance.now layers.items }
+        ensures { result ≡ instance.now }
     {
         AllCells {
-            setting,
+            instance,
             storage: Storage::Layers(layers),
         }
     }
 
     /// The cells of all sets, each at its set's mask.
-    pub fn of_cells(setting: &'a Setting<'a>, cells: Vec<Cell>) -> AllCells<'a>
-        requires bounded { IsBounded setting.now }
-        requires cells { AreFlatCells setting.now cells.items }
-        ensures { result ≡ setting.now }
+    pub fn of_cells(instance: &'a Instance<'a>, cells: Vec<Cell>) -> AllCells<'a>
+        requires bounded { IsBounded instance.now }
+        requires cells { AreFlatCells instance.now cells.items }
+        ensures { result ≡ instance.now }
     {
         AllCells {
-            setting,
+            instance,
             storage: Storage::Flat(cells),
         }
     }
@@ -88,14 +88,14 @@ impl<'a> AllCells<'a> {
         ensures few { result ≤ 16 }
         ensures bounded { IsBounded self.now }
     {
-        self.setting.inputs()
+        self.instance.inputs()
     }
 
     /// The set of the variables on which some function depends.
     pub fn essential(&self) -> Mask
         ensures { result ≡ essential_mask self.now.problem.inputs (functions self.now.problem) }
     {
-        self.setting.essential()
+        self.instance.essential()
     }
 
     /// The cost of a set.
@@ -105,7 +105,7 @@ impl<'a> AllCells<'a> {
     {
         match &self.storage {
             Storage::Layers(layers) => {
-                let layer = layer_of(self.setting, layers, mask.count_ones());
+                let layer = layer_of(self.instance, layers, mask.count_ones());
                 layer.cost_of(mask).unwrap()
             }
             Storage::Flat(cells) => cells[usize::from(mask)].cost,
@@ -120,7 +120,7 @@ impl<'a> AllCells<'a> {
     {
         match &self.storage {
             Storage::Layers(layers) => {
-                let layer = layer_of(self.setting, layers, mask.count_ones());
+                let layer = layer_of(self.instance, layers, mask.count_ones());
                 layer.cell_of(mask).unwrap()
             }
             Storage::Flat(cells) => cells[usize::from(mask)],
@@ -133,7 +133,7 @@ impl<'a> AllCells<'a> {
         ensures { result ≡ mask_of
             (candidates self.now.problem.inputs self.now.bound mask (cost_for_without self.now mask)) }
     {
-        let bound = self.setting.limit().bound;
+        let bound = self.instance.limit().bound;
         let mut found: Mask = 0;
         for x in 0..self.inputs() {
             if contains(mask, x) && self.cost(mask - (1 << x)) <= bound {
@@ -148,9 +148,9 @@ impl<'a> AllCells<'a> {
         requires { mask < 2 ^ self.now.problem.inputs }
         ensures { result ≡ needed self.now mask }
     {
-        if self.setting.pairs().lawful(mask) {
+        if self.instance.pairs().lawful(mask) {
             let known = self.affordable_members(mask);
-            asked_members(self.setting.limit().reserve, mask, known)
+            asked_members(self.instance.limit().bound_above, mask, known)
         } else {
             0
         }

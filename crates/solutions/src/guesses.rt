@@ -2,9 +2,9 @@
 
 ghost use Rattle.std.specs.Prelude.{◌≡◌, ◌≤◌, length};
 
-use crate::setting::Setting;
+use crate::instance::Instance;
 use crate::symmetric::pairs_to_keep;
-use order_model::{Limit, Pairs, Problem, Reserve, Workers};
+use order_model::{Limit, Pairs, Problem, BoundAbove, Workers};
 use std::alloc::{AllocError, Global};
 use subset_layers::{Costs, Layer};
 
@@ -18,9 +18,9 @@ fn first_layers(problem: &Problem, limit: Limit) -> u8 {
     if u64::from(limit.bound) >= entries / ENTRIES_A_NODE {
         return problem.inputs();
     }
-    match limit.reserve {
-        Reserve::Variables => 6,
-        Reserve::Widths => 5,
+    match limit.bound_above {
+        BoundAbove::Variables => 6,
+        BoundAbove::Widths => 5,
     }
 }
 
@@ -35,7 +35,7 @@ pub fn layers_to_prepare(
 ) -> Result<u8, AllocError>
     requires { pairs.now.inputs ≡ problem.now.inputs }
 {
-    let asks_no_pairs = limit.reserve == Reserve::Widths && pairs.count() == 0;
+    let asks_no_pairs = limit.bound_above == BoundAbove::Widths && pairs.count() == 0;
     if asks_no_pairs && pairs_to_keep(alloc, problem, pairs)?.count() > 0 {
         return Ok(0);
     }
@@ -65,23 +65,23 @@ fn mean_cost(costs: &Costs, size: usize) -> u64 {
     }
 }
 
-/// The nodes that are likely to be counted on above a set of such a width, with so many variables
+/// The likely lower bound on the nodes above a set of such a width, with so many variables
 /// outside.
-fn likely_above(setting: &Setting<'_>, outside: usize, width: u64) -> u64 {
-    let asked = match setting.limit.reserve {
-        Reserve::Variables => 0,
-        Reserve::Widths => width.saturating_sub(u64::from(setting.problem.outputs())),
+fn likely_above(instance: &Instance<'_>, outside: usize, width: u64) -> u64 {
+    let asked = match instance.limit.bound_above {
+        BoundAbove::Variables => 0,
+        BoundAbove::Widths => width.saturating_sub(u64::from(instance.problem.outputs())),
     };
     asked.max(outside as u64)
 }
 
 /// The size of the largest sets that are likely to be wanted: costs rise from layer to layer by as
 /// much as they did last, and by no more than a layer's tables have entries.
-fn end_by_costs(setting: &Setting<'_>, done: &[Costs]) -> usize
+fn end_by_costs(instance: &Instance<'_>, done: &[Costs]) -> usize
     requires { 2 ≤ length done.now }
 {
-    let inputs = usize::from(setting.inputs());
-    let outputs = u64::from(setting.problem.outputs());
+    let inputs = usize::from(instance.inputs());
+    let outputs = u64::from(instance.problem.outputs());
     let next = done.len();
     let mut cost = mean_cost(&done[next - 1], next - 1);
     let rise = cost.saturating_sub(mean_cost(&done[next - 2], next - 2));
@@ -89,8 +89,8 @@ fn end_by_costs(setting: &Setting<'_>, done: &[Costs]) -> usize
     for size in next..inputs + 1 {
         let outside = inputs - size;
         let width = rise.min(outputs << (outside + 1));
-        let above = likely_above(setting, outside + 1, width);
-        if cost.saturating_add(above) > u64::from(setting.limit.bound) {
+        let above = likely_above(instance, outside + 1, width);
+        if cost.saturating_add(above) > u64::from(instance.limit.bound) {
             break;
         }
         end = size;
@@ -100,13 +100,13 @@ fn end_by_costs(setting: &Setting<'_>, done: &[Costs]) -> usize
 }
 
 /// The size of the largest sets that are likely to be wanted, by the layers that are done.
-pub fn likely_end(setting: &Setting<'_>, done: &[Costs]) -> u8
+pub fn likely_end(instance: &Instance<'_>, done: &[Costs]) -> u8
     requires { 1 ≤ length done.now }
 {
     if done.len() == 1 {
-        first_layers(setting.problem, setting.limit)
+        first_layers(instance.problem, instance.limit)
     } else {
-        end_by_costs(setting, done).min(16) as u8
+        end_by_costs(instance, done).min(16) as u8
     }
 }
 
@@ -128,11 +128,11 @@ fn count_lawful(pairs: &Pairs, layer: &Layer, most: usize) -> usize
 
 /// As many workers as a layer's lawful sets keep busy, at most one a block, and no more than there
 /// are.
-pub fn busy_workers(setting: &Setting<'_>, layer: &Layer, workers: Workers) -> Workers
+pub fn busy_workers(instance: &Instance<'_>, layer: &Layer, workers: Workers) -> Workers
     ensures { result ≤ workers }
 {
-    let tables = count_lawful(setting.pairs, layer, layer.blocks().min(256));
-    let entries = (usize::from(setting.problem.outputs()) << setting.inputs()) * tables;
+    let tables = count_lawful(instance.pairs, layer, layer.blocks().min(256));
+    let entries = (usize::from(instance.problem.outputs()) << instance.inputs()) * tables;
     let busy = entries / ENTRIES_A_WORKER + 1;
     match Workers::new(busy.min(usize::from(workers.count())) as u8) {
         Some(fewer) => fewer,

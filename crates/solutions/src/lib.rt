@@ -3,7 +3,7 @@
 #![tactic(auto)]
 
 // What a search is for, and which pairs it keeps.
-mod setting;
+mod instance;
 mod symmetric;
 mod symmetric_words;
 
@@ -14,9 +14,9 @@ mod needs;
 
 // What is read off the cells of all sets.
 mod all_cells;
-mod listing;
+mod listed_sets;
 mod optima;
-mod reading;
+mod first_order;
 mod solution;
 
 pub use all_cells::AllCells;
@@ -24,6 +24,6 @@ pub use guesses::{busy_workers, layers_to_prepare, likely_end};
 pub use making::{first_layer, place_cells};
 pub use needs::needs_of_block;
 pub use optima::{optimum_of, solution_of};
-pub use setting::Setting;
+pub use instance::Instance;
 pub use solution::{Optimum, Solution};
 pub use symmetric::pairs_to_keep;

@@ -2,21 +2,21 @@
 
 ghost use Rattle.std.specs.Prelude.{◌≡◌, IfOk, length};
 ghost use Rattle.subset_layers.specs.Layers.{layer_of, masks_of, block_masks};
-ghost use Rattle.layer_core.specs.Settings.{Setting as SettingOf};
+ghost use Rattle.layer_core.specs.Instances.{Instance as InstanceOf};
 ghost use Rattle.solutions.specs.LayerCosts.{AreCells, AreLayersFor};
 ghost use Rattle.solutions.specs.Placed.{AreCellsPlaced, StayPlaced};
 
-use crate::setting::Setting;
+use crate::instance::Instance;
 use std::alloc::{AllocError, Global};
 use subset_layers::{Block, Cell, Costs, Layer};
 
 /// The layer of the empty set.
-pub fn first_layer(alloc: Global, setting: &Setting<'_>) -> Result<Vec<Costs>, AllocError>
+pub fn first_layer(alloc: Global, instance: &Instance<'_>) -> Result<Vec<Costs>, AllocError>
     ensures one { IfOk result (λ v. length v.items ≡ 1) }
-    ensures layers { IfOk result (λ v. AreLayersFor setting.now v.items) }
+    ensures layers { IfOk result (λ v. AreLayersFor instance.now v.items) }
 {
     let mut layers = Vec::new(alloc);
-    layers.push(Costs::start(alloc, setting.inputs())?)?;
+    layers.push(Costs::start(alloc, instance.inputs())?)?;
     Ok(layers)
 }
 
@@ -26,9 +26,9 @@ pub fn place_cells(layer: &Layer, block: &Block, found: &[Cell], cells: &mut [Ce
     requires found { length found.now ≡ length (block_masks block.now) }
     requires cells { length cells.old ≡ length (masks_of layer.now) }
     ensures length { length cells.new ≡ length cells.old }
-    ensures kept { (t : SettingOf) → AreCells t (block_masks block.now) found.now →
+    ensures kept { (t : InstanceOf) → AreCells t (block_masks block.now) found.now →
         StayPlaced t layer.now cells.old cells.new }
-    ensures placed { (t : SettingOf) → AreCells t (block_masks block.now) found.now →
+    ensures placed { (t : InstanceOf) → AreCells t (block_masks block.now) found.now →
         AreCellsPlaced t layer.now block.now cells.new }
 {
     for (i, mask) in block.masks().iter().enumerate() {

@@ -7,21 +7,21 @@ ghost use Rattle.subset_layers.specs.Layers.{layer_of, layer_with, block_masks};
 ghost use Rattle.solutions.specs.LayerCosts.{AreCostsFor};
 ghost use Rattle.solutions.specs.Needs.{IsInNextLayer, affordable, needed};
 
-use crate::setting::Setting;
-use order_model::{Mask, Reserve, contains};
+use crate::instance::Instance;
+use order_model::{Mask, BoundAbove, contains};
 use std::alloc::{AllocError, Global};
 use subset_layers::{Block, Costs};
 
 /// The members of a set whose widths its cell takes, by those without which the cost is within the
-/// bound: these, or all of them if widths are counted on and there is any such.
-pub(crate) fn asked_members(reserve: Reserve, mask: Mask, known: Mask) -> Mask
+/// bound: these, or all of them if the bound is by widths and there is any such.
+pub(crate) fn asked_members(bound_above: BoundAbove, mask: Mask, known: Mask) -> Mask
     ensures { (n bound : ℕ) (costs : ℕ → ℕ) →
         known ≡ mask_of (candidates n bound mask costs) → mask < 2 ^ n →
-        result ≡ mask_of (asked n reserve bound mask costs) }
+        result ≡ mask_of (asked n bound_above bound mask costs) }
 {
-    match reserve {
-        Reserve::Variables => known,
-        Reserve::Widths => { if known == 0 { 0 } else { mask } }
+    match bound_above {
+        BoundAbove::Variables => known,
+        BoundAbove::Widths => { if known == 0 { 0 } else { mask } }
     }
 }
 
@@ -43,15 +43,15 @@ fn affordable_members(mask: Mask, costs: &Costs, bound: u32) -> Mask
 }
 
 /// The members of a set whose widths its cell takes, by the costs of the layer before.
-fn needed_members(setting: &Setting<'_>, before: &Costs, mask: Mask) -> Mask
+fn needed_members(instance: &Instance<'_>, before: &Costs, mask: Mask) -> Mask
     requires next { IsInNextLayer before.now mask }
-    requires inputs { before.now.inputs ≡ setting.now.problem.inputs }
-    requires costs { AreCostsFor setting.now before.now }
-    ensures { result ≡ needed setting.now mask }
+    requires inputs { before.now.inputs ≡ instance.now.problem.inputs }
+    requires costs { AreCostsFor instance.now before.now }
+    ensures { result ≡ needed instance.now mask }
 {
-    if setting.pairs.lawful(mask) {
-        let known = affordable_members(mask, before, setting.limit.bound);
-        asked_members(setting.limit.reserve, mask, known)
+    if instance.pairs.lawful(mask) {
+        let known = affordable_members(mask, before, instance.limit.bound);
+        asked_members(instance.limit.bound_above, mask, known)
     } else {
         0
     }
@@ -60,18 +60,18 @@ fn needed_members(setting: &Setting<'_>, before: &Costs, mask: Mask) -> Mask
 /// The same for each set of a block of the next layer.
 pub fn needs_of_block(
     alloc: Global,
-    setting: &Setting<'_>,
+    instance: &Instance<'_>,
     before: &Costs,
     block: &Block,
 ) -> Result<Vec<Mask>, AllocError>
     requires next { layer_of block.now ≡ layer_with before.now.inputs (before.now.size + 1) }
-    requires inputs { before.now.inputs ≡ setting.now.problem.inputs }
-    requires costs { AreCostsFor setting.now before.now }
-    ensures { IfOk result (λ v. v.items ≡ map (needed setting.now) (block_masks block.now)) }
+    requires inputs { before.now.inputs ≡ instance.now.problem.inputs }
+    requires costs { AreCostsFor instance.now before.now }
+    ensures { IfOk result (λ v. v.items ≡ map (needed instance.now) (block_masks block.now)) }
 {
     let mut needs = Vec::with_capacity(alloc, block.len())?;
     for mask in block.masks() {
-        needs.push(needed_members(setting, before, *mask))?;
+        needs.push(needed_members(instance, before, *mask))?;
     }
     Ok(needs)
 }

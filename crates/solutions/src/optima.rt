@@ -1,12 +1,12 @@
 //! The first order of the fewest nodes, and what its certificate lists.
 
 ghost use Rattle.std.specs.Prelude.{◌≡◌, ◌≤◌, IfOk};
-ghost use Rattle.order_model.specs.declared.reserve.Reserve.TheVariants.{Variables};
+ghost use Rattle.order_model.specs.declared.bounds_above.BoundAbove.TheVariants.{Variables};
 ghost use Rattle.solutions.specs.Solutions.{IsOptimumFor, IsSolution, widths_for_all};
 
 use crate::all_cells::AllCells;
-use crate::listing::{count_widths, listed_cells};
-use crate::reading::{all_variables, level_counts, read_order};
+use crate::listed_sets::{count_widths, listed_cells};
+use crate::first_order::{all_variables, level_counts, read_order};
 use crate::solution::{Optimum, Solution};
 use std::alloc::{AllocError, Global};
 
@@ -29,7 +29,7 @@ pub fn optimum_of(alloc: Global, cells: &AllCells<'_>) -> Result<Optimum, AllocE
 /// The same, with what its certificate lists. For that the cells count on one node above a set for
 /// each essential variable outside, and no more.
 pub fn solution_of(alloc: Global, cells: &AllCells<'_>) -> Result<Solution, AllocError>
-    requires { cells.now.reserve ≡ Variables }
+    requires { cells.now.bound_above ≡ Variables }
     ensures solution { IfOk result (IsSolution cells.now.problem cells.now.pairs.pairs) }
     ensures widths { IfOk result (λ s. s.widths ≡ widths_for_all cells.now) }
 {

@@ -7,25 +7,25 @@ use Rattle.order_model.specs.Orders.{members, without}
 use Rattle.order_model.specs.Pairs.{are_lawful, is_lawful}
 use Rattle.order_model.specs.Levels.{subfunctions, reach, dependents}
 use Rattle.order_model.specs.Widths.{outside, width, cost, arrangements, least_of, least, essential, essentials_outside}
-use Rattle.order_model.specs.Reserves.{reserved}
+use Rattle.order_model.specs.BoundsAbove.{nodes_above}
 use Rattle.order_model.specs.Cells.{is_within, best_top, cell_of}
 use Rattle.order_model.specs.Problems.{IsPacked, table_in, tables_of}
 use Rattle.solver_tests.specs.Examples.{parity}
-use Rattle.layer_core.specs.Settings.{cell_for}
+use Rattle.layer_core.specs.Instances.{cell_for}
 
 pub cell_3 : (4, 0) ≡ cell_for parity 3
 unfolding table_in tables_of from_table number points restrict table depends subfunctions reach dependents outside width cost without
-    arrangements are_lawful is_lawful least_of least members essential essentials_outside reserved is_within best_top cell_of
+    arrangements are_lawful is_lawful least_of least members essential essentials_outside nodes_above is_within best_top cell_of
 cell_3 = refl
 
 pub cell_5 : (4, 0) ≡ cell_for parity 5
 unfolding table_in tables_of from_table number points restrict table depends subfunctions reach dependents outside width cost without
-    arrangements are_lawful is_lawful least_of least members essential essentials_outside reserved is_within best_top cell_of
+    arrangements are_lawful is_lawful least_of least members essential essentials_outside nodes_above is_within best_top cell_of
 cell_5 = refl
 
 pub cell_7 : (6, 0) ≡ cell_for parity 7
 unfolding table_in tables_of from_table number points restrict table depends subfunctions reach dependents outside width cost without
-    arrangements are_lawful is_lawful least_of least members essential essentials_outside reserved is_within best_top cell_of
+    arrangements are_lawful is_lawful least_of least members essential essentials_outside nodes_above is_within best_top cell_of
 cell_7 = refl
 
 -- the word of its truth table

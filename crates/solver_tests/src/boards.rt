@@ -1,14 +1,14 @@
 //! The board of a layer, and its machine.
 
 ghost use Rattle.std.specs.Prelude.{◌≡◌, ◌<◌, ◌≤◌, All, length, [], ◌∷◌};
-ghost use Rattle.layer_core.specs.Settings.{cell_for, setting_of};
-ghost use Rattle.order_model.specs.declared.reserve.Reserve.TheVariants.{Variables};
+ghost use Rattle.layer_core.specs.Instances.{cell_for, instance_of};
+ghost use Rattle.order_model.specs.declared.bounds_above.BoundAbove.TheVariants.{Variables};
 ghost use Rattle.layer_board.specs.Views.{first_seat};
 ghost use Rattle.solver_tests.specs.Examples.{parity};
 
 use layer_board::{Board, BoardSeat, Claim, CloseError, PostRefused};
 use layer_core::{CellResult, Core, Event, Reply};
-use order_model::{Limit, Mask, Pairs, Problem, Reserve, Workers};
+use order_model::{Limit, Mask, Pairs, Problem, BoundAbove, Workers};
 use std::alloc::Global;
 use std::process::Abort;
 use std::thread;
@@ -32,13 +32,13 @@ fn words(rt: &impl Abort, alloc: Global, word: u64) -> Vec<u64>
     words
 }
 
-/// A bound, with one node counted on for each essential variable outside a set.
+/// A bound, with one node counted for each essential variable outside a set.
 fn limit(bound: u32) -> Limit
-    ensures { result ≡ record { bound = bound; reserve = Variables } }
+    ensures { result ≡ record { bound = bound; bound_above = Variables } }
 {
     Limit {
         bound,
-        reserve: Reserve::Variables,
+        bound_above: BoundAbove::Variables,
     }
 }
 
@@ -47,8 +47,8 @@ fn parity_cell(problem: &Problem, mask: Mask, cost: u32, pairs: &Pairs) -> CellR
     requires problem { problem.now ≡ parity.problem }
     requires pairs { pairs.now.pairs ≡ [] }
     requires cell { (cost, 0) ≡ cell_for parity mask }
-    ensures setting { result.setting ≡ record
-        { problem = problem.now; pairs = pairs.now; reserve = Variables; bound = 7 } }
+    ensures instance { result.instance ≡ record
+        { problem = problem.now; pairs = pairs.now; bound_above = Variables; bound = 7 } }
     ensures mask { result.mask ≡ mask }
 {
     CellResult::new(problem, limit(7), mask, Cell { cost, variable: 0 }, pairs)
@@ -73,7 +73,7 @@ pub(crate) fn lone_board(
     layer: &Layer,
 ) -> (Board, BoardSeat)
     requires { layer.now.inputs ≡ problem.now.inputs }
-    ensures setting { result.0.brief.setting ≡ setting_of problem.now pairs.now limit }
+    ensures instance { result.0.brief.instance ≡ instance_of problem.now pairs.now limit }
     ensures layer { result.0.brief.layer ≡ layer.now }
     ensures seat { result.1.board ≡ result.0 }
 {
@@ -92,8 +92,8 @@ fn board_of_twos(
     pairs: &Pairs,
     bound: u32,
 ) -> (Board, BoardSeat)
-    ensures setting { result.0.brief.setting ≡ setting_of problem.now pairs.now (record
-        { bound = bound; reserve = Variables }) }
+    ensures instance { result.0.brief.instance ≡ instance_of problem.now pairs.now (record
+        { bound = bound; bound_above = Variables }) }
     ensures seat { result.1.board ≡ result.0 }
 {
     let layer = Layer::of(alloc, problem.inputs(), 2).expect(rt, "memory");
@@ -138,7 +138,7 @@ fn has_no_more(board: &Board, seat: &mut BoardSeat) -> bool
 /// Whether a seat cannot post a cell, since it did not claim its mask.
 pub(crate) fn is_stranger(board: &Board, seat: &mut BoardSeat, cell: CellResult) -> bool
     requires seat { seat.old.board ≡ board.now }
-    requires setting { cell.setting ≡ board.now.brief.setting }
+    requires instance { cell.instance ≡ board.now.brief.instance }
     ensures { seat.new.board ≡ board.now }
 {
     board.post(seat, cell) == Err(PostRefused::Stranger)
@@ -156,8 +156,8 @@ fn post_and_read(
     requires board { seat.old.board ≡ board.now }
     requires problem { problem.now ≡ parity.problem }
     requires pairs { pairs.now.pairs ≡ [] }
-    requires setting { board.now.brief.setting ≡ record
-        { problem = problem.now; pairs = pairs.now; reserve = Variables; bound = 7 } }
+    requires instance { board.now.brief.instance ≡ record
+        { problem = problem.now; pairs = pairs.now; bound_above = Variables; bound = 7 } }
     ensures { seat.new.board ≡ board.now }
 {
     // The second block is not this seat's, and the mask 0007 is not in the layer.
@@ -198,8 +198,8 @@ fn claim_and_post(
     requires board { seat.old.board ≡ board.now }
     requires problem { problem.now ≡ parity.problem }
     requires pairs { pairs.now.pairs ≡ [] }
-    requires setting { board.now.brief.setting ≡ record
-        { problem = problem.now; pairs = pairs.now; reserve = Variables; bound = 7 } }
+    requires instance { board.now.brief.instance ≡ record
+        { problem = problem.now; pairs = pairs.now; bound_above = Variables; bound = 7 } }
     ensures { seat.new.board ≡ board.now }
 {
     claim_blocks(rt, board, seat, &[(0, 1, 3)]);
@@ -209,7 +209,7 @@ fn claim_and_post(
 }
 
 #[test]
-fn board_of_the_second_layer(rt: HostRuntime) {
+fn a_board_says_which_set_is_missing(rt: HostRuntime) {
     let problem = parity_problem(&rt, rt.alloc());
     let pairs = Pairs::none(4);
     let (board, mut seat) = board_of_twos(&rt, rt.alloc(), &problem, &pairs, 7);
@@ -283,7 +283,7 @@ fn claim_by_two(rt: &impl Abort, core: &mut Core)
 }
 
 #[test]
-fn events_of_two_workers(rt: HostRuntime) {
+fn the_machine_answers_two_workers(rt: HostRuntime) {
     let problem = parity_problem(&rt, rt.alloc());
     let mut core = core_of_two(&rt, rt.alloc());
     post_by_two(&rt, &mut core, &problem, &Pairs::none(4));
@@ -323,7 +323,7 @@ fn claim_all(rt: &impl Abort, board: &Board, seat: &mut BoardSeat)
 }
 
 #[test]
-fn blocks_of_the_sets_of_two(rt: HostRuntime) {
+fn blocks_are_claimed_in_their_order(rt: HostRuntime) {
     let problem = Problem::new(rt.alloc(), 10, 1).expect(&rt, "memory");
     let (board, mut seat) = board_of_twos(&rt, rt.alloc(), &problem, &Pairs::none(10), 9);
     claim_all(&rt, &board, &mut seat);

@@ -3,7 +3,7 @@
 ghost use Rattle.std.specs.Prelude.{◌≡◌};
 
 use counted_io::Counting;
-use order_model::{Gate, Limit, NoGate, Order, Pairs, Reserve, VarIx, Workers};
+use order_model::{Gate, Limit, NoGate, Order, Pairs, BoundAbove, VarIx, Workers};
 use order_solve::{Optimum, Solution, find_optimum_alone, prepare, solve, solve_alone};
 use pla_reader::read_cover;
 use sifting::laws::diagrams_have_their_problems_tables;
@@ -60,7 +60,7 @@ fn solution_of<R: Abort + Threads + Sync, G: Gate>(
     let workers = Workers::new(2).expect(rt, "two workers");
     let limit = Limit {
         bound: 16,
-        reserve: Reserve::Variables,
+        bound_above: BoundAbove::Variables,
     };
     let problem = tables.problem();
     let pairs = Pairs::none(problem.inputs());
@@ -80,7 +80,7 @@ fn solved<R: Abort + Threads + Sync, G: Gate>(
 }
 
 #[test]
-fn widths_that_are_taken(rt: HostRuntime) {
+fn widths_that_are_taken_are_counted(rt: HostRuntime) {
     assert!(rt; solved(&rt, rt.alloc(), PARITY, &NoGate).widths == 12);
     assert!(rt; solved(&rt, rt.alloc(), MULTIPLEXER, &NoGate).widths == 8);
 }
@@ -120,7 +120,7 @@ fn finds_words_small(rt: &impl Abort, alloc: Global, tables: &Tables) -> bool {
 }
 
 #[test]
-fn solves_words_alone(rt: HostRuntime) {
+fn one_thread_solves_packed_words(rt: HostRuntime) {
     let tables = Tables::of_words(rt.alloc(), 3, 1, &[0xff96]).expect(&rt, "memory");
     assert!(rt; finds_words_small(&rt, rt.alloc(), &tables));
     assert!(rt; solves_words(&rt, rt.alloc(), &tables));
@@ -200,7 +200,7 @@ fn is_of_ones(found: &Solution) -> bool {
 }
 
 #[test]
-fn two_workers_meet(rt: HostRuntime) {
+fn two_workers_meet_and_do_each_set_once(rt: HostRuntime) {
     let gate = open_gate(&rt, rt.alloc());
     let found = solved(&rt, rt.alloc(), ALL_ONES, &gate);
     assert!(rt; is_of_ones(&found) && saw_each(&gate, 65_535));

@@ -89,7 +89,7 @@ fn stepped(rt: &impl Abort, alloc: Global, manager: Manager, step: &Step) -> Man
 }
 
 #[test]
-fn each_step_of_the_interleaved_products(rt: HostRuntime) {
+fn each_step_puts_a_variable_at_its_best_place(rt: HostRuntime) {
     let mut manager = managed(&rt, rt.alloc(), INTERLEAVED);
     assert!(rt; manager.size() == 14);
     for step in &STEPS {
@@ -98,7 +98,7 @@ fn each_step_of_the_interleaved_products(rt: HostRuntime) {
 }
 
 #[test]
-fn tightens_the_sum(rt: HostRuntime) {
+fn sifting_on_tightens_the_bound_of_the_sum(rt: HostRuntime) {
     let sifted = managed(&rt, rt.alloc(), SUM)
         .sift(rt.alloc())
         .expect(&rt, "memory");

@@ -3,15 +3,15 @@
 ghost use Rattle.std.specs.Prelude.{◌≡◌, ◌+◌, All, map};
 ghost use Rattle.subset_layers.specs.Layers.{masks_of, layer_with};
 ghost use Rattle.layer_core.specs.Pairing.{pair_of};
-ghost use Rattle.layer_core.specs.Settings.{cell_for};
+ghost use Rattle.layer_core.specs.Instances.{cell_for};
 ghost use Rattle.solutions.specs.LayerCosts.{IsLayerFor};
 ghost use Rattle.order_solve.specs.LayerContexts.{IsContext, context_with};
 
 use crate::boards::{error_of_closing, is_stranger, lone_board};
 use crate::searches::tables_of;
 use layer_board::{Board, BoardSeat, CloseError, PostRefused};
-use order_model::{Limit, Mask, NoGate, Pairs, Reserve, Workers};
-use order_solve::{LayerContext, Setting, work_layer};
+use order_model::{Limit, Mask, NoGate, Pairs, BoundAbove, Workers};
+use order_solve::{LayerContext, Instance, work_layer};
 use std::alloc::Global;
 use std::process::Abort;
 use std::thread;
@@ -31,7 +31,7 @@ fn worked(
     context: &LayerContext<'_>,
 ) -> (BoardSeat, u64)
     requires seat { seat.board ≡ board.now }
-    requires setting { board.now.brief.setting ≡ context.now.setting }
+    requires instance { board.now.brief.instance ≡ context.now.instance }
     requires layer { board.now.brief.layer ≡ context.now.layer }
     ensures { result.0.board ≡ board.now }
 {
@@ -44,42 +44,42 @@ fn worked(
 fn cells_by_one(
     rt: &impl Abort,
     alloc: Global,
-    setting: &Setting<'_>,
+    instance: &Instance<'_>,
     layer: &Layer,
     before: &Costs,
 ) -> Vec<Cell>
-    requires { IsContext (context_with setting.now layer.now before.now) }
-    ensures { map pair_of result.items ≡ map (cell_for setting.now) (masks_of layer.now) }
+    requires { IsContext (context_with instance.now layer.now before.now) }
+    ensures { map pair_of result.items ≡ map (cell_for instance.now) (masks_of layer.now) }
 {
-    let context = LayerContext::new(setting, layer, before);
-    let limit = setting.limit();
-    let (board, seat) = lone_board(rt, alloc, setting.problem(), setting.pairs(), limit, layer);
+    let context = LayerContext::new(instance, layer, before);
+    let limit = instance.limit();
+    let (board, seat) = lone_board(rt, alloc, instance.problem(), instance.pairs(), limit, layer);
     let (seat, _) = worked(rt, alloc, &board, seat, 1, &context);
     board.close(alloc, seat).ok().expect(rt, "all cells")
 }
 
 /// The cells of the sets of one variable.
-fn first_cells(rt: &impl Abort, alloc: Global, setting: &Setting<'_>, layer: &Layer) -> Vec<Cell>
-    requires { layer.now ≡ layer_with setting.now.problem.inputs 1 }
-    ensures { map pair_of result.items ≡ map (cell_for setting.now) (masks_of layer.now) }
+fn first_cells(rt: &impl Abort, alloc: Global, instance: &Instance<'_>, layer: &Layer) -> Vec<Cell>
+    requires { layer.now ≡ layer_with instance.now.problem.inputs 1 }
+    ensures { map pair_of result.items ≡ map (cell_for instance.now) (masks_of layer.now) }
 {
-    let start = Costs::start(alloc, setting.inputs()).expect(rt, "memory");
-    cells_by_one(rt, alloc, setting, layer, &start)
+    let start = Costs::start(alloc, instance.inputs()).expect(rt, "memory");
+    cells_by_one(rt, alloc, instance, layer, &start)
 }
 
 /// The costs of the sets of one variable.
-fn first_costs(rt: &impl Abort, alloc: Global, setting: &Setting<'_>) -> Costs
-    ensures { IsLayerFor setting.now 1 result }
+fn first_costs(rt: &impl Abort, alloc: Global, instance: &Instance<'_>) -> Costs
+    ensures { IsLayerFor instance.now 1 result }
 {
-    let layer = Layer::of(alloc, setting.inputs(), 1).expect(rt, "memory");
-    let cells = first_cells(rt, alloc, setting, &layer);
+    let layer = Layer::of(alloc, instance.inputs(), 1).expect(rt, "memory");
+    let cells = first_cells(rt, alloc, instance, &layer);
     Costs::of(layer, cells)
 }
 
 /// A layer's first set, and its cell.
-fn first_of(rt: &impl Abort, setting: &Setting<'_>, layer: &Layer, cells: &[Cell]) -> (Mask, Cell)
-    requires { map pair_of cells.now ≡ map (cell_for setting.now) (masks_of layer.now) }
-    ensures { pair_of result.1 ≡ cell_for setting.now result.0 }
+fn first_of(rt: &impl Abort, instance: &Instance<'_>, layer: &Layer, cells: &[Cell]) -> (Mask, Cell)
+    requires { map pair_of cells.now ≡ map (cell_for instance.now) (masks_of layer.now) }
+    ensures { pair_of result.1 ≡ cell_for instance.now result.0 }
 {
     assert!(rt; layer.len() > 0 && !cells.is_empty());
     (layer.mask_at(0), cells[0])
@@ -89,32 +89,32 @@ fn first_of(rt: &impl Abort, setting: &Setting<'_>, layer: &Layer, cells: &[Cell
 fn first_cell(
     rt: &impl Abort,
     alloc: Global,
-    setting: &Setting<'_>,
+    instance: &Instance<'_>,
     layer: &Layer,
     before: &Costs,
 ) -> (Mask, Cell)
-    requires { IsContext (context_with setting.now layer.now before.now) }
-    ensures { pair_of result.1 ≡ cell_for setting.now result.0 }
+    requires { IsContext (context_with instance.now layer.now before.now) }
+    ensures { pair_of result.1 ≡ cell_for instance.now result.0 }
 {
-    let cells = cells_by_one(rt, alloc, setting, layer, before);
-    first_of(rt, setting, layer, &cells)
+    let cells = cells_by_one(rt, alloc, instance, layer, before);
+    first_of(rt, instance, layer, &cells)
 }
 
 /// A board of a layer, and the seats of two workers.
 fn board_of_two(
     rt: &impl Abort,
     alloc: Global,
-    setting: &Setting<'_>,
+    instance: &Instance<'_>,
     layer: &Layer,
 ) -> (Board, Vec<BoardSeat>)
-    requires { layer.now.inputs ≡ setting.now.problem.inputs }
-    ensures setting { result.0.brief.setting ≡ setting.now }
+    requires { layer.now.inputs ≡ instance.now.problem.inputs }
+    ensures instance { result.0.brief.instance ≡ instance.now }
     ensures layer { result.0.brief.layer ≡ layer.now }
     ensures seats { All (λ s. s.board ≡ result.0) result.1.items }
 {
     let two = Workers::new(2).expect(rt, "two workers");
-    let limit = setting.limit();
-    let made = Board::new(alloc, setting.problem(), limit, layer, two, setting.pairs());
+    let limit = instance.limit();
+    let made = Board::new(alloc, instance.problem(), limit, layer, two, instance.pairs());
     made.expect(rt, "memory")
 }
 
@@ -151,23 +151,23 @@ fn work_beside_claim(
     alloc: Global,
     board: &Board,
     seats: Vec<BoardSeat>,
-    setting: &Setting<'_>,
+    instance: &Instance<'_>,
     context: &LayerContext<'_>,
     mask: Mask,
     cell: Cell,
 ) -> BoardSeat
     requires seats { All (λ s. s.board ≡ board.now) seats.items }
-    requires setting { board.now.brief.setting ≡ setting.now }
-    requires context { context.now.setting ≡ setting.now }
+    requires instance { board.now.brief.instance ≡ instance.now }
+    requires context { context.now.instance ≡ instance.now }
     requires layer { board.now.brief.layer ≡ context.now.layer }
-    requires cell { pair_of cell ≡ cell_for setting.now mask }
+    requires cell { pair_of cell ≡ cell_for instance.now mask }
     ensures { result.board ≡ board.now }
 {
     let (_owner, worker) = seats_with_claim(rt, board, seats);
     let (mut seat, widths) = worked(rt, alloc, board, worker, 2, context);
     // Two widths for each of five sets.
     assert!(rt; widths == 10);
-    assert!(rt; is_stranger(board, &mut seat, setting.result(mask, cell)));
+    assert!(rt; is_stranger(board, &mut seat, instance.result(mask, cell)));
     seat
 }
 
@@ -175,16 +175,16 @@ fn work_beside_claim(
 fn posts_once(
     board: &Board,
     mut seat: BoardSeat,
-    setting: &Setting<'_>,
+    instance: &Instance<'_>,
     mask: Mask,
     cell: Cell,
 ) -> bool
     requires seat { seat.board ≡ board.now }
-    requires setting { board.now.brief.setting ≡ setting.now }
-    requires cell { pair_of cell ≡ cell_for setting.now mask }
+    requires instance { board.now.brief.instance ≡ instance.now }
+    requires cell { pair_of cell ≡ cell_for instance.now mask }
 {
-    let first = board.post(&mut seat, setting.result(mask, cell));
-    let second = board.post(&mut seat, setting.result(mask, cell));
+    let first = board.post(&mut seat, instance.result(mask, cell));
+    let second = board.post(&mut seat, instance.result(mask, cell));
     first == Ok(()) && second == Err(PostRefused::Double)
 }
 
@@ -193,20 +193,20 @@ fn posts_once_apart<R: Threads + Sync>(
     rt: &R,
     board: &Board,
     seat: BoardSeat,
-    setting: &Setting<'_>,
+    instance: &Instance<'_>,
     mask: Mask,
     cell: Cell,
 ) -> bool
     requires seat { seat.board ≡ board.now }
-    requires setting { board.now.brief.setting ≡ setting.now }
-    requires cell { pair_of cell ≡ cell_for setting.now mask }
+    requires instance { board.now.brief.instance ≡ instance.now }
+    requires cell { pair_of cell ≡ cell_for instance.now mask }
 {
     let (posted, ()) = thread::join(
         rt,
         move || -> bool
-            requires { (seat.board ≡ board.now) × (board.now.brief.setting ≡ setting.now)
-                × (pair_of cell ≡ cell_for setting.now mask) }
-        { posts_once(board, seat, setting, mask, cell) },
+            requires { (seat.board ≡ board.now) × (board.now.brief.instance ≡ instance.now)
+                × (pair_of cell ≡ cell_for instance.now mask) }
+        { posts_once(board, seat, instance, mask, cell) },
         || (),
     );
     posted
@@ -218,21 +218,21 @@ fn post_after_work<R: Abort + Threads + Sync>(
     alloc: Global,
     board: &Board,
     seats: Vec<BoardSeat>,
-    setting: &Setting<'_>,
+    instance: &Instance<'_>,
     context: &LayerContext<'_>,
     mask: Mask,
     cell: Cell,
 ) -> BoardSeat
     requires seats { All (λ s. s.board ≡ board.now) seats.items }
-    requires setting { board.now.brief.setting ≡ setting.now }
-    requires context { context.now.setting ≡ setting.now }
+    requires instance { board.now.brief.instance ≡ instance.now }
+    requires context { context.now.instance ≡ instance.now }
     requires layer { board.now.brief.layer ≡ context.now.layer }
-    requires cell { pair_of cell ≡ cell_for setting.now mask }
+    requires cell { pair_of cell ≡ cell_for instance.now mask }
     ensures { result.board ≡ board.now }
 {
     let (owner, worker) = seats_with_claim(rt, board, seats);
     let (seat, _) = worked(rt, alloc, board, worker, 2, context);
-    assert!(rt; posts_once_apart(rt, board, owner, setting, mask, cell));
+    assert!(rt; posts_once_apart(rt, board, owner, instance, mask, cell));
     seat
 }
 
@@ -255,19 +255,19 @@ fn are_six_fours(cells: &[Cell]) -> bool {
 fn hold_and_leave(
     rt: &impl Abort,
     alloc: Global,
-    setting: &Setting<'_>,
+    instance: &Instance<'_>,
     layer: &Layer,
     context: &LayerContext<'_>,
     mask: Mask,
     cell: Cell,
 )
-    requires context { context.now.setting ≡ setting.now }
+    requires context { context.now.instance ≡ instance.now }
     requires layer { context.now.layer ≡ layer.now }
-    requires inputs { layer.now.inputs ≡ setting.now.problem.inputs }
-    requires cell { pair_of cell ≡ cell_for setting.now mask }
+    requires inputs { layer.now.inputs ≡ instance.now.problem.inputs }
+    requires cell { pair_of cell ≡ cell_for instance.now mask }
 {
-    let (board, seats) = board_of_two(rt, alloc, setting, layer);
-    let seat = work_beside_claim(rt, alloc, &board, seats, setting, context, mask, cell);
+    let (board, seats) = board_of_two(rt, alloc, instance, layer);
+    let seat = work_beside_claim(rt, alloc, &board, seats, instance, context, mask, cell);
     assert!(rt; error_of_closing(alloc, board, seat) == Some(CloseError::Missing(3)));
 }
 
@@ -275,19 +275,19 @@ fn hold_and_leave(
 fn hold_and_post<R: Abort + Threads + Sync>(
     rt: &R,
     alloc: Global,
-    setting: &Setting<'_>,
+    instance: &Instance<'_>,
     layer: &Layer,
     context: &LayerContext<'_>,
     mask: Mask,
     cell: Cell,
 )
-    requires context { context.now.setting ≡ setting.now }
+    requires context { context.now.instance ≡ instance.now }
     requires layer { context.now.layer ≡ layer.now }
-    requires inputs { layer.now.inputs ≡ setting.now.problem.inputs }
-    requires cell { pair_of cell ≡ cell_for setting.now mask }
+    requires inputs { layer.now.inputs ≡ instance.now.problem.inputs }
+    requires cell { pair_of cell ≡ cell_for instance.now mask }
 {
-    let (board, seats) = board_of_two(rt, alloc, setting, layer);
-    let seat = post_after_work(rt, alloc, &board, seats, setting, context, mask, cell);
+    let (board, seats) = board_of_two(rt, alloc, instance, layer);
+    let seat = post_after_work(rt, alloc, &board, seats, instance, context, mask, cell);
     assert!(rt; closes_with_fours(alloc, board, seat));
 }
 
@@ -295,23 +295,23 @@ fn hold_and_post<R: Abort + Threads + Sync>(
 fn hold_claims<R: Abort + Threads + Sync>(
     rt: &R,
     alloc: Global,
-    setting: &Setting<'_>,
+    instance: &Instance<'_>,
     layer: &Layer,
     before: &Costs,
 )
-    requires { IsContext (context_with setting.now layer.now before.now) }
+    requires { IsContext (context_with instance.now layer.now before.now) }
 {
-    let (mask, cell) = first_cell(rt, alloc, setting, layer, before);
-    let context = LayerContext::new(setting, layer, before);
-    hold_and_leave(rt, alloc, setting, layer, &context, mask, cell);
-    hold_and_post(rt, alloc, setting, layer, &context, mask, cell);
+    let (mask, cell) = first_cell(rt, alloc, instance, layer, before);
+    let context = LayerContext::new(instance, layer, before);
+    hold_and_leave(rt, alloc, instance, layer, &context, mask, cell);
+    hold_and_post(rt, alloc, instance, layer, &context, mask, cell);
 }
 
 /// The same in the layer of the sets of two variables.
-fn hold_in_second_layer<R: Abort + Threads + Sync>(rt: &R, alloc: Global, setting: &Setting<'_>) {
-    let before = first_costs(rt, alloc, setting);
-    let layer = Layer::of(alloc, setting.inputs(), 2).expect(rt, "memory");
-    hold_claims(rt, alloc, setting, &layer, &before);
+fn hold_in_second_layer<R: Abort + Threads + Sync>(rt: &R, alloc: Global, instance: &Instance<'_>) {
+    let before = first_costs(rt, alloc, instance);
+    let layer = Layer::of(alloc, instance.inputs(), 2).expect(rt, "memory");
+    hold_claims(rt, alloc, instance, &layer, &before);
 }
 
 #[test]
@@ -321,7 +321,7 @@ fn a_held_claim_is_missing_or_posted(rt: HostRuntime) {
     let pairs = Pairs::none(problem.inputs());
     let limit = Limit {
         bound: 7,
-        reserve: Reserve::Variables,
+        bound_above: BoundAbove::Variables,
     };
-    hold_in_second_layer(&rt, rt.alloc(), &Setting::new(problem, &pairs, limit));
+    hold_in_second_layer(&rt, rt.alloc(), &Instance::new(problem, &pairs, limit));
 }

@@ -114,7 +114,7 @@ fn has_size<R: Abort + Threads + Sync>(
 }
 
 #[test]
-fn builds_covers_under_their_file_orders(rt: HostRuntime) {
+fn covers_are_built_under_their_file_orders(rt: HostRuntime) {
     for count in [1u8, 2, 64] {
         let workers = Workers::new(count).expect(&rt, "workers");
         for (text, size) in &COVERS {
@@ -156,7 +156,7 @@ fn builds_interleaved_from_tables<R: Abort + Threads + Sync>(
 }
 
 #[test]
-fn builds_diagrams_of_covers(rt: HostRuntime) {
+fn diagrams_are_built_of_covers(rt: HostRuntime) {
     let input = read_input(&rt, rt.alloc(), INTERLEAVED);
     let two = Workers::new(2).expect(&rt, "two workers");
     assert!(rt; builds_interleaved(&rt, rt.alloc(), &input, two));
@@ -175,7 +175,7 @@ fn gives_conjunction(rt: &impl Abort, store: &Store, session: &mut Session) -> b
 }
 
 #[test]
-fn applies_operations(rt: HostRuntime) {
+fn operations_are_applied(rt: HostRuntime) {
     let input = read_input(&rt, rt.alloc(), PARITY);
     assert!(rt; input.order.len() == 3);
     let (store, mut session) = store_of(&rt, rt.alloc(), &input);

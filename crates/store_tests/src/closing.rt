@@ -134,7 +134,7 @@ fn lacks(rt: &impl Abort, alloc: Global, root: u8) -> bool {
 }
 
 #[test]
-fn closes_stores(rt: HostRuntime) {
+fn stores_close_with_their_diagrams(rt: HostRuntime) {
     assert!(rt; closes_to_three_nodes(&rt, rt.alloc(), false));
     assert!(rt; closes_to_three_nodes(&rt, rt.alloc(), true));
     assert!(rt; lacks(&rt, rt.alloc(), 0) && lacks(&rt, rt.alloc(), 1));

@@ -28,7 +28,7 @@ fn recalls(store: &Store, session: &mut Session) -> bool
 }
 
 #[test]
-fn recalls_what_it_remembers(rt: HostRuntime) {
+fn a_cache_recalls_what_it_remembers(rt: HostRuntime) {
     let problem = Problem::new(rt.alloc(), 1, 1).expect(&rt, "memory");
     let (store, mut session) = fresh_store(&rt, rt.alloc(), &problem);
     assert!(rt; recalls(&store, &mut session));

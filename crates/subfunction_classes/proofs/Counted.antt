@@ -120,7 +120,7 @@ width_is_dependent_classes n F S masks x small in_set are =
         same_at (λ h. get_or masks (class_of (entries n F S) (table n h)) 0) (dependence n) (reach F (reverse (outside n S)))
         (sym (ap (map (λ c. get_or masks c 0)) (map-map (class_of (entries n F S)) (table n) (reach F (reverse (outside n S))))
         ∙ map-map (λ c. get_or masks c 0) (λ h. class_of (entries n F S) (table n h)) (reach F (reverse (outside n S))))
-        ∙ are.told) g a
+        ∙ are.labels) g a
 
     counted : dependents n (reach F (reverse (outside n S))) x ≡ length (filter test (variables (distinct_count same_table (entries n F S))))
     counted = distinct_by_numbers same_table same_table_decides (table n) (λ f. depends n f x) (reach F (reverse (outside n S))) test

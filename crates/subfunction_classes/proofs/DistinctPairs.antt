@@ -20,12 +20,12 @@ use Rattle.subfunction_classes.proofs.RankLaws.{rank_below, rank_reached}
 use mathlib.Core.List.{map-map}
 
 module _ (ps : List (ℕ × ℕ)) (numbers : List ℕ) (met : List (ℕ × ℕ)) (numbered : numbers ≡ ranks same_pair ps) (many : length met ≡ distinct_count same_pair ps)
-    (told : map (λ c. get_or met c (0, 0)) numbers ≡ ps) where
+    (labels : map (λ c. get_or met c (0, 0)) numbers ≡ ps) where
   pub pair_told : (p : ℕ × ℕ) → Among p ps → get_or met (rank same_pair ps p) (0, 0) ≡ p
   unfolding ranks
   pair_told p a =
       same_at (λ q. get_or met (rank same_pair ps q) (0, 0)) (λ q. q) ps
-      (sym (map-map (λ c. get_or met c (0, 0)) (rank same_pair ps) ps) ∙ ap (map (λ c. get_or met c (0, 0))) (sym numbered) ∙ told ∙ sym (map-id ps)) p a
+      (sym (map-map (λ c. get_or met c (0, 0)) (rank same_pair ps) ps) ∙ ap (map (λ c. get_or met c (0, 0))) (sym numbered) ∙ labels ∙ sym (map-id ps)) p a
 
   pub pair_numbered : (j : ℕ) → j < length ps → get_or met (get_or numbers j 0) (0, 0) ≡ get_or ps j (0, 0)
   pair_numbered j l = grind (arith, get_or-map, length-ranks)

@@ -102,7 +102,7 @@ module _ (t : ClassesOf) (x : ℕ) (inside : x < t.problem.inputs) (new : has (s
       length joined ≡ distinct_count same_pair (pairs numbers (2 ^ free_below t.set x)) →
       map (λ c. get_or joined c 0) numbered ≡ map (joined_mask masks x) (pairs numbers (2 ^ free_below t.set x)) →
       HoldsClasses (with_variable t x) numbered joined
-  holds_more numbers masks numbered joined h e many told = record {
+  holds_more numbers masks numbered joined h e many labels = record {
     few_inputs = h.few_inputs;
     few = omega (arith, numbered_place numbers numbered (free_below t.set x) e);
     classes = e ∙ ap₂ (λ us s. ranks same_pair (pairs us s)) h.classes step_is
@@ -111,7 +111,7 @@ module _ (t : ClassesOf) (x : ℕ) (inside : x < t.problem.inputs) (new : has (s
     masks_are = masks_same t.problem.inputs (functions_of t) (x ∷ set_of t) (set_of (with_variable t x)) members_more joined
         (masks_more t.problem.inputs (functions_of t) (set_of t) x inside new masks h.masks_are joined
         (many ∙ ap (distinct_count same_pair) same_pairs)
-        (ap (map (λ c. get_or joined c 0)) (ap (ranks same_pair) (sym same_pairs) ∙ sym e) ∙ told ∙ ap (map (joined_mask masks x)) same_pairs));
+        (ap (map (λ c. get_or joined c 0)) (ap (ranks same_pair) (sym same_pairs) ∙ sym e) ∙ labels ∙ ap (map (joined_mask masks x)) same_pairs));
   }
     where
       same_pairs : pairs numbers (2 ^ free_below t.set x) ≡ pairs (class_numbers t.problem.inputs (functions_of t) (set_of t)) (step_of (set_of t) x)

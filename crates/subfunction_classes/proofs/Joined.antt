@@ -39,7 +39,7 @@ module _ (ps : List (ℕ × ℕ)) where
 
 module _ {M : Type 0} (none : M) (ps : List (ℕ × ℕ)) (join : ℕ × ℕ → M) where
   pub joined_none : Joined none ps join [] 0
-  joined_none = record { many = refl; told = λ i l. absurd (omega arith) }
+  joined_none = record { many = refl; labels = λ i l. absurd (omega arith) }
 
   -- a pair with the next number
   pub joined_new : (out : List M) (j number : ℕ) (mask : M) → j < length ps → Joined none ps join out j →
@@ -47,7 +47,7 @@ module _ {M : Type 0} (none : M) (ps : List (ℕ × ℕ)) (join : ℕ × ℕ →
       Joined none ps join (out ++ mask ∷ []) (j + 1)
   joined_new out j number mask l h e f m = record {
     many = omega (arith, count_is ps j l ∙ count_new same_pair pair_decides (get_or ps j (0, 0)) (take j ps) absent, length-append out (mask ∷ []));
-    told = λ i lt. elim (cases_lt i j) [
+    labels = λ i lt. elim (cases_lt i j) [
       | inl before ↦
           grind (arith, get_or_append_left, rank_before)
       | inr here ↦
@@ -64,8 +64,8 @@ module _ {M : Type 0} (none : M) (ps : List (ℕ × ℕ)) (join : ℕ × ℕ →
   joined_old out j number l h e f = elim (among_or_not same_pair pair_decides (get_or ps j (0, 0)) (take j ps)) [
     | inl a ↦ record {
       many = search (count_is, count_old, pair_decides);
-      told = λ i lt. elim (cases_lt i j) [
-        | inl before ↦ h.told i before
+      labels = λ i lt. elim (cases_lt i j) [
+        | inl before ↦ h.labels i before
         | inr here ↦
             let older = among_take ps ps j (get_or ps j (0, 0)) a in
             grind arith
@@ -79,7 +79,7 @@ module _ {M : Type 0} (none : M) (ps : List (ℕ × ℕ)) (join : ℕ × ℕ →
 
   pub joined_told : (out : List M) (j : ℕ) → length ps ≤ j → Joined none ps join out j → map (λ c. get_or out c none) (ranks same_pair ps) ≡ map join ps
   unfolding ranks
-  joined_told out j l h = alike ps (λ i lt. h.told i (omega arith))
+  joined_told out j l h = alike ps (λ i lt. h.labels i (omega arith))
     where
       alike : (qs : List (ℕ × ℕ)) →
           ((i : ℕ) → i < length qs → get_or out (rank same_pair ps (get_or qs i (0, 0))) none ≡ join (get_or qs i (0, 0))) →

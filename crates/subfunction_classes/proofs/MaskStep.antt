@@ -28,7 +28,7 @@ module _ (n : ℕ) (F : List Function) (T : List ℕ) (x : ℕ) (small : x < n) 
   told_alike =
       sym (ap (map (λ c. get_or masks c 0)) (numbers_told n T x small new F)
       ∙ map-map (λ c. get_or masks c 0) (tell_class n T x small new F) (reach F (reverse (outside n T))))
-      ∙ are.told
+      ∙ are.labels
 
   own : Function → ℕ × ℕ
   own g = (mask_of_class (restrict x false g), mask_of_class (restrict x true g))
@@ -75,7 +75,7 @@ module _ (n : ℕ) (F : List Function) (T : List ℕ) (x : ℕ) (small : x < n) 
   masks_more masks' l m = record {
     many = l ∙ ap (distinct_count same_pair) (pairs_of_classes n T x small new F)
         ∙ count_alike same_pair pair_decides same_table same_table_decides (class_pair n F T x) (table n) R (told_apart n T x small new F);
-    told = ap (map (λ c. get_or masks' c 0)) (compacted n T x small new F) ∙ m
+    labels = ap (map (λ c. get_or masks' c 0)) (compacted n T x small new F) ∙ m
         ∙ ap (map (joined_mask masks x)) (pairs_of_classes n T x small new F) ∙ map-map (joined_mask masks x) (class_pair n F T x) R
         ∙ each_at R (λ g a. a);
   }

@@ -152,7 +152,7 @@ start_masks n F first rest e masks zeros l = record {
       ∙ count_alike beq beq_decides same_table same_table_decides (value_of n) (table n) (reach F (reverse (variables n)))
       (λ g h a b. let t = tables_as_values n F g h a b in (t.1, t.0))
       ∙ ap (λ o. distinct_count same_table (map (table n) (reach F (reverse o)))) (sym (outside_none n));
-  told = all_zero (class_numbers n F []) ∙ numbers_long ∙ ap (λ o. map (dependence n) (reach F (reverse o))) (sym (outside_none n));
+  labels = all_zero (class_numbers n F []) ∙ numbers_long ∙ ap (λ o. map (dependence n) (reach F (reverse o))) (sym (outside_none n));
 }
   where
     all_zero : (cs : List ℕ) → map (λ c. get_or masks c 0) cs ≡ nothings cs

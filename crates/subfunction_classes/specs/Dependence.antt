@@ -25,4 +25,4 @@ joined_mask masks x p = bit_or (bit_or (slice_index masks p.0) (slice_index mask
 -- one mask a class over T: what the functions of the class depend on
 pub record AreMasks (n : ℕ) (F : List Function) (T : List ℕ) (masks : List ℕ) : Type 0 where
   pub many : length masks ≡ distinct_count same_table (entries n F T)
-  pub told : map (λ c. slice_index masks c) (class_numbers n F T) ≡ map (dependence n) (reach F (reverse (outside n T)))
+  pub labels : map (λ c. slice_index masks c) (class_numbers n F T) ≡ map (dependence n) (reach F (reverse (outside n T)))

@@ -16,7 +16,7 @@ module _ {M : Type 0} (none : M) (ps : List (ℕ × ℕ)) (join : ℕ × ℕ →
   -- what is told of the classes of the first j pairs
   pub record Joined (out : List M) (j : ℕ) : Type 0 where
     pub many : length out ≡ distinct_count same_pair (take j ps)
-    pub told : (i : ℕ) → i < j → get_or out (rank same_pair ps (get_or ps i (0, 0))) none ≡ join (get_or ps i (0, 0))
+    pub labels : (i : ℕ) → i < j → get_or out (rank same_pair ps (get_or ps i (0, 0))) none ≡ join (get_or ps i (0, 0))
 
   -- the first j numbers are written, and the masks are those of as many pairs
   pub record Made (out : List ℕ) (masks : List M) (j : ℕ) : Type 0 where

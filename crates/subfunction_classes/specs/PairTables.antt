@@ -37,4 +37,4 @@ pub record IsPairTable (numbers : List ℕ) (rank classes : ℕ) : Type 0 where
 pub record NumbersPairs (masks : List ℕ) (x : ℕ) (ps : List (ℕ × ℕ)) (numbers joined : List ℕ) : Type 0 where
   pub numbers_are : numbers ≡ ranks same_pair ps
   pub many : length joined ≡ distinct_count same_pair ps
-  pub told : map (λ c. slice_index joined c) numbers ≡ map (joined_mask masks x) ps
+  pub labels : map (λ c. slice_index joined c) numbers ≡ map (joined_mask masks x) ps

@@ -2,7 +2,7 @@
 --     first_member, first_has_mask      the smallest member of a mask
 --     some_member      a set of some layer but the first has a member
 --     asked_alike, costs_for_cell      the same costs at all members ask for the same widths; those of the layer before
---     members_widths      the widths of all members, if widths are counted on
+--     members_widths      the widths of all members, if the bound is by widths
 --     cell_found, cell_clipped      the cell where the best sum leaves room, and where none does
 use Rattle.std.proofs.Common.{◌≡◌, ℕ, ◌+◌, ◌-◌, ◌^◌, ◌<◌, ◌≤◌, Bool, true, cond, if◌then◌else◌, ◌||◌, nat_eq, nat_le, inl, inr, IsTrue, List, [], ◌∷◌, length, slice_index, unwrap_or, refl, sym, ap, ap₂, ◌∙◌, arith, eq-eqb, w16}
 use Rattle.std.specs.List.{filter}
@@ -13,9 +13,9 @@ use Rattle.order_model.specs.Functions.{Function}
 use Rattle.order_model.specs.Orders.{has, IsOrder, members, without}
 use Rattle.order_model.specs.Widths.{width}
 use Rattle.order_model.specs.Pairs.{Pair, Keeps, is_lawful}
-use Rattle.order_model.specs.Reserves.{reserved}
-use Rattle.order_model.specs.declared.reserve.Reserve.{Reserve}
-use Rattle.order_model.specs.declared.reserve.Reserve.TheVariants.{Variables, Widths}
+use Rattle.order_model.specs.BoundsAbove.{nodes_above}
+use Rattle.order_model.specs.declared.bounds_above.BoundAbove.{BoundAbove}
+use Rattle.order_model.specs.declared.bounds_above.BoundAbove.TheVariants.{Variables, Widths}
 use Rattle.order_model.specs.Cells.{first_of, cell_of, AreForCell, asked, candidates}
 use Rattle.order_model.proofs.Precedence.MaskLaws.{member_bit}
 use Rattle.order_model.proofs.Widths.Cells.{rising_members, first_has, first_le, all_asked, found, clipped, members_zero}
@@ -53,18 +53,18 @@ first_has_mask n mask pos small lt =
 
 -- ---- the cell
 
-module _ (n : ℕ) (r : Reserve) (mask bound : ℕ) (costs widths : ℕ → ℕ) (F : List Function) (P : List Pair) (order : List ℕ) (o : IsOrder n order)
+module _ (n : ℕ) (r : BoundAbove) (mask bound : ℕ) (costs widths : ℕ → ℕ) (F : List Function) (P : List Pair) (order : List ℕ) (o : IsOrder n order)
     (k : Keeps P order) (given : AreForCell n F P r bound mask costs widths) where
-  -- if widths are counted on and some member is a candidate, the widths of all members are taken
+  -- if the bound is by widths and some member is a candidate, the widths of all members are taken
   pub members_widths : (y : ℕ) → is_lawful P (members n mask) ≡ true → has (members n mask) y ≡ true → costs y ≤ bound →
       r ≡ Widths → (x : ℕ) → has (members n mask) x ≡ true → widths x ≡ width n F (without x (members n mask)) x
   members_widths y l m le is x h = given.are_widths l x (all_asked n bound mask costs r y is m le x h)
 
-  pub cell_found : (left sum x : ℕ) → is_lawful P (members n mask) ≡ true → left ≡ reserved n F r (members n mask) →
+  pub cell_found : (left sum x : ℕ) → is_lawful P (members n mask) ≡ true → left ≡ nodes_above n F r (members n mask) →
       IsBest (λ y. IsTrue (has (members n mask) y)) bound costs widths sum x → sum + left ≤ bound → pair_of sum x ≡ cell_of n F P r bound mask
   cell_found left sum x l e b room = grind (arith, pair_of, found, given)
 
-  pub cell_clipped : (left z : ℕ) → has (members n mask) z ≡ true → left ≡ reserved n F r (members n mask) →
+  pub cell_clipped : (left z : ℕ) → has (members n mask) z ≡ true → left ≡ nodes_above n F r (members n mask) →
       (is_lawful P (members n mask) ≡ true → (y : ℕ) → has (members n mask) y ≡ true → costs y ≤ bound → bound < costs y + widths y + left) →
       pair_of (bound + 1) (first_of (members n mask)) ≡ cell_of n F P r bound mask
   cell_clipped left z m e none = grind (arith, clipped, given)
@@ -77,7 +77,7 @@ filter_alike p q (x ∷ xs) h =
     ap₂ (λ b ys. cond b (x ∷ ys) ys) (h x (ap (λ b. b || has xs x) (eq-eqb x x refl)))
     (filter_alike p q xs (λ y m. h y (or_right (nat_eq y x) (has xs y) m)))
 
-pub asked_alike : (n : ℕ) (r : Reserve) (bound mask : ℕ) (f g : ℕ → ℕ) → ((y : ℕ) → has (members n mask) y ≡ true → f y ≡ g y) →
+pub asked_alike : (n : ℕ) (r : BoundAbove) (bound mask : ℕ) (f g : ℕ → ℕ) → ((y : ℕ) → has (members n mask) y ≡ true → f y ≡ g y) →
     asked n r bound mask f ≡ asked n r bound mask g
 unfolding asked candidates
 asked_alike n Variables bound mask f g h =
@@ -87,7 +87,7 @@ asked_alike n Widths bound mask f g h =
     (filter_alike (λ x. nat_le (f x) bound) (λ x. nat_le (g x) bound) (members n mask) (λ y m. ap (λ k. nat_le k bound) (h y m)))
 
 -- the costs of the layer before are those of the sets without one member
-pub costs_for_cell : (c : CostsOf) (r : Reserve) (mask bound : ℕ) (below widths : List ℕ) (F : List Function) (P : List Pair) →
+pub costs_for_cell : (c : CostsOf) (r : BoundAbove) (mask bound : ℕ) (below widths : List ℕ) (F : List Function) (P : List Pair) →
     has (masks_of (layer_with c.inputs (c.size + 1))) mask ≡ true → AreTrueCosts c.inputs F P r bound c → AreWidthsFor c.inputs F P r bound mask c widths →
     ((x : ℕ) → has (members c.inputs mask) x ≡ true → slice_index below x ≡ cost_without c mask x) →
     AreForCell c.inputs F P r bound mask (slice_index below) (slice_index widths)

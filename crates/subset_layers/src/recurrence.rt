@@ -9,7 +9,7 @@ ghost use Rattle.subset_layers.specs.Costs.{cost_without, as_pair, IsCellFrom, I
 ghost use Rattle.subset_layers.specs.Sums.{IsBest};
 
 use crate::costs::{Cell, Costs};
-use order_model::{Mask, Pairs, Reserves, VarIx, contains};
+use order_model::{Mask, Pairs, BoundsAbove, VarIx, contains};
 
 /// A sum of cost and width, and the variable that gives it.
 #[derive(Clone, Copy)]
@@ -78,22 +78,22 @@ fn lawful_cell(
     below: &[u32; 16],
     widths: &[u32; 16],
     bound: u32,
-    reserves: &Reserves<'_>,
+    bounds_above: &BoundsAbove<'_>,
 ) -> Cell
     requires some { 0 < mask }
     requires within { mask < 2 ^ inputs }
     requires few { inputs ≤ 16 }
-    requires functions { reserves.now.problem.inputs ≡ inputs }
+    requires functions { bounds_above.now.problem.inputs ≡ inputs }
     requires room { bound + 1 < 2 ^ 32 }
     ensures { (P : List Pair) (order : List ℕ) →
-        IsOrder reserves.now.problem.inputs order → Keeps P order →
-        IsTrue (is_lawful P (members reserves.now.problem.inputs mask)) →
-        IsCellFrom reserves.now P bound mask below.now widths.now (as_pair result) }
+        IsOrder bounds_above.now.problem.inputs order → Keeps P order →
+        IsTrue (is_lawful P (members bounds_above.now.problem.inputs mask)) →
+        IsCellFrom bounds_above.now P bound mask below.now widths.now (as_pair result) }
 {
     match best_sum(mask, inputs, below, widths, bound) {
         None => clipped_cell(mask, bound),
         Some(best) => {
-            if best.sum + reserves.above(mask, widths) <= u64::from(bound) {
+            if best.sum + bounds_above.above(mask, widths) <= u64::from(bound) {
                 Cell {
                     cost: best.sum as u32,
                     variable: best.variable,
@@ -107,25 +107,25 @@ fn lawful_cell(
 
 /// The cell of a set that is not empty, from the costs of the set without each of its members.
 /// Widths are needed of the members without which the cost is within the bound, or of all members
-/// if widths are counted on above a set; the others may be anything.
+/// if the bound above a set is by widths; the others may be anything.
 pub fn cell_from(
     mask: Mask,
     below: &[u32; 16],
     widths: &[u32; 16],
     bound: u32,
-    reserves: &Reserves<'_>,
+    bounds_above: &BoundsAbove<'_>,
     pairs: &Pairs,
 ) -> Cell
     requires some { 0 < mask }
-    requires within { mask < 2 ^ reserves.now.problem.inputs }
-    requires inputs { pairs.now.inputs ≡ reserves.now.problem.inputs }
+    requires within { mask < 2 ^ bounds_above.now.problem.inputs }
+    requires inputs { pairs.now.inputs ≡ bounds_above.now.problem.inputs }
     requires room { bound + 1 < 2 ^ 32 }
-    ensures { IsCellFrom reserves.now pairs.now.pairs bound mask below.now widths.now
+    ensures { IsCellFrom bounds_above.now pairs.now.pairs bound mask below.now widths.now
         (as_pair result) }
 {
     let inputs = pairs.inputs();
     if pairs.lawful(mask) {
-        lawful_cell(mask, inputs, below, widths, bound, reserves)
+        lawful_cell(mask, inputs, below, widths, bound, bounds_above)
     } else {
         clipped_cell(mask, bound)
     }
@@ -153,17 +153,17 @@ pub fn least_cell(
     costs: &Costs,
     widths: &[u32; 16],
     bound: u32,
-    reserves: &Reserves<'_>,
+    bounds_above: &BoundsAbove<'_>,
     pairs: &Pairs,
 ) -> Cell
     requires next { IsTrue
         (has (masks_of (layer_with costs.now.inputs (costs.now.size + 1))) mask) }
     requires inputs { pairs.now.inputs ≡ costs.now.inputs }
-    requires functions { reserves.now.problem.inputs ≡ costs.now.inputs }
+    requires functions { bounds_above.now.problem.inputs ≡ costs.now.inputs }
     requires room { bound + 1 < 2 ^ 32 }
-    ensures { IsCellOnce reserves.now pairs.now.pairs bound mask costs.now widths.now
+    ensures { IsCellOnce bounds_above.now pairs.now.pairs bound mask costs.now widths.now
         (as_pair result) }
 {
     let below = costs_below(mask, costs);
-    cell_from(mask, &below, widths, bound, reserves, pairs)
+    cell_from(mask, &below, widths, bound, bounds_above, pairs)
 }

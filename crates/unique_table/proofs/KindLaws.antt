@@ -15,7 +15,7 @@ use Rattle.node_words.proofs.Functions.{denotes_grows, one_id}
 use Rattle.unique_table.specs.declared.plan.Plan.{Plan}
 use Rattle.unique_table.specs.declared.session.View.{View}
 use Rattle.unique_table.specs.Plans.{order_of, levels_of, piece_function}
-use Rattle.unique_table.specs.Picture.{StoreState, IsKept, having, putting, nodes_of, pieces_of, spent}
+use Rattle.unique_table.specs.Invariant.{StoreState, IsKept, having, putting, nodes_of, pieces_of, spent}
 use Rattle.unique_table.specs.Stakes.{IsWhole}
 use Rattle.unique_table.specs.Views.{After}
 use Rattle.unique_table.specs.Steps.{IsStoreSeat, Becomes, put_words}

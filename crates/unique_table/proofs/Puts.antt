@@ -8,7 +8,7 @@ use lib.ListN.{get_elem?}
 use Rattle.atomic_table.proofs.Lists.{set_here, set_else, at_longer}
 use Rattle.unique_table.specs.declared.plan.Plan.{Plan}
 use Rattle.unique_table.specs.declared.session.View.{View}
-use Rattle.unique_table.specs.Picture.{StoreState, IsKept, IsPut, AreMade, nodes_of, spent}
+use Rattle.unique_table.specs.Invariant.{StoreState, IsKept, IsPut, AreMade, nodes_of, spent}
 use Rattle.unique_table.specs.Stakes.{IsWhole}
 use Rattle.unique_table.specs.Sessions.{GainsOnly}
 use Rattle.unique_table.proofs.Stakes.{no_other}

@@ -13,7 +13,7 @@ use Rattle.node_words.proofs.Functions.{known_small}
 use Rattle.unique_table.specs.declared.close.CloseFault.TheVariants.{MissingRoot, OutOfMemory}
 use Rattle.unique_table.specs.declared.plan.Plan.{Plan}
 use Rattle.unique_table.specs.Plans.{order_of, levels_of, output_at, piece_function}
-use Rattle.unique_table.specs.Picture.{nodes_of, pieces_of}
+use Rattle.unique_table.specs.Invariant.{nodes_of, pieces_of}
 use Rattle.unique_table.specs.Closing.{ClosedStoreOf, AreFinal, AreFilled, HasAllRoots, SessionsLackWhatIsEmpty, root_word, root_id, root_functions, roots_count}
 use Rattle.std.proofs.lemmas.Bool.{cases_lt}
 

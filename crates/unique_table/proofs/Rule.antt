@@ -19,7 +19,7 @@ use Rattle.node_words.proofs.Entries.{entry_grows}
 use Rattle.unique_table.specs.declared.plan.Plan.{Plan}
 use Rattle.unique_table.specs.declared.session.View.{View}
 use Rattle.unique_table.specs.Plans.{order_of, levels_of, piece_function}
-use Rattle.unique_table.specs.Picture.{StoreState, IsKept, IsSeen, IsPut, moved, Sees, AreEntries, ArePieces, having, putting, sees, nodes_of, entry_in, pieces_of, stepped, another, informed, spent, looks, puts, publishes, collects, recalls, remembers}
+use Rattle.unique_table.specs.Invariant.{StoreState, IsKept, IsSeen, IsPut, moved, Sees, AreEntries, ArePieces, having, putting, sees, nodes_of, entry_in, pieces_of, stepped, another, informed, spent, looks, puts, publishes, collects, recalls, remembers}
 use Rattle.unique_table.proofs.Puts.{has_first, has_more, has_front, has_back, put_set, put_here, put_longer, put_joined, whole_put}
 use Rattle.unique_table.proofs.Stakes.{joined_some, half_whole, within_same, within_split, within_join, no_other}
 
@@ -68,9 +68,9 @@ placed b s k words size g gp st ens pcs id v made wrote more new at live = let w
         unequal = i.unequal;
         are_pieces = i.are_pieces;
         grows = grows_trans u.seen (nodes_of b s.words) ws i.grows g;
-        told = grows_trans u.told (nodes_of b s.words) ws i.told g;
+        received = grows_trans u.received (nodes_of b s.words) ws i.received g;
         pieces = grows_trans u.pieces (pieces_of b s.words) ps i.pieces gp;
-        pieces_told = grows_trans u.pieces_told (pieces_of b s.words) ps i.pieces_told gp;
+        pieces_received = grows_trans u.pieces_received (pieces_of b s.words) ps i.pieces_received gp;
         stake = i.stake;
         all = λ _ w. absurd (no_other s.views id v at k.stakes j u spent refl ne e (k.seen id v at live).stake w);
       })
@@ -81,9 +81,9 @@ placed b s k words size g gp st ens pcs id v made wrote more new at live = let w
         unequal = st.unequal;
         are_pieces = pcs;
         grows = grows_refl ws;
-        told = none_told ws;
+        received = none_told ws;
         pieces = grows_refl ps;
-        pieces_told = none_told ps;
+        pieces_received = none_told ps;
         stake = (k.seen id v at live).stake;
         all = λ _ _. grows_refl ps;
       });
@@ -100,9 +100,9 @@ sees_all b s k ws ps g gp st pcs id v made more new at live = let i = k.seen id 
   unequal = st.unequal;
   are_pieces = subst (λ (z : Plan). ArePieces z ws ps) (sym i.plan) pcs;
   grows = grows_trans v.seen (nodes_of b s.words) ws i.grows g;
-  told = grows_trans v.told (nodes_of b s.words) ws i.told g;
+  received = grows_trans v.received (nodes_of b s.words) ws i.received g;
   pieces_grow = grows_trans v.pieces (pieces_of b s.words) ps i.pieces gp;
-  pieces_told = grows_trans v.pieces_told (pieces_of b s.words) ps i.pieces_told gp;
+  pieces_received = grows_trans v.pieces_received (pieces_of b s.words) ps i.pieces_received gp;
   made = λ all p full. ⊎_elim
       (λ (old : get_or (nodes_of b s.words) p 0 ≡ get_or ws p 0). more (get_or ws p 0)
       (subst (λ (z : ℕ). Contains v.made z) old (whole_put b s k id v at live all p (λ e. full (sym old ∙ e)))))
@@ -359,9 +359,9 @@ may_split b id v live s k at = let i = k.seen id v at live in record {
         unequal = i.unequal;
         are_pieces = i.are_pieces;
         grows = i.grows;
-        told = i.told;
+        received = i.received;
         pieces = i.pieces;
-        pieces_told = i.pieces_told;
+        pieces_received = i.pieces_received;
         stake = i.stake;
         all = λ c w. i.all c (half_whole v.stake w);
       })
@@ -380,10 +380,10 @@ may_split b id v live s k at = let i = k.seen id v at live in record {
             i.are_pieces;
         grows =
             i.grows;
-        told =
+        received =
             none_told (nodes_of b s.words);
         pieces = i.pieces;
-        pieces_told = none_told (pieces_of b s.words);
+        pieces_received = none_told (pieces_of b s.words);
         stake = i.stake;
         all = λ c w. i.all c (half_whole v.stake w);
       })
@@ -412,9 +412,9 @@ may_join b id other v w live live' s k at ne at' =
             unequal = i.unequal;
             are_pieces = i.are_pieces;
             grows = i.grows;
-            told = j.grows;
+            received = j.grows;
             pieces = i.pieces;
-            pieces_told = j.pieces;
+            pieces_received = j.pieces;
             stake = joined_some v.stake w.stake i.stake;
             all = λ c _. absurd (no c);
           }) z u)

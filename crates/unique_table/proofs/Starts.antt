@@ -9,7 +9,7 @@ use Rattle.order_model.specs.Orders.{IsOrder}
 use Rattle.unique_table.specs.declared.plan.Plan.{Plan}
 use Rattle.unique_table.specs.declared.session.View.{View}
 use Rattle.unique_table.specs.Plans.{order_of, levels_of}
-use Rattle.unique_table.specs.Picture.{IsKept, IsSeen, newcomer, nodes_of, pieces_of}
+use Rattle.unique_table.specs.Invariant.{IsKept, IsSeen, newcomer, nodes_of, pieces_of}
 use Rattle.unique_table.proofs.Stakes.{first_within}
 
 abbrev blanks : ℕ → List ℕ

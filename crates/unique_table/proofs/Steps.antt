@@ -2,7 +2,7 @@
 use Rattle.std.proofs.Common.{◌≡◌, ℕ, List, arith}
 use Rattle.node_words.proofs.Growing.{grows_trans}
 use Rattle.unique_table.specs.declared.session.View.{View}
-use Rattle.unique_table.specs.Picture.{Sees, sees}
+use Rattle.unique_table.specs.Invariant.{Sees, sees}
 use Rattle.unique_table.specs.Views.{After, Gains}
 use Rattle.unique_table.specs.Seats.{Board, Sitting, IsSeatOf, IsSeatAfter}
 use Rattle.unique_table.proofs.Rule.{M}

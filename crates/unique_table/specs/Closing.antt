@@ -15,7 +15,7 @@ use Rattle.unique_table.specs.declared.close.CloseFault.{CloseFault}
 use Rattle.unique_table.specs.declared.close.CloseFault.TheVariants.{MissingRoot, OutOfMemory}
 use Rattle.unique_table.specs.declared.plan.Plan.{Plan}
 use Rattle.unique_table.specs.Plans.{order_of, levels_of}
-use Rattle.unique_table.specs.Picture.{nodes_of, pieces_of, AreEntries, ArePieces}
+use Rattle.unique_table.specs.Invariant.{nodes_of, pieces_of, AreEntries, ArePieces}
 use Rattle.unique_table.specs.Sessions.{Knowledge, IsAlone}
 
 -- a closed store: what it was for, and the words that it ended with

@@ -1,6 +1,6 @@
 pub mod Plans
 pub mod Stakes
-pub mod Picture
+pub mod Invariant
 pub mod Views
 pub mod Sessions
 pub mod Insides

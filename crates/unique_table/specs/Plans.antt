@@ -38,12 +38,12 @@ fixed [] v f = f
 fixed (x ∷ xs) v f = restrict x (bit_at v 0 == 1) (fixed xs (v / 2) f)
 
 -- the variables on top that the pieces of tables fix: two, or the only one
-abbrev pub tops : List ℕ → List ℕ
-tops order = take 2 order
+abbrev pub top_variables : List ℕ → List ℕ
+top_variables order = take 2 order
 
 -- in how many ways they are fixed
-abbrev pub ways : List ℕ → ℕ
-ways order = 2 ^ length (tops order)
+abbrev pub top_assignments : List ℕ → ℕ
+top_assignments order = 2 ^ length (top_variables order)
 
 -- the products whose number, counted from 0, leaves b when divided by 64
 unfoldable pub share : ℕ → List Product → List Product
@@ -55,12 +55,12 @@ products_of t terms = map (product_of t.inputs (outputs_of t)) terms
 
 -- how many pieces there are besides the outputs
 abbrev pub parts_count : PieceKind → List ℕ → TruthTables → ℕ
-parts_count Restrictions order t = outputs_of t * ways order
+parts_count Restrictions order t = outputs_of t * top_assignments order
 parts_count (Products terms) order t = outputs_of t * 64
 
 -- the function of such a piece
 unfoldable pub part_function : PieceKind → List ℕ → TruthTables → ℕ → Function
-part_function Restrictions order t q = fixed (tops order) (q % ways order) (output_at t (q / ways order))
+part_function Restrictions order t q = fixed (top_variables order) (q % top_assignments order) (output_at t (q / top_assignments order))
 part_function (Products terms) order t q = product_function (share (q % 64) (products_of t terms.value)) (q / 64)
 
 -- the function of a piece: a part of an output, or from `roots` on an output

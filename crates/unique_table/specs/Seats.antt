@@ -9,7 +9,7 @@ use Rattle.atomic_table.specs.declared.shared.Seat.{Seat}
 use Rattle.node_words.specs.Nodes.{IsNode, IsNextProbe}
 use Rattle.unique_table.specs.declared.plan.Plan.{Plan}
 use Rattle.unique_table.specs.declared.session.View.{View}
-use Rattle.unique_table.specs.declared.plays.Words.{Words}
+use Rattle.unique_table.specs.declared.atomic_steps.Words.{Words}
 use Rattle.unique_table.specs.Plans.{levels_of}
 use Rattle.unique_table.specs.Views.{IsGoodView, After}
 

@@ -26,7 +26,7 @@ use Rattle.unique_table.specs.declared.plan.Plan.{Plan}
 use Rattle.unique_table.specs.declared.session.Stake.{Stake}
 use Rattle.unique_table.specs.Plans.{order_of, levels_of, variable_at}
 use Rattle.unique_table.specs.Stakes.{IsWhole, IsNoLess}
-use Rattle.unique_table.specs.Picture.{AreMade}
+use Rattle.unique_table.specs.Invariant.{AreMade}
 
 -- a store: which table it is, and what it is for
 pub record StoreId : Type 0 where

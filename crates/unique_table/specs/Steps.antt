@@ -1,5 +1,5 @@
 -- The kinds of steps, over states under the rule.
---     Becomes b s id words' told      after a step of seat id the words are words', the rule holds, and the seat's view gained what it was told
+--     Becomes b s id words' received      after a step of seat id the words are words', the rule holds, and the seat's view gained what it was told
 --     IsStoreSeat b s id v      seat id has the view v, which is live
 --     WholesAreAlone      a seat with the whole is the only one
 --     EqualFunctionsHaveEqualIds, EqualIdsHaveEqualFunctions      what any two seats know of one function, and of one id
@@ -13,7 +13,7 @@ use Rattle.node_words.specs.Entries.{IsEntry}
 use Rattle.unique_table.specs.declared.plan.Plan.{Plan}
 use Rattle.unique_table.specs.declared.session.View.{View}
 use Rattle.unique_table.specs.Plans.{order_of, levels_of, piece_function}
-use Rattle.unique_table.specs.Picture.{StoreState, IsKept, moved, nodes_of, pieces_of}
+use Rattle.unique_table.specs.Invariant.{StoreState, IsKept, moved, nodes_of, pieces_of}
 use Rattle.unique_table.specs.Stakes.{IsWhole}
 use Rattle.unique_table.specs.Views.{Gains}
 

@@ -6,7 +6,7 @@ use Rattle.node_words.specs.Nodes.{AreNodeWords, AreUnequal, Grows}
 use Rattle.unique_table.specs.declared.session.View.{View}
 use Rattle.unique_table.specs.Plans.{levels_of}
 use Rattle.unique_table.specs.Stakes.{IsWhole}
-use Rattle.unique_table.specs.Picture.{ArePieces, AreMade}
+use Rattle.unique_table.specs.Invariant.{ArePieces, AreMade}
 
 -- what was seen is a list of nodes by itself, with the pieces that were seen; with the whole it was all put
 pub record IsGoodView (v : View) : Type 0 where
@@ -26,8 +26,8 @@ pub record After (v v' : View) (wrote : ℕ) : Type 0 where
   pub made : v'.made ≡ v.made
   pub nodes : Grows v.seen v'.seen
   pub pieces : Grows v.pieces v'.pieces
-  pub told : Grows v.told v'.seen
-  pub pieces_told : Grows v.pieces_told v'.pieces
+  pub received : Grows v.received v'.seen
+  pub pieces_received : Grows v.pieces_received v'.pieces
   pub steps : v'.steps ≡ v.steps + 1
   pub writes : v'.writes ≡ v.writes + wrote
 

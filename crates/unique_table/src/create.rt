@@ -1,7 +1,7 @@
 //! How large a store is, and which pieces it has.
 
 ghost use Rattle.std.specs.Prelude.{◌≡◌, ◌*◌, ◌<◌, ◌≤◌, length, replicate, IfOk};
-ghost use Rattle.unique_table.specs.Plans.{IsKind, parts_count, ways};
+ghost use Rattle.unique_table.specs.Plans.{IsKind, parts_count, top_assignments};
 ghost use Rattle.order_model.specs.Problems.{outputs_of, TruthTables};
 
 use crate::plan::{PieceKind, Pieces, TermList};
@@ -56,8 +56,8 @@ pub(crate) fn kind_of(alloc: Global, pieces: Pieces<'_>) -> Result<PieceKind, Al
 }
 
 /// How many ways there are to fix the variables on top.
-fn ways(order: &Order) -> usize
-    ensures is { result ≡ ways order.now }
+fn top_assignments(order: &Order) -> usize
+    ensures is { result ≡ top_assignments order.now }
     ensures few { result ≤ 4 }
 {
     if order.len() < 2 { 2 } else { 4 }
@@ -72,7 +72,7 @@ pub(crate) fn parts_count(kind: &PieceKind, order: &Order, outputs: u8) -> usize
 {
     let outputs = usize::from(outputs);
     match kind {
-        PieceKind::Restrictions => outputs * ways(order),
+        PieceKind::Restrictions => outputs * top_assignments(order),
         PieceKind::Products(_) => outputs * 64,
     }
 }

@@ -10,12 +10,12 @@ mod store;
 
 // The words that the store lies in, the rule that they keep, and the kinds of steps on them.
 pub mod laws;
-mod plays;
+mod atomic_steps;
 mod words;
 
 pub use close::{CloseFault, ClosedStore};
 pub use node_words::{NodeParts, Operation};
 pub use plan::{PieceKind, Pieces, Plan, TermList};
-pub use plays::Words;
+pub use atomic_steps::Words;
 pub use session::{NodeId, Session, Stake, View};
 pub use store::{Store, StoreFull};

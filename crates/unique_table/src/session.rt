@@ -43,10 +43,10 @@ pub struct View {
     pub stake: Stake,
     pub plan: Plan,
     pub seen: [u64; 0],
-    pub told: [u64; 0],
+    pub received: [u64; 0],
     pub made: [u64; 0],
     pub pieces: [u64; 0],
-    pub pieces_told: [u64; 0],
+    pub pieces_received: [u64; 0],
     pub steps: u64,
     pub writes: u64,
 }

@@ -14,7 +14,7 @@ ghost use Rattle.unique_table.specs.Closing.{IsFinalStore, LacksRoot, MayLackRoo
 use crate::close::{CloseFault, ClosedStore};
 use crate::create::{blank_words, cache_places, kind_of, node_places, parts_count};
 use crate::plan::{Pieces, Plan};
-use crate::plays::{Both, Words};
+use crate::atomic_steps::{Both, Words};
 use crate::session::{NodeId, Session, View};
 use crate::words;
 use atomic_table::Table;

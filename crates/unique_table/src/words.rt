@@ -5,13 +5,13 @@ ghost use Rattle.node_words.specs.Nodes.{IsTaken, IsFullFor};
 ghost use Rattle.node_words.specs.Meaning.{Denotes};
 ghost use Rattle.node_words.specs.Entries.{IsEntry};
 ghost use Rattle.unique_table.specs.Plans.{order_of, piece_function};
-ghost use Rattle.unique_table.specs.Picture.{putting};
+ghost use Rattle.unique_table.specs.Invariant.{putting};
 ghost use Rattle.unique_table.specs.Sessions.{GainsOnly};
 ghost use Rattle.unique_table.specs.Views.{After, Gains};
 ghost use Rattle.unique_table.specs.Seats.{IsSeatOf, IsSeatAfter, IsNodePlace, IsEntryPlace, IsPiecePlace, IsNodeWord, MayPut};
 
 use crate::plan::Plan;
-use crate::plays::{Collects, Looks, Publishes, Puts, Recalls, Remembers, Words};
+use crate::atomic_steps::{Collects, Looks, Publishes, Puts, Recalls, Remembers, Words};
 use crate::session::View;
 use atomic_table::{Seat, Shared};
 use node_words::{probe, start};

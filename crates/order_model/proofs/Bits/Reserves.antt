@@ -15,7 +15,7 @@ use Rattle.std.proofs.lemmas.Nat.Bits.{bit_at_or, bit_at-zero, same_from_bits}
 use Rattle.order_model.specs.Functions.{Function, depends, from_table}
 use Rattle.order_model.specs.Orders.{has, members, variables}
 use Rattle.order_model.specs.Problems.{TruthTables, functions, outputs_of}
-use Rattle.order_model.specs.Reserves.{support, functions_with, functions_without}
+use Rattle.order_model.specs.BoundsAbove.{support, functions_with, functions_without}
 use Rattle.order_model.specs.Widths.{essential, essential_mask}
 use Rattle.order_model.proofs.Lists.Orders.{has_filter, has_variables}
 use Rattle.order_model.proofs.Lists.Ranges.{range_last}

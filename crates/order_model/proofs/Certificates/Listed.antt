@@ -5,8 +5,8 @@ use Rattle.order_model.specs.Functions.{Function}
 use Rattle.order_model.specs.Orders.{members}
 use Rattle.order_model.specs.Pairs.{Pair, is_lawful}
 use Rattle.order_model.specs.Widths.{least, essentials_outside}
-use Rattle.order_model.specs.Reserves.{reserved}
-use Rattle.order_model.specs.declared.reserve.Reserve.TheVariants.{Variables}
+use Rattle.order_model.specs.BoundsAbove.{nodes_above}
+use Rattle.order_model.specs.declared.bounds_above.BoundAbove.TheVariants.{Variables}
 use Rattle.order_model.specs.Cells.{cell_cost}
 use Rattle.order_model.specs.Certificates.{listed_masks}
 use Rattle.order_model.proofs.Widths.Cells.{within_from, cost_open, cost_known}
@@ -16,7 +16,7 @@ module _ (n : ℕ) (F : List Function) (P : List Pair) (bound total : ℕ) (le :
   pub listed_cost : (mask : ℕ) → is_lawful P (members n mask) ≡ true →
       least n F P (members n mask) + essentials_outside n F (members n mask) ≤ bound →
       cell_cost n F P Variables bound mask ≡ least n F P (members n mask)
-  unfolding reserved
+  unfolding nodes_above
   listed_cost mask l h = cost_open n F P Variables bound mask (within_from n F P Variables bound (members n mask) l h)
 
   pub listed_test : (mask : ℕ) →

@@ -11,16 +11,16 @@ use Rattle.order_model.specs.Functions.{Function}
 use Rattle.order_model.specs.Orders.{has, IsOrder, variables, members, without}
 use Rattle.order_model.specs.Pairs.{Pair, Keeps, is_lawful, tops}
 use Rattle.order_model.specs.Widths.{least, least_with_top}
-use Rattle.order_model.specs.Reserves.{reserved}
-use Rattle.order_model.specs.declared.reserve.Reserve.{Reserve}
-use Rattle.order_model.specs.declared.reserve.Reserve.TheVariants.{Variables, Widths}
+use Rattle.order_model.specs.BoundsAbove.{nodes_above}
+use Rattle.order_model.specs.declared.bounds_above.BoundAbove.{BoundAbove}
+use Rattle.order_model.specs.declared.bounds_above.BoundAbove.TheVariants.{Variables, Widths}
 use Rattle.order_model.specs.Cells.{first_of, is_within, best_top, cell_of, cell_cost, AreForCell, candidates, asked, least_sum, has_room, cell_from}
 use Rattle.order_model.proofs.Lists.Sets.{among_map, among_from_map}
 use Rattle.order_model.proofs.Lists.Orders.{has_filter, has_range, has_variables}
 use Rattle.order_model.proofs.Precedence.Lists.{lawful_same, lawful_whole, are_lawful_nil}
 use Rattle.order_model.proofs.Widths.Recurrence.{IsLawfulSet, has_again, absent_without, distinct_without, least_of_lem, recurrence_le, recurrence_some, least_same, least-nil, has_among, among_has}
 use Rattle.order_model.proofs.Bits.Masks.{has_members, distinct_members, members_without}
-use Rattle.order_model.proofs.Widths.Reserves.{reserved_same, reserved_step}
+use Rattle.order_model.proofs.Widths.BoundsAbove.{bounded_same, bounded_step}
 use Rattle.order_model.proofs.Widths.Fewest.{ground}
 
 -- ---- rising lists
@@ -68,15 +68,15 @@ module _ (n : ℕ) (F : List Function) (P : List Pair) (base : List ℕ) (o : Is
   less_one mask x h l = grind (arith, lawful_same, members_without, lawful_members, least_same, distinct_without, distinct_members)
 
 -- the test whether a set is within the bound, in its parts
-pub within_parts : (n : ℕ) (F : List Function) (P : List Pair) (r : Reserve) (bound : ℕ) (S : List ℕ) → is_within n F P r bound S ≡ true →
-    (is_lawful P S ≡ true) × (least n F P S + reserved n F r S ≤ bound)
+pub within_parts : (n : ℕ) (F : List Function) (P : List Pair) (r : BoundAbove) (bound : ℕ) (S : List ℕ) → is_within n F P r bound S ≡ true →
+    (is_lawful P S ≡ true) × (least n F P S + nodes_above n F r S ≤ bound)
 unfolding is_within
 within_parts n F P r bound S h = grind arith
 
-pub within_from : (n : ℕ) (F : List Function) (P : List Pair) (r : Reserve) (bound : ℕ) (S : List ℕ) → is_lawful P S ≡ true →
-    least n F P S + reserved n F r S ≤ bound → is_within n F P r bound S ≡ true
+pub within_from : (n : ℕ) (F : List Function) (P : List Pair) (r : BoundAbove) (bound : ℕ) (S : List ℕ) → is_lawful P S ≡ true →
+    least n F P S + nodes_above n F r S ≤ bound → is_within n F P r bound S ≡ true
 unfolding is_within
-within_from n F P r bound S l h = and_from _ _ l (le-leb (least n F P S + reserved n F r S) bound h)
+within_from n F P r bound S l h = and_from _ _ l (le-leb (least n F P S + nodes_above n F r S) bound h)
 
 -- a cell within the bound
 pub record IsOpenCell (n : ℕ) (F : List Function) (P : List Pair) (mask c x : ℕ) : Type 0 where
@@ -105,18 +105,18 @@ bests_from n F P S y h l e = search (has_filter, and_from, eq-eqb)
 pub rising_bests : (n : ℕ) (F : List Function) (P : List Pair) (mask : ℕ) → IsRising (bests n F P (members n mask))
 rising_bests n F P mask = search (rising_filter, rising_members)
 
-pub open_is : (n : ℕ) (F : List Function) (P : List Pair) (r : Reserve) (bound mask : ℕ) → is_within n F P r bound (members n mask) ≡ true →
+pub open_is : (n : ℕ) (F : List Function) (P : List Pair) (r : BoundAbove) (bound mask : ℕ) → is_within n F P r bound (members n mask) ≡ true →
     cell_of n F P r bound mask ≡ (least n F P (members n mask), best_top n F P (members n mask))
 unfolding cell_of
 open_is n F P r bound mask h = ap (λ b. cond b (least n F P (members n mask), best_top n F P (members n mask)) (bound + 1, first_of (members n mask))) h
 
 -- a clipped cell
-pub closed_cell : (n : ℕ) (F : List Function) (P : List Pair) (r : Reserve) (bound mask : ℕ) → is_within n F P r bound (members n mask) ≡ false →
+pub closed_cell : (n : ℕ) (F : List Function) (P : List Pair) (r : BoundAbove) (bound mask : ℕ) → is_within n F P r bound (members n mask) ≡ false →
     cell_of n F P r bound mask ≡ (bound + 1, first_of (members n mask))
 unfolding cell_of
 closed_cell n F P r bound mask h = ap (λ b. cond b (least n F P (members n mask), best_top n F P (members n mask)) (bound + 1, first_of (members n mask))) h
 
-module _ (n : ℕ) (F : List Function) (P : List Pair) (base : List ℕ) (o : IsOrder n base) (k : Keeps P base) (r : Reserve) (bound mask z : ℕ)
+module _ (n : ℕ) (F : List Function) (P : List Pair) (base : List ℕ) (o : IsOrder n base) (k : Keeps P base) (r : BoundAbove) (bound mask z : ℕ)
     (some : has (members n mask) z ≡ true) where
   pub open_cell : is_within n F P r bound (members n mask) ≡ true → IsOpenCell n F P mask (cell_of n F P r bound mask).0 (cell_of n F P r bound mask).1
   unfolding best_top
@@ -141,23 +141,23 @@ module _ (n : ℕ) (F : List Function) (P : List Pair) (base : List ℕ) (o : Is
   cell_member = grind (arith, open_cell, closed_cell, first_has)
 
 -- the parts of a cell within the bound
-pub cell_cost_is : (n : ℕ) (F : List Function) (P : List Pair) (r : Reserve) (bound mask : ℕ) → is_within n F P r bound (members n mask) ≡ true →
+pub cell_cost_is : (n : ℕ) (F : List Function) (P : List Pair) (r : BoundAbove) (bound mask : ℕ) → is_within n F P r bound (members n mask) ≡ true →
     (cell_of n F P r bound mask).0 ≡ least n F P (members n mask)
 cell_cost_is n F P r bound mask h = ap (λ (c : ℕ × ℕ). c.0) (open_is n F P r bound mask h)
 
-pub cell_top : (n : ℕ) (F : List Function) (P : List Pair) (base : List ℕ) (r : Reserve) (bound mask z : ℕ) → IsOrder n base → Keeps P base →
+pub cell_top : (n : ℕ) (F : List Function) (P : List Pair) (base : List ℕ) (r : BoundAbove) (bound mask z : ℕ) → IsOrder n base → Keeps P base →
     has (members n mask) z ≡ true → is_within n F P r bound (members n mask) ≡ true →
     (has (tops P (members n mask)) (cell_of n F P r bound mask).1 ≡ true)
     × (least_with_top n F P (members n mask) (cell_of n F P r bound mask).1 ≡ least n F P (members n mask))
 cell_top n F P base r bound mask z o k m h = grind (arith, open_cell, has_tops)
 
-pub cell_smallest : (n : ℕ) (F : List Function) (P : List Pair) (base : List ℕ) (r : Reserve) (bound mask y : ℕ) → IsOrder n base → Keeps P base →
+pub cell_smallest : (n : ℕ) (F : List Function) (P : List Pair) (base : List ℕ) (r : BoundAbove) (bound mask y : ℕ) → IsOrder n base → Keeps P base →
     is_within n F P r bound (members n mask) ≡ true →
     has (tops P (members n mask)) y ≡ true → least_with_top n F P (members n mask) y ≡ least n F P (members n mask) → (cell_of n F P r bound mask).1 ≤ y
 cell_smallest n F P base r bound mask y o k h t e = grind (arith, has_tops, open_cell)
 
 -- below a top of the least cost the set is within the bound, too
-pub next_within : (n : ℕ) (F : List Function) (P : List Pair) (base : List ℕ) → IsOrder n base → Keeps P base → (r : Reserve) (bound mask x : ℕ) →
+pub next_within : (n : ℕ) (F : List Function) (P : List Pair) (base : List ℕ) → IsOrder n base → Keeps P base → (r : BoundAbove) (bound mask x : ℕ) →
     is_within n F P r bound (members n mask) ≡ true →
     has (members n mask) x ≡ true → is_lawful P (without x (members n mask)) ≡ true → least_with_top n F P (members n mask) x ≡ least n F P (members n mask) →
     is_within n F P r bound (members n (mask - 2 ^ x)) ≡ true
@@ -166,9 +166,9 @@ next_within n F P base o k r bound mask x h m l e =
     let rest = less_one n F P base o k mask x m l in
     within_from n F P r bound (members n (mask - 2 ^ x)) rest.0 (omega (
       arith,
-      reserved_step n F r (without x (members n mask)) x (absent_without x (members n mask)) (member_below n mask x m),
-      reserved_same n F r (x ∷ without x (members n mask)) (members n mask) (has_again x (members n mask) m),
-      reserved_same n F r (members n (mask - 2 ^ x)) (without x (members n mask)) (members_without n mask x m),
+      bounded_step n F r (without x (members n mask)) x (absent_without x (members n mask)) (member_below n mask x m),
+      bounded_same n F r (x ∷ without x (members n mask)) (members n mask) (has_again x (members n mask) m),
+      bounded_same n F r (members n (mask - 2 ^ x)) (without x (members n mask)) (members_without n mask x m),
     ))
 
 -- ---- costs
@@ -182,13 +182,13 @@ unfolding members
 members_zero n = filter_none (λ x. eqb (bit_at 0 x) 1) (variables n) (λ y. ap (λ b. eqb b 1) (bit_at-zero y))
 
 -- within the bound a set's cost is its least cost
-pub cost_open : (n : ℕ) (F : List Function) (P : List Pair) (r : Reserve) (bound mask : ℕ) → is_within n F P r bound (members n mask) ≡ true →
+pub cost_open : (n : ℕ) (F : List Function) (P : List Pair) (r : BoundAbove) (bound mask : ℕ) → is_within n F P r bound (members n mask) ≡ true →
     cell_cost n F P r bound mask ≡ least n F P (members n mask)
 unfolding cell_cost
 cost_open n F P r bound mask h = grind (arith, members_zero, least-nil, open_is)
 
 -- a cost that is not above the bound is the least cost of a lawful set
-pub cost_known : (n : ℕ) (F : List Function) (P : List Pair) (r : Reserve) (bound mask : ℕ) → cell_cost n F P r bound mask ≤ bound →
+pub cost_known : (n : ℕ) (F : List Function) (P : List Pair) (r : BoundAbove) (bound mask : ℕ) → cell_cost n F P r bound mask ≤ bound →
     (is_lawful P (members n mask) ≡ true) × (cell_cost n F P r bound mask ≡ least n F P (members n mask))
 unfolding cell_cost
 cost_known n F P r bound mask h = by (nat_eq mask 0) refl h
@@ -228,21 +228,21 @@ module _ (n bound mask : ℕ) (costs : ℕ → ℕ) where
   unfolding candidates
   candidate_from y h le = has_filter (λ x. leb (costs x) bound) (members n mask) y ∙ and_from _ _ h (le-leb (costs y) bound le)
 
-  pub candidate_asked : (r : Reserve) (y : ℕ) → has (members n mask) y ≡ true → costs y ≤ bound → has (asked n r bound mask costs) y ≡ true
+  pub candidate_asked : (r : BoundAbove) (y : ℕ) → has (members n mask) y ≡ true → costs y ≤ bound → has (asked n r bound mask costs) y ≡ true
   unfolding asked
   candidate_asked Variables y h le = candidate_from y h le
   candidate_asked Widths y h le =
       ap (λ b. has (cond b [] (members n mask)) y) (some_length (candidates n bound mask costs) y (candidate_from y h le)) ∙ h
 
-  -- if widths are counted on and there is a candidate, those of all members are taken
-  pub all_asked : (r : Reserve) (y : ℕ) → r ≡ Widths → has (members n mask) y ≡ true → costs y ≤ bound → (x : ℕ) → has (members n mask) x ≡ true →
+  -- if the bound is by widths and there is a candidate, those of all members are taken
+  pub all_asked : (r : BoundAbove) (y : ℕ) → r ≡ Widths → has (members n mask) y ≡ true → costs y ≤ bound → (x : ℕ) → has (members n mask) x ≡ true →
       has (asked n r bound mask costs) x ≡ true
   unfolding asked
   all_asked Variables y is h le x m = absurd cc
   all_asked Widths y is h le x m =
       ap (λ b. has (cond b [] (members n mask)) x) (some_length (candidates n bound mask costs) y (candidate_from y h le)) ∙ m
 
-module _ (n : ℕ) (F : List Function) (P : List Pair) (base : List ℕ) (o : IsOrder n base) (k : Keeps P base) (r : Reserve) (bound mask : ℕ)
+module _ (n : ℕ) (F : List Function) (P : List Pair) (base : List ℕ) (o : IsOrder n base) (k : Keeps P base) (r : BoundAbove) (bound mask : ℕ)
     (costs widths : ℕ → ℕ) (given : AreForCell n F P r bound mask costs widths) where
   -- the sum of a candidate is the least cost with it on top
   pub candidate_sum : is_lawful P (members n mask) ≡ true → (y : ℕ) → has (members n mask) y ≡ true → costs y ≤ bound →
@@ -260,13 +260,13 @@ module _ (n : ℕ) (F : List Function) (P : List Pair) (base : List ℕ) (o : Is
   pub found : (x : ℕ) → is_lawful P (members n mask) ≡ true → has (members n mask) x ≡ true → costs x ≤ bound →
       ((y : ℕ) → has (members n mask) y ≡ true → costs y ≤ bound → costs x + widths x ≤ costs y + widths y) →
       ((y : ℕ) → y < x → has (members n mask) y ≡ true → costs y ≤ bound → costs y + widths y ≢ costs x + widths x) →
-      costs x + widths x + reserved n F r (members n mask) ≤ bound → cell_of n F P r bound mask ≡ (costs x + widths x, x)
+      costs x + widths x + nodes_above n F r (members n mask) ≤ bound → cell_of n F P r bound mask ≡ (costs x + widths x, x)
   found x l m le least_one first room = grind (arith, candidate_sum, within_from, open_cell, best_candidate)
 
   -- where no candidate leaves room within the bound, the cell is clipped
   pub clipped : (z : ℕ) → has (members n mask) z ≡ true →
       (is_lawful P (members n mask) ≡ true → (y : ℕ) → has (members n mask) y ≡ true → costs y ≤ bound →
-      bound < costs y + widths y + reserved n F r (members n mask)) →
+      bound < costs y + widths y + nodes_above n F r (members n mask)) →
       cell_of n F P r bound mask ≡ (bound + 1, first_of (members n mask))
   clipped z m none = grind (arith, within_parts, open_cell, best_candidate, candidate_sum, closed_cell)
 
@@ -289,7 +289,7 @@ module _ (n : ℕ) (F : List Function) (P : List Pair) (base : List ℕ) (o : Is
       )
 
   left : ℕ
-  left = reserved n F r (members n mask)
+  left = nodes_above n F r (members n mask)
 
   firsts : List ℕ
   firsts = filter (λ x. nat_eq (costs x + widths x) (least_sum n bound mask costs widths)) (candidates n bound mask costs)
@@ -330,6 +330,6 @@ module _ (n : ℕ) (F : List Function) (P : List Pair) (base : List ℕ) (o : Is
 
   -- the cell follows from the costs and widths
   pub cell_from_is : (z : ℕ) → has (members n mask) z ≡ true →
-      cell_from n P bound (reserved n F r (members n mask)) mask costs widths ≡ cell_of n F P r bound mask
+      cell_from n P bound (nodes_above n F r (members n mask)) mask costs widths ≡ cell_of n F P r bound mask
   unfolding cell_from left firsts
   cell_from_is z m = grind (arith, with_room, no_room)

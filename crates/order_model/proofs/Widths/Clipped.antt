@@ -12,14 +12,14 @@ use Rattle.order_model.specs.Orders.{has, IsOrder, variables, members, without}
 use Rattle.order_model.specs.Pairs.{Pair, Keeps, is_lawful}
 use Rattle.order_model.specs.Levels.{size_under}
 use Rattle.order_model.specs.Widths.{cost, least, least_with_top}
-use Rattle.order_model.specs.declared.reserve.Reserve.{Reserve}
+use Rattle.order_model.specs.declared.bounds_above.BoundAbove.{BoundAbove}
 use Rattle.order_model.specs.Cells.{is_within, cell_of, IsReadFrom, AreUnclipped}
 use Rattle.order_model.specs.Diagrams.{IsFirstKeeping}
 use Rattle.order_model.proofs.Lists.Orders.{has_variables}
 use Rattle.order_model.proofs.Precedence.Lists.{lawful_same, are_lawful_nil}
 use Rattle.order_model.proofs.Functions.Exchange.{size_is_cost}
 use Rattle.order_model.proofs.Bits.Masks.{members_without, members_full}
-use Rattle.order_model.proofs.Widths.Reserves.{reserved_all}
+use Rattle.order_model.proofs.Widths.BoundsAbove.{bounded_all}
 use Rattle.order_model.proofs.Widths.Recurrence.{IsLawfulList, least_is_least, recurrence_le, least_same, cost_cons, lawful_cons, lawful_tail, lawful_behind, first_member, without_top}
 use Rattle.order_model.proofs.Widths.Fewest.{ground, all_lawful, lawful_from_order, order_from_lawful, has_fewest_lem}
 use Rattle.order_model.proofs.Widths.Cells.{IsOpenCell, open_cell, next_within, within_parts, within_from, lawful_members, less_one, members_zero}
@@ -104,7 +104,7 @@ module _ (n : ℕ) (F : List Function) (P : List Pair) (base : List ℕ) (o : Is
     step : FirstRead n F P mask (x ∷ order)
     step = record { is_lawful_list = lawful_cons P x order (members n mask) low cell.member tail_is; least_cost = whole_cost; first = whole_first }
 
-  module _ (r : Reserve) (bound : ℕ) where
+  module _ (r : BoundAbove) (bound : ℕ) where
     -- the cell of a set within the bound, at the variable that is read
     read_cell : (mask x : ℕ) → has (members n mask) x ≡ true → x ≡ (cell_of n F P r bound mask).1 →
         is_within n F P r bound (members n mask) ≡ true → IsOpenCell n F P mask (cell_of n F P r bound mask).0 x
@@ -155,17 +155,17 @@ module _ (n : ℕ) (F : List Function) (P : List Pair) (base : List ℕ) (o : Is
         )
 
   -- all variables are within the size of an order that keeps the pairs
-  pub full_within : (r : Reserve) (other : List ℕ) → IsOrder n other → Keeps P other → is_within n F P r (size_under n F other) (members n (2 ^ n - 1)) ≡ true
+  pub full_within : (r : BoundAbove) (other : List ℕ) → IsOrder n other → Keeps P other → is_within n F P r (size_under n F other) (members n (2 ^ n - 1)) ≡ true
   full_within r other p q =
       let all = all_lawful n P base o k in
       let low = lawful_same P (members n (2 ^ n - 1)) (variables n) (members_full n) ∙ all.lawful in
       let same = least_same n F P base (ground n P base o k) (members n (2 ^ n - 1)) (variables n)
       (lawful_members n F P base o k (2 ^ n - 1) low) all (members_full n) in
       let a = (least_is_least n F P base (ground n P base o k) (variables n) all).no_less other (lawful_from_order n P other p q) in
-      grind (arith, within_from, size_is_cost, reserved_all, members_full, has_variables)
+      grind (arith, within_from, size_is_cost, bounded_all, members_full, has_variables)
 
 -- with the size of an order that keeps the pairs as the bound, the order that the cells give is the first one of the fewest nodes
-pub clip : (n : ℕ) (F : List Function) (P : List Pair) (r : Reserve) (other order : List ℕ) → IsOrder n other → Keeps P other →
+pub clip : (n : ℕ) (F : List Function) (P : List Pair) (r : BoundAbove) (other order : List ℕ) → IsOrder n other → Keeps P other →
     IsReadFrom n F P r (size_under n F other) (2 ^ n - 1) order → IsFirstKeeping n F P order
 clip n F P r other order o k read =
     record {
@@ -194,7 +194,7 @@ clip n F P r other order o k read =
         (all_lawful n P other o k) (members_full n)
 
 -- and no clipped cell is met
-pub clip_unclipped : (n : ℕ) (F : List Function) (P : List Pair) (r : Reserve) (other order : List ℕ) → IsOrder n other → Keeps P other →
+pub clip_unclipped : (n : ℕ) (F : List Function) (P : List Pair) (r : BoundAbove) (other order : List ℕ) → IsOrder n other → Keeps P other →
     IsReadFrom n F P r (size_under n F other) (2 ^ n - 1) order →
     AreUnclipped n F P r (size_under n F other) (2 ^ n - 1) order
 clip_unclipped n F P r other order o k read =

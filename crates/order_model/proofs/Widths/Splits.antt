@@ -12,7 +12,7 @@ use Rattle.order_model.specs.Functions.{Function, from_table, restrict, SameFunc
 use Rattle.order_model.specs.Orders.{has}
 use Rattle.order_model.specs.Levels.{subfunctions, reach, dependents}
 use Rattle.order_model.specs.Widths.{outside}
-use Rattle.order_model.specs.Reserves.{functions_without}
+use Rattle.order_model.specs.BoundsAbove.{functions_without}
 use Rattle.order_model.proofs.Lists.Sets.{Among, Within, among_left, among_right, among_cases, among_filter, among_from_filter, among_map, among_from_map, among_flat_map, among_from_flat_map, among_unique, count_le, count_mono, count_apart}
 use Rattle.order_model.proofs.Lists.Orders.{has_outside, has_variables}
 use Rattle.order_model.proofs.Functions.Tables.{restrict_comm, restrict_again, restrict_same, same_refl, table_same, same_from_table, same_table_decides, depends_false, depends_same, depends_no}

@@ -7,10 +7,10 @@ use Rattle.order_model.specs.Orders.{IsOrder, has, members, without}
 use Rattle.order_model.specs.Levels.{subfunctions, reach, dependents, level_count, level_counts, size_under}
 use Rattle.order_model.specs.Widths.{outside, width, cost, arrangements, least_of, least, essential, essentials_outside}
 use Rattle.order_model.specs.Pairs.{keeps, Keeps, is_lawful, are_lawful}
-use Rattle.order_model.specs.Reserves.{reserved}
-use Rattle.order_model.specs.declared.reserve.Reserve.TheVariants.{Variables}
+use Rattle.order_model.specs.BoundsAbove.{nodes_above}
+use Rattle.order_model.specs.declared.bounds_above.BoundAbove.TheVariants.{Variables}
 use Rattle.order_model.specs.Cells.{is_within, best_top, cell_of, IsReadFrom}
-use Rattle.order_model.specs.Certificates.{Certificate, Cell, IsGood, reserve, set_value, AreBothLawful}
+use Rattle.order_model.specs.Certificates.{Certificate, Cell, IsGood, bound_above, set_value, AreBothLawful}
 use Rattle.order_model.specs.Diagrams.{Fewest, IsFirst}
 use Rattle.order_model.proofs.Certificates.Potential.{good_is_fewest}
 use Rattle.order_model.proofs.Widths.Clipped.{clip}
@@ -54,7 +54,7 @@ edges_of : (c : Cell) →
 edges_of c e f g x lt out = grind arith
 
 good : IsGood 3 F certificate
-unfolding points restrict table depends subfunctions reach dependents level_count level_counts outside width members set_value reserve keeps
+unfolding points restrict table depends subfunctions reach dependents level_count level_counts outside width members set_value bound_above keeps
 good = record {
   inputs = refl;
   outputs = refl;
@@ -84,7 +84,7 @@ three_is_fewest = good_is_fewest 3 F certificate good
 
 read_off : IsReadFrom 3 F [] Variables 3 7 best_order
 unfolding points restrict table depends subfunctions reach dependents outside width cost without arrangements are_lawful is_lawful least_of
-    least members essential essentials_outside reserved is_within best_top cell_of IsReadFrom
+    least members essential essentials_outside nodes_above is_within best_top cell_of IsReadFrom
 read_off = (refl, refl, (refl, refl, (refl, refl, refl)))
 
 kept : Keeps [] best_order

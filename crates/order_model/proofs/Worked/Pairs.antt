@@ -8,11 +8,11 @@ use Rattle.order_model.specs.Pairs.{Pair, is_above, keeps, Keeps, is_lawful, are
 use Rattle.order_model.specs.Pairs.Leads.{by_one, by_more}
 use Rattle.order_model.specs.Levels.{subfunctions, reach, dependents, level_count, level_counts, size_under}
 use Rattle.order_model.specs.Widths.{outside, width, cost, arrangements, least_of, least, essential, essentials_outside}
-use Rattle.order_model.specs.Reserves.{functions_with, functions_without, asked_by, reserved}
-use Rattle.order_model.specs.declared.reserve.Reserve.TheVariants.{Variables, Widths}
+use Rattle.order_model.specs.BoundsAbove.{functions_with, functions_without, asked_by, nodes_above}
+use Rattle.order_model.specs.declared.bounds_above.BoundAbove.TheVariants.{Variables, Widths}
 use Rattle.order_model.specs.Cells.{open_tops, is_within, best_top, cell_of, cell_cost, wanted, widths_taken, IsReadFrom}
 use Rattle.order_model.specs.Diagrams.{FewestKeeping, IsFirstKeeping}
-use Rattle.order_model.specs.Certificates.{Certificate, Cell, IsGood, reserve, set_value, Applies, listed_masks, least_listed, certificate_of}
+use Rattle.order_model.specs.Certificates.{Certificate, Cell, IsGood, bound_above, set_value, Applies, listed_masks, least_listed, certificate_of}
 use Rattle.order_model.specs.Certificates.Reason.{Edge, CellTooBig, Pairs}
 use Rattle.order_model.specs.Sifting.{placements, smallest_order, smallest_of, best, insert_by_count, sifting_order, sifted}
 use Rattle.order_model.proofs.Worked.Counts.{parity3, mux}
@@ -24,19 +24,19 @@ use Rattle.order_model.proofs.Precedence.Cycles.{greedy_is_first}
 -- the multiplexer's cells for the bound 3
 mux_cells : map (cell_of 3 (mux ∷ []) [] Variables 3) (1 ∷ 2 ∷ 4 ∷ 3 ∷ 5 ∷ 6 ∷ 7 ∷ []) ≡ (1, 0) ∷ (1, 1) ∷ (4, 2) ∷ (2, 0) ∷ (4, 0) ∷ (4, 1) ∷ (3, 2) ∷ []
 unfolding points restrict table depends subfunctions reach dependents outside width cost without arrangements are_lawful is_lawful least_of
-    least members essential essentials_outside reserved is_within best_top cell_of
+    least members essential essentials_outside nodes_above is_within best_top cell_of
 mux_cells = refl
 
--- the same, with the nodes that widths ask for counted on
+-- the same, with the lower bound by widths
 mux_narrow : map (cell_of 3 (mux ∷ []) [] Widths 3) (1 ∷ 2 ∷ 4 ∷ 3 ∷ 5 ∷ 6 ∷ 7 ∷ []) ≡ (1, 0) ∷ (1, 1) ∷ (4, 2) ∷ (2, 0) ∷ (4, 0) ∷ (4, 1) ∷ (3, 2) ∷ []
 unfolding points restrict table depends subfunctions reach dependents outside width cost without arrangements are_lawful is_lawful least_of
-    least members essential essentials_outside functions_with functions_without asked_by reserved is_within best_top cell_of
+    least members essential essentials_outside functions_with functions_without asked_by nodes_above is_within best_top cell_of
 mux_narrow = refl
 
 -- how many widths they take, and how many those of the parity do
 mux_widths : widths_taken 3 (mux ∷ []) [] Variables 3 ∷ widths_taken 3 (parity3 ∷ []) [] Variables 5 ∷ [] ≡ 8 ∷ 12 ∷ []
 unfolding points restrict table depends subfunctions reach dependents outside width cost without arrangements are_lawful is_lawful least_of
-    least members essential essentials_outside reserved is_within best_top cell_of cell_cost open_tops wanted widths_taken
+    least members essential essentials_outside nodes_above is_within best_top cell_of cell_cost open_tops wanted widths_taken
 mux_widths = refl
 
 -- the multiplexer's certificate lists nothing, and the parity's four sets
@@ -61,12 +61,12 @@ parity_certificate = refl
 
 -- without the set of variable 0 the edge to it fails
 pub parity_edge : Applies 3 (parity3 ∷ []) (of_parity (cell 0 0 ∷ cell 2 2 ∷ cell 4 2 ∷ [])) (Edge 0 0)
-unfolding points restrict table depends subfunctions reach dependents outside width members is_lawful essential essentials_outside reserve set_value
+unfolding points restrict table depends subfunctions reach dependents outside width members is_lawful essential essentials_outside bound_above set_value
 parity_edge = (cell 0 0, (0, lit< tt, refl), refl, lit< tt, refl, (refl, refl), lit< tt)
 
 -- a set whose cost leaves no room for the essential variable outside
 pub parity_too_big : Applies 3 (parity3 ∷ []) (of_parity (cell 0 0 ∷ cell 1 2 ∷ cell 2 2 ∷ cell 3 5 ∷ cell 4 2 ∷ [])) CellTooBig
-unfolding points restrict table depends essential essentials_outside reserve members
+unfolding points restrict table depends essential essentials_outside bound_above members
 parity_too_big = (cell 3 5, (3, lit< tt, refl), lit< tt)
 
 -- ---- pairs on the multiplexer
@@ -103,7 +103,7 @@ sifted_sizes = refl
 
 -- the certificate without its pair
 pub without_pair : Applies 3 (mux ∷ []) (of_mux [] (cell 0 0 ∷ cell 2 1 ∷ [])) (Edge 0 0)
-unfolding points restrict table depends subfunctions reach dependents outside width members is_lawful essential essentials_outside reserve set_value
+unfolding points restrict table depends subfunctions reach dependents outside width members is_lawful essential essentials_outside bound_above set_value
 without_pair = (cell 0 0, (0, lit< tt, refl), refl, lit< tt, refl, (refl, refl), lit< tt)
 
 -- and with the pair turned round
@@ -154,7 +154,7 @@ order_210 =
 
 above_read : IsReadFrom 3 (mux ∷ []) first_above_last Variables 4 7 (0 ∷ 2 ∷ 1 ∷ [])
 unfolding points restrict table depends subfunctions reach dependents outside width cost without arrangements are_lawful is_lawful least_of
-    least members essential essentials_outside reserved is_within best_top cell_of IsReadFrom
+    least members essential essentials_outside nodes_above is_within best_top cell_of IsReadFrom
 above_read = (refl, refl, (refl, refl, (refl, refl, refl)))
 
 kept_above : Keeps first_above_last (0 ∷ 2 ∷ 1 ∷ [])
@@ -167,7 +167,7 @@ above_first = clip 3 (mux ∷ []) first_above_last Variables (0 ∷ 2 ∷ 1 ∷ 
 
 below_read : IsReadFrom 3 (mux ∷ []) last_above_first Variables 3 7 (2 ∷ 0 ∷ 1 ∷ [])
 unfolding points restrict table depends subfunctions reach dependents outside width cost without arrangements are_lawful is_lawful least_of
-    least members essential essentials_outside reserved is_within best_top cell_of IsReadFrom
+    least members essential essentials_outside nodes_above is_within best_top cell_of IsReadFrom
 below_read = (refl, refl, (refl, refl, (refl, refl, refl)))
 
 kept_below : Keeps last_above_first (2 ∷ 1 ∷ 0 ∷ [])

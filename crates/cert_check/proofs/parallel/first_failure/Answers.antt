@@ -5,7 +5,7 @@ use Rattle.order_model.specs.Problems.{functions}
 use Rattle.cert_check.specs.Edges.{EdgeFails, IsFirstEdge}
 use Rattle.cert_check.specs.Walks.{AreEnough}
 use Rattle.cert_check.proofs.FewerEdges.{fewer_tables, first_again}
-use Rattle.cert_check.proofs.LedOn.{none_lost}
+use Rattle.cert_check.proofs.SkippedSets.{none_lost}
 use Rattle.cert_check.proofs.parallel.first_failure.Goals as goal
 
 pub invariant_of-fewer : goal.invariant_of-fewer

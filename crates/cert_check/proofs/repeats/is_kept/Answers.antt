@@ -13,9 +13,9 @@ returns c h =
     let p = c.args.place in
     let start = (p - 1) * w in
     let size : start + w - start ≡ w = omega arith in
-    let told = slice_eq-Decides Decides-eqb (take (start + w - start) (drop start kept)) c.args.row.now
+    let labels = slice_eq-Decides Decides-eqb (take (start + w - start) (drop start kept)) c.args.row.now
     (pointwise eqb (take (start + w - start) (drop start kept)) c.args.row.now) refl in
-    let same : take w (drop start kept) ≡ c.args.row.now = ap (λ k. take k (drop start kept)) (sym size) ∙ told.0 (sym c.eq.ensures ∙ h) in
+    let same : take w (drop start kept) ≡ c.args.row.now = ap (λ k. take k (drop start kept)) (sym size) ∙ labels.0 (sym c.eq.ensures ∙ h) in
     let m = mul-le-mul_right w c.if-kept-width.false in
     let q : p * w ≡ (p - 1) * w + w =
     (let s : p ≡ (p - 1) + 1 = omega arith in ap (λ k. k * w) s ∙ (let g : ((p - 1) + 1) * w ≡ (p - 1) * w + w = grind arith in g)) in (

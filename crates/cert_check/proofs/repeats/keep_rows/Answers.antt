@@ -2,7 +2,7 @@ use Rattle.std.proofs.Common.{ℕ, ◌+◌, ◌-◌, ◌*◌, ◌/◌, ◌%◌, 
 use Rattle.std.proofs.lemmas.Nat.{one_shl, pow_pos}
 use Rattle.std.proofs.Math.Nat.{mul-le-mul_right}
 use Rattle.std.proofs.lemmas.List.{length-set}
-use Rattle.cert_check.proofs.Kept.{IsKept, kept_row, kept_again, kept_all, rows_are, slice_is}
+use Rattle.cert_check.proofs.KeptRows.{IsKept, kept_row, kept_again, kept_all, rows_are, slice_is}
 use Rattle.cert_check.proofs.repeats.keep_rows.Goals as goal
 use Rattle.cert_check.proofs.repeats.keep_rows.Goals.{then-not-is_kept+in_ok-extend_from_slice, else-not-is_kept}
 

@@ -1,5 +1,5 @@
 use Rattle.std.proofs.Common.{◌^◌, ◌<◌, length}
-use Rattle.cert_check.proofs.Kept.{IsKept}
+use Rattle.cert_check.proofs.KeptRows.{IsKept}
 use Rattle.cert_check.proofs.repeats.keep_rows.Given as goal
 
 abbrev pub invariant-loop-number : goal.invariant-loop-number

@@ -11,10 +11,10 @@ use Rattle.certificate.proofs.OrderParts.{parts_same}
 use Rattle.certificate.proofs.order_certificates.certificate_text.Goals as goal
 
 -- a text that spells a certificate
-told : (cert own : Certificate) (r : Result (String Global) AllocError) → own ≡ cert → HasSpelling own →
+stated : (cert own : Certificate) (r : Result (String Global) AllocError) → own ≡ cert → HasSpelling own →
     IfOk r (λ text. string_bytes text ≡ spelling own) → IfOk r (λ text. Spells (string_bytes text) cert)
-told cert own (Ok text) e has is = subst (Spells (string_bytes text)) e (record { has = has; text_is = is })
-told cert own (Err e) same has is = record {}
+stated cert own (Ok text) e has is = subst (Spells (string_bytes text)) e (record { has = has; text_is = is })
+stated cert own (Err e) same has is = record {}
 
 pub unreachable-requires : goal.unreachable-requires
 unreachable-requires c =
@@ -47,4 +47,4 @@ returns c =
     (c.in_ok-order.ensures.items_if_clones_equal (λ x y h. h) ∙ c.variables.ensures.value) c.requires.levels
     c.requires.total c.in_ok-kept.ensures (rw c.requires.inputs at c.inputs-inputs.ensures.sorted) c.requires.cells in
     let cert = c.in-Some.ensures.some ∙ same in
-    told (certificate_of n F P c.args.order.now) c.in-Some.cert c.text.result cert (subst HasSpelling c.cert.view_is c.cert.invariant) c.text.ensures.spelling
+    stated (certificate_of n F P c.args.order.now) c.in-Some.cert c.text.result cert (subst HasSpelling c.cert.view_is c.cert.invariant) c.text.ensures.spelling

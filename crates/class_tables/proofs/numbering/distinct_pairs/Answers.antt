@@ -39,6 +39,6 @@ returns c =
     record {
       numbered_are = c.requires;
       many = joined_many (0, 0) ps (λ p. p) c.loop-j.pairs.items c.loop-j.j (omega arith) c.loop-j.invariant;
-      told = ap (map (λ k. get_or c.loop-j.pairs.items k (0, 0))) c.requires
+      labels = ap (map (λ k. get_or c.loop-j.pairs.items k (0, 0))) c.requires
           ∙ joined_told (0, 0) ps (λ p. p) c.loop-j.pairs.items c.loop-j.j (omega arith) c.loop-j.invariant ∙ map-id ps;
     }

@@ -13,7 +13,7 @@ join_masks-requires-clause-classes c =
     let m = subst (λ z. z) (λ i. ArePairsNumbered (e.numbers i) (e.rank i) c.deref.result.now c.in_ok-pairs.pairs.items) c.in_ok-pairs.ensures in
     subst (λ us. ArePairsBelow us (length c.args.masks.now)) (sym c.deref-2.ensures.value)
     (met_classes c.args.numbers.now c.args.rank (length c.args.masks.now) c.requires.table.paired.whole c.requires.table.below
-    c.deref.result.now c.in_ok-pairs.pairs.items m.numbered_are m.many m.told)
+    c.deref.result.now c.in_ok-pairs.pairs.items m.numbered_are m.many m.labels)
 
 pub returns : goal.returns
 returns c =
@@ -26,6 +26,6 @@ returns c =
     let joined = c.in_ok-joined.ensures ∙ ap (map join) c.deref-2.ensures.value in
     record {
       numbers_are = c.in_ok-indexed.ensures ∙ (λ i. ranks same_pair (places.pairs (e.numbers i) (2 ^ e.rank i)));
-      many = ap length joined ∙ masks_many ps c.deref.result.now pairs m.numbered_are m.many m.told join;
-      told = (λ i. map (λ k. get_or (joined i) k 0) (sym n i)) ∙ masks_told ps c.deref.result.now pairs m.numbered_are m.many m.told join;
+      many = ap length joined ∙ masks_many ps c.deref.result.now pairs m.numbered_are m.many m.labels join;
+      labels = (λ i. map (λ k. get_or (joined i) k 0) (sym n i)) ∙ masks_told ps c.deref.result.now pairs m.numbered_are m.many m.labels join;
     }

@@ -50,25 +50,25 @@ returns c =
     let runs = c.in_ok-runs.runs.numbers.items in
     let pairs = c.in_ok-runs.runs.pairs.items in
     let paired = unrolled (names_of pairs) numbers len in
-    let told = c.in_ok-told.told in
+    let labels = c.in_ok-labels.labels in
     let long = paired_long outer numbers len t.rank table.strips table.whole runs pairs c.in_ok-runs.ensures paired refl in
     let lower = paired_lower outer numbers len t.rank table.strips table.whole runs pairs c.in_ok-runs.ensures paired refl in
     let upper = paired_upper outer numbers len t.rank table.strips table.whole runs pairs c.in_ok-runs.ensures paired refl in
     let names =
-    subst (λ us. TellsPairs t.masks.now c.args.x (places.pairs (unrolled (names_of us) numbers len) len) told.numbers.items told.masks.items)
+    subst (λ us. TellsPairs t.masks.now c.args.x (places.pairs (unrolled (names_of us) numbers len) len) labels.numbers.items labels.masks.items)
     c.deref.ensures.value
-    c.in_ok-told.ensures.tells in
-    subst (λ (z : StripTableOf). GrowsStrips z c.args.x runs told.numbers.items told.masks.items) c.table.view_is
+    c.in_ok-labels.ensures.tells in
+    subst (λ (z : StripTableOf). GrowsStrips z c.args.x runs labels.numbers.items labels.masks.items) c.table.view_is
     (record {
       strips = high_strips outer numbers len (2 ^ t.rank) table.strips (pow_pos t.bits) (pow_pos t.rank) table.whole runs paired
-          c.in_ok-runs.ensures.numbered_are long lower upper t.masks.now c.args.x told.numbers.items told.masks.items names;
+          c.in_ok-runs.ensures.numbered_are long lower upper t.masks.now c.args.x labels.numbers.items labels.masks.items names;
       tells = high_tells outer numbers len (2 ^ t.rank) table.strips (pow_pos t.bits) (pow_pos t.rank) table.whole runs paired
-          c.in_ok-runs.ensures.numbered_are long lower upper t.masks.now c.args.x told.numbers.items told.masks.items names;
-      below = names_below t.masks.now c.args.x (places.pairs paired len) told.numbers.items told.masks.items names;
+          c.in_ok-runs.ensures.numbered_are long lower upper t.masks.now c.args.x labels.numbers.items labels.masks.items names;
+      below = names_below t.masks.now c.args.x (places.pairs paired len) labels.numbers.items labels.masks.items names;
       few =
           let f = table.len in
           let p = paired_few outer numbers len t.rank table.strips table.whole runs pairs c.in_ok-runs.ensures paired refl in
-          let n = length_names t.masks.now c.args.x (places.pairs paired len) told.numbers.items told.masks.items names in
+          let n = length_names t.masks.now c.args.x (places.pairs paired len) labels.numbers.items labels.masks.items names in
           let m = length-pairs paired len in
           omega arith;
     })

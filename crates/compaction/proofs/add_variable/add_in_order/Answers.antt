@@ -37,22 +37,22 @@ returns c =
     let outer = t.outer.now in
     let numbers = t.numbers.now in
     let step = 2 ^ (t.bits + t.rank) in
-    let told = c.in_ok-told.told in
-    let tells = c.in_ok-told.ensures.tells in
+    let labels = c.in_ok-labels.labels in
+    let tells = c.in_ok-labels.ensures.tells in
     let names =
-    subst (λ k. TellsPairs t.masks.now c.args.x (places.pairs numbers k) told.numbers.items told.masks.items)
+    subst (λ k. TellsPairs t.masks.now c.args.x (places.pairs numbers k) labels.numbers.items labels.masks.items)
     (pow-add 2 t.bits t.rank) tells in
-    subst (λ (z : StripTableOf). GrowsStrips z c.args.x c.in_ok-outer.outer.items told.numbers.items told.masks.items) c.table.view_is
+    subst (λ (z : StripTableOf). GrowsStrips z c.args.x c.in_ok-outer.outer.items labels.numbers.items labels.masks.items) c.table.view_is
     (record {
       strips = ordered_strips outer numbers (2 ^ t.bits) (2 ^ t.rank) table.strips (pow_pos t.bits) own
-          table.whole t.masks.now c.args.x told.numbers.items told.masks.items names
+          table.whole t.masks.now c.args.x labels.numbers.items labels.masks.items names
           c.in_ok-outer.outer.items c.in_ok-outer.ensures.long c.in_ok-outer.ensures.own;
       tells = ordered_tells outer numbers (2 ^ t.bits) (2 ^ t.rank) table.strips (pow_pos t.bits) own table.whole
-          t.masks.now c.args.x told.numbers.items told.masks.items names
+          t.masks.now c.args.x labels.numbers.items labels.masks.items names
           c.in_ok-outer.outer.items c.in_ok-outer.ensures.long c.in_ok-outer.ensures.own;
-      below = names_below t.masks.now c.args.x (places.pairs numbers step) told.numbers.items told.masks.items tells;
+      below = names_below t.masks.now c.args.x (places.pairs numbers step) labels.numbers.items labels.masks.items tells;
       few =
-          let n = length_names t.masks.now c.args.x (places.pairs numbers step) told.numbers.items told.masks.items tells in
+          let n = length_names t.masks.now c.args.x (places.pairs numbers step) labels.numbers.items labels.masks.items tells in
           let m = length-pairs numbers step in
           let f = table.few in
           omega arith;

@@ -18,8 +18,8 @@ loop-run-preserved c =
       chained = c.in_ok-push_run.ensures.chained;
       long = omega arith;
       room = omega (arith, c.loop-run.invariant.room);
-      keeps = λ values s told. c.in_ok-push_run.ensures.runs.keeps values (c.loop-run.invariant.keeps values s told)
-          (λ b h. run_bits words run _ b (omega arith) (omega arith) ∙ told (run * 256 + b) (let t = c.loop-run-test.true in omega arith)
+      keeps = λ values s labels. c.in_ok-push_run.ensures.runs.keeps values (c.loop-run.invariant.keeps values s labels)
+          (λ b h. run_bits words run _ b (omega arith) (omega arith) ∙ labels (run * 256 + b) (let t = c.loop-run-test.true in omega arith)
           ∙ ap (λ k. get_or values k false)
           (let e : length c.args.columns.now.outer.items * 256 + (run * 256 + b) ≡ length c.loop-run.columns.outer.items * 256 + b =
           omega arith in e));

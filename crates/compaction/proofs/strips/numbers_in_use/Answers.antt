@@ -11,5 +11,5 @@ index_mut-requires c = grind arith
 pub loop-number-preserved : goal.loop-number-preserved
 loop-number-preserved c = grind (arith, common_steps)
 
-pub returns-clause-told : goal.returns-clause-told
-returns-clause-told c = grind (arith, common_steps)
+pub returns-clause-labels : goal.returns-clause-labels
+returns-clause-labels c = grind (arith, common_steps)

@@ -6,6 +6,6 @@ abbrev pub invariant-loop-number : goal.invariant-loop-number
 invariant-loop-number l =
     record {
       long : length l.used.items ≡ l.count;
-      told : (k : ℕ) → k < l.count →
+      labels : (k : ℕ) → k < l.count →
           get_or l.used.items k false ≡ has (take l.number-index l.numbers) k;
     }

@@ -21,4 +21,4 @@ returns c =
     let same : c.loop-k.k ≡ length masks = (let e = c.loop-k.auto.k-end in omega arith) in
     c.loop-k.invariant ∙ ap (λ z. map (λ j. get_or masks j 0) (filter (λ j. get_or c.deref-occurs-items.result.now j false) (range_with_len 0 z))) same
     ∙ ap (map (λ j. get_or masks j 0)) (in_use_same (λ j. get_or c.deref-occurs-items.result.now j false) (has c.args.numbers.now) (length masks)
-    (λ j h. ap (λ us. get_or us j false) v ∙ c.in_ok-used.ensures.told j h))
+    (λ j h. ap (λ us. get_or us j false) v ∙ c.in_ok-used.ensures.labels j h))

@@ -1,4 +1,4 @@
-use Rattle.dd_builder.proofs.Going.{ok_same}
+use Rattle.dd_builder.proofs.SessionSteps.{ok_same}
 use Rattle.dd_builder.proofs.Covers.{tables_diagram, store_order, store_diagram}
 use Rattle.dd_builder.proofs.builders.build_from.Goals as goal
 

@@ -1,5 +1,5 @@
 use Rattle.dd_builder.specs.Parts.{MayBeFull}
-use Rattle.dd_builder.proofs.Going.{err_same}
+use Rattle.dd_builder.proofs.SessionSteps.{err_same}
 use Rattle.dd_builder.proofs.Fullness.{full_from}
 use Rattle.dd_builder.proofs.builders.build_in.Goals as goal
 

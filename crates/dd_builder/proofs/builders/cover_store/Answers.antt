@@ -4,7 +4,7 @@ use Rattle.order_model.specs.Problems.{TruthTables, outputs_of}
 use Rattle.order_model.specs.Products.{product_function}
 use Rattle.unique_table.specs.Plans.{products_of, output_at}
 use Rattle.dd_builder.proofs.Covers.{terms_give, store_for}
-use Rattle.dd_builder.proofs.Going.{ok_same}
+use Rattle.dd_builder.proofs.SessionSteps.{ok_same}
 use Rattle.dd_builder.proofs.builders.cover_store.Goals as goal
 
 pub new-requires-clause-terms : goal.new-requires-clause-terms

@@ -1,7 +1,7 @@
 use Rattle.std.proofs.Common.{◌≡◌, get_or, ◌∙◌, sym}
 use Rattle.std.proofs.lemmas.Bool.{iff_false}
 use Rattle.unique_table.specs.Plans.{variable_at}
-use Rattle.dd_builder.proofs.Going.{stays, makes_node}
+use Rattle.dd_builder.proofs.SessionSteps.{stays, makes_node}
 use Rattle.dd_builder.proofs.Literals.{literal_absent, literal_upper, literal_lower}
 use Rattle.dd_builder.proofs.cover_terms.literal_and.Goals as goal
 

@@ -1,4 +1,4 @@
-use Rattle.dd_builder.proofs.Going.{stays, makes_same}
+use Rattle.dd_builder.proofs.SessionSteps.{stays, makes_same}
 use Rattle.dd_builder.proofs.Literals.{other_output, own_output}
 use Rattle.dd_builder.proofs.cover_terms.or_term.Goals as goal
 

@@ -1,6 +1,6 @@
 use Rattle.std.proofs.Common.{refl, subst}
 use Rattle.unique_table.specs.Sessions.{Means}
-use Rattle.dd_builder.proofs.Going.{stays, makes_same}
+use Rattle.dd_builder.proofs.SessionSteps.{stays, makes_same}
 use Rattle.dd_builder.proofs.Shares.{terms_piece}
 use Rattle.dd_builder.proofs.cover_terms.terms_share.Goals as goal
 

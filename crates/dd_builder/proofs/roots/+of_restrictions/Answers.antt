@@ -1,20 +1,20 @@
 use Rattle.std.proofs.Common.{◌+◌, ◌-◌, ◌^◌, ◌<◌, length, take, ap, sym, ◌∙◌, refl, subst, arith}
 use Rattle.std.proofs.lemmas.List.{length-take}
-use Rattle.unique_table.specs.Plans.{order_of, output_at, fixed, tops}
+use Rattle.unique_table.specs.Plans.{order_of, output_at, fixed, top_variables}
 use Rattle.unique_table.specs.Sessions.{Means}
 use Rattle.unique_table.proofs.Following.{follows_trans}
-use Rattle.dd_builder.proofs.Going.{makes_node}
+use Rattle.dd_builder.proofs.SessionSteps.{makes_node}
 use Rattle.dd_builder.proofs.Ends.{parts_follow}
-use Rattle.dd_builder.proofs.Keeping.{keeps_step, keeps_node}
+use Rattle.dd_builder.proofs.SubfunctionNodes.{keeps_step, keeps_node}
 use Rattle.dd_builder.proofs.Restricted.{restriction_at, restricted_node, path_up, path_small}
 use Rattle.dd_builder.proofs.roots.+of_restrictions.Goals as goal
 
-pub returns-then-level-tops-clause-made : goal.returns-then-level-tops-clause-made
-returns-then-level-tops-clause-made t c = grind (arith, restriction_at)
+pub returns-then-level-top_variables-clause-made : goal.returns-then-level-top_variables-clause-made
+returns-then-level-top_variables-clause-made t c = grind (arith, restriction_at)
 
 pub of_restrictions-requires-2 : goal.of_restrictions-requires-2
 of_restrictions-requires-2 t c =
-    let top = c.tops-tops.ensures.value ∙ ap (λ xs. length (tops xs)) (c.variables.ensures.value ∙ c.order.ensures.value) in
+    let top = c.top_variables-top_variables.ensures.value ∙ ap (λ xs. length (top_variables xs)) (c.variables.ensures.value ∙ c.order.ensures.value) in
     let less : 3 - (c.args.level + 1) < t = omega arith in (
       less,
       (
@@ -35,7 +35,7 @@ of_restrictions-requires-2 t c =
 
 pub returns-clause-made : goal.returns-clause-made
 returns-clause-made t c =
-    let top = c.tops-tops.ensures.value ∙ ap (λ xs. length (tops xs)) (c.variables.ensures.value ∙ c.order.ensures.value) in
+    let top = c.top_variables-top_variables.ensures.value ∙ ap (λ xs. length (top_variables xs)) (c.variables.ensures.value ∙ c.order.ensures.value) in
     let size = length-take 2 (order_of c.args.store.now.plan) in
     let on = follows_trans _ _ _ c.of_restrictions.ensures.made.follows c.of_restrictions-2.ensures.made.follows in
     makes_node _ _ _ c.args.store.now c.make.result _ _ _ on c.make.ensures.follows (on.store ∙ c.requires.session.same)
@@ -51,15 +51,15 @@ returns-clause-made t c =
 pub returns-in_err-high-clause-made : goal.returns-in_err-high-clause-made
 returns-in_err-high-clause-made t c = grind (arith, follows_trans)
 
-pub returns-then-level-tops-clause-kept : goal.returns-then-level-tops-clause-kept
-returns-then-level-tops-clause-kept t c = keeps_step c.args.session.now c.part_id.new.session c.part_id.ensures.follows c.part_id.ensures.made
+pub returns-then-level-top_variables-clause-kept : goal.returns-then-level-top_variables-clause-kept
+returns-then-level-top_variables-clause-kept t c = keeps_step c.args.session.now c.part_id.new.session c.part_id.ensures.follows c.part_id.ensures.made
 
 pub returns-in_err-high-clause-kept : goal.returns-in_err-high-clause-kept
 returns-in_err-high-clause-kept t c = λ all. c.of_restrictions-2.ensures.kept (c.of_restrictions.ensures.kept all)
 
 pub returns-clause-kept : goal.returns-clause-kept
 returns-clause-kept t c =
-    let top = c.tops-tops.ensures.value ∙ ap (λ xs. length (tops xs)) (c.variables.ensures.value ∙ c.order.ensures.value) in
+    let top = c.top_variables-top_variables.ensures.value ∙ ap (λ xs. length (top_variables xs)) (c.variables.ensures.value ∙ c.order.ensures.value) in
     let size = length-take 2 (order_of c.args.store.now.plan) in
     keeps_node c.args.store.now c.args.session.now c.of_restrictions.new.session c.of_restrictions-2.new.session c.make.new.session c.args.level
     c.args.path c.in_ok-low.low c.in_ok-high.high c.args.output c.of_restrictions.ensures.kept c.of_restrictions-2.ensures.kept

@@ -1,7 +1,7 @@
 use Rattle.std.proofs.Common.{◌∙◌, ap}
 use Rattle.unique_table.specs.Plans.{levels_of}
 use Rattle.unique_table.specs.Sessions.{StoreId}
-use Rattle.dd_builder.proofs.Going.{stays, makes_same}
+use Rattle.dd_builder.proofs.SessionSteps.{stays, makes_same}
 use Rattle.dd_builder.proofs.Unions.{parts_all}
 use Rattle.dd_builder.proofs.roots.of_all_shares.Goals as goal
 

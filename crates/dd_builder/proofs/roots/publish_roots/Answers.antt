@@ -1,7 +1,7 @@
 use Rattle.std.proofs.Common.{arith}
 use Rattle.unique_table.proofs.Following.{follows_trans}
 use Rattle.dd_builder.proofs.Ends.{parts_follow, root_more}
-use Rattle.dd_builder.proofs.Keeping.{kept_on, kept_step}
+use Rattle.dd_builder.proofs.SubfunctionNodes.{kept_on, kept_step}
 use Rattle.dd_builder.proofs.Unions.{root_piece}
 use Rattle.dd_builder.proofs.roots.publish_roots.Goals as goal
 

@@ -6,8 +6,8 @@ use Rattle.unique_table.specs.Sessions.{StoreId, Means}
 use Rattle.unique_table.proofs.Following.{follows_trans}
 use Rattle.dd_builder.specs.Paths.{IsPointAbove}
 use Rattle.dd_builder.proofs.Pathways.{point_whole, point_low, point_high}
-use Rattle.dd_builder.proofs.Going.{stays, makes_node}
-use Rattle.dd_builder.proofs.Keeping.{keeps_node}
+use Rattle.dd_builder.proofs.SessionSteps.{stays, makes_node}
+use Rattle.dd_builder.proofs.SubfunctionNodes.{keeps_node}
 use Rattle.dd_builder.proofs.Restricted.{output_leaf, restricted_node, path_up, path_small}
 use Rattle.dd_builder.proofs.tables.+output_below.Goals as goal
 

@@ -3,7 +3,7 @@ use Rattle.std.proofs.lemmas.Nat.{one_shl, pow_pos}
 use Rattle.unique_table.specs.Plans.{order_of}
 use Rattle.dd_builder.specs.Paths.{IsPointOf}
 use Rattle.dd_builder.proofs.Pathways.{point_above}
-use Rattle.dd_builder.proofs.Going.{stays, makes_same}
+use Rattle.dd_builder.proofs.SessionSteps.{stays, makes_same}
 use Rattle.dd_builder.proofs.Restricted.{restriction_piece}
 use Rattle.dd_builder.proofs.tables.restriction.Goals as goal
 
@@ -12,9 +12,9 @@ returns-clause-made c = grind (arith, restriction_piece, one_shl, makes_same, st
 
 pub output_below-requires-clause-point : goal.output_below-requires-clause-point
 output_below-requires-clause-point c =
-    let bits = c.args.piece % (1 * 2 ^ c.tops-level.result % 18446744073709551616) in
-    let small : bits < 2 ^ c.tops-level.result =
-    (let p = pow_pos c.tops-level.result in
-    subst (λ k. c.args.piece % k < 2 ^ c.tops-level.result) (sym (one_shl c.tops-level.result 64 (omega arith))) (omega (arith, p))) in
-    point_above (order_of c.args.store.now.plan) c.tops-level.result bits c.point_of-point.result small
+    let bits = c.args.piece % (1 * 2 ^ c.top_variables-level.result % 18446744073709551616) in
+    let small : bits < 2 ^ c.top_variables-level.result =
+    (let p = pow_pos c.top_variables-level.result in
+    subst (λ k. c.args.piece % k < 2 ^ c.top_variables-level.result) (sym (one_shl c.top_variables-level.result 64 (omega arith))) (omega (arith, p))) in
+    point_above (order_of c.args.store.now.plan) c.top_variables-level.result bits c.point_of-point.result small
     (subst (λ xs. IsPointOf xs bits c.point_of-point.result) (c.variables-order.ensures.value ∙ c.order.ensures.value) c.point_of-point.ensures)

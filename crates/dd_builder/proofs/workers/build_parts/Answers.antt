@@ -3,7 +3,7 @@ use Rattle.unique_table.specs.Sessions.{Knowledge}
 use Rattle.unique_table.proofs.Following.{follows_trans}
 use Rattle.dd_builder.specs.Parts.{HasPart, Continues}
 use Rattle.dd_builder.proofs.Ends.{part_made, share_more, share_other}
-use Rattle.dd_builder.proofs.Keeping.{kept_on, kept_step, continues_on}
+use Rattle.dd_builder.proofs.SubfunctionNodes.{kept_on, kept_step, continues_on}
 use Rattle.dd_builder.proofs.workers.build_parts.Goals as goal
 use Rattle.dd_builder.proofs.workers.build_parts.Goals.{then-piece-from+in-Ok, else-piece-from}
 

@@ -18,13 +18,13 @@ returns-clause-sifted c =
     let s = c.in_ok-sifted.sifted in
     let F = functions_in c.args.inputs c.args.outputs c.args.words.now in
     let problem : s.problem ≡ packed_tables c.args.inputs c.args.outputs c.args.words.now = c.in_ok-sifted.ensures.problem ∙ c.in_ok-given.ensures.tables in
-    let told = c.in_ok-try_clone.ensures ∙ c.order.ensures.value in
+    let returned = c.in_ok-try_clone.ensures ∙ c.order.ensures.value in
     let read = counts_read s.problem.inputs (functions s.problem) s.order c.in_ok-levels_of.field-0.items c.in_ok-levels_of.ensures.long
     c.in_ok-levels_of.ensures.counts in
     record {
-      order_is = told ∙ c.in_ok-sifted.ensures.order
+      order_is = returned ∙ c.in_ok-sifted.ensures.order
           ∙ (λ i. sifted (c.in_ok-given.ensures.tables i).inputs (functions (c.in_ok-given.ensures.tables i)) (c.none-pairs.ensures.pairs i)
           (c.in_ok-given.ensures.order i));
-      levels_are = read ∙ (λ i. level_counts (problem i).inputs (functions (problem i)) (sym told i));
-      size = c.size.ensures.value ∙ c.size.ensures.sifted.true_size.size_is ∙ (λ i. size_under (problem i).inputs (functions (problem i)) (sym told i));
+      levels_are = read ∙ (λ i. level_counts (problem i).inputs (functions (problem i)) (sym returned i));
+      size = c.size.ensures.value ∙ c.size.ensures.sifted.true_size.size_is ∙ (λ i. size_under (problem i).inputs (functions (problem i)) (sym returned i));
     }

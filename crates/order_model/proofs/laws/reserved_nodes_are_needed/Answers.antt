@@ -1,8 +1,8 @@
-use Rattle.order_model.proofs.Widths.Reserves.{reserved_step, reserved_bound}
-use Rattle.order_model.proofs.laws.reserved_nodes_are_needed.Goals as goal
+use Rattle.order_model.proofs.Widths.BoundsAbove.{bounded_step, bounded_bound}
+use Rattle.order_model.proofs.laws.bounds_above_are_lower_bounds.Goals as goal
 
 pub returns-clause-step : goal.returns-clause-step
-returns-clause-step c = reserved_step
+returns-clause-step c = bounded_step
 
 pub returns-clause-order : goal.returns-clause-order
-returns-clause-order c = reserved_bound
+returns-clause-order c = bounded_bound

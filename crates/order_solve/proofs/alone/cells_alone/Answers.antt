@@ -2,7 +2,7 @@ use Rattle.std.proofs.Common.{◌≡◌, List, length, slice_get, Some, sym, ap,
 use Rattle.subset_layers.specs.Layers.{LayerOf, blocks_of, block_masks, masks_of}
 use Rattle.subset_layers.specs.declared.costs.Cell.{Cell}
 use Rattle.layer_core.specs.Pairing.{pair_of}
-use Rattle.layer_core.specs.Settings.{cell_for}
+use Rattle.layer_core.specs.Instances.{cell_for}
 use Rattle.layer_core.proofs.Layouts.{block_below, length-map_lem}
 use Rattle.order_solve.specs.LayerContexts.{ContextOf}
 use Rattle.solutions.specs.LayerCosts.{AreCells}
@@ -25,7 +25,7 @@ pub place_cells-requires-clause-found : goal.place_cells-requires-clause-found
 place_cells-requires-clause-found c =
     let masks = block_masks c.block-block.result in
     ap length c.deref.ensures.value
-    ∙ (sym (length-map_lem pair_of c.in_ok-own.own.items) ∙ ap length c.in_ok-own.ensures.cells ∙ length-map_lem (cell_for c.args.context.now.setting) masks)
+    ∙ (sym (length-map_lem pair_of c.in_ok-own.own.items) ∙ ap length c.in_ok-own.ensures.cells ∙ length-map_lem (cell_for c.args.context.now.instance) masks)
 
 pub place_cells-requires-clause-cells : goal.place_cells-requires-clause-cells
 place_cells-requires-clause-cells c =
@@ -34,7 +34,7 @@ place_cells-requires-clause-cells c =
 
 pub loop-place-preserved : goal.loop-place-preserved
 loop-place-preserved c =
-    let t = c.args.context.now.setting in
+    let t = c.args.context.now.instance in
     let l = c.args.context.now.layer in
     let old = c.loop-place.cells.items in
     let new = c.place_cells.new.cells in

@@ -5,6 +5,6 @@ use Rattle.order_solve.proofs.alone.layers_from.Given as goal
 abbrev pub invariant-loop-size : goal.invariant-loop-size
 invariant-loop-size l = record {
   many : length l.layers.items ≡ l._size + 1;
-  layers_are : AreLayersFor l.setting l.layers.items;
-  ahead : l.ahead.problem ≡ l.setting.problem;
+  layers_are : AreLayersFor l.instance l.layers.items;
+  ahead : l.ahead.problem ≡ l.instance.problem;
 }

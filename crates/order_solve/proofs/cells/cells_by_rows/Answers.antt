@@ -3,7 +3,7 @@ use Rattle.std.proofs.lemmas.List.{map_more, map-append, get_or-map}
 use Rattle.std.proofs.lemmas.Option.{slice_get-get_or, slice_get_within, get_or_from_slice_get}
 use Rattle.subset_layers.specs.Layers.{block_masks}
 use Rattle.compaction.specs.Rows.{IsWidthRow}
-use Rattle.layer_core.specs.Settings.{Setting, cell_for}
+use Rattle.layer_core.specs.Instances.{Instance, cell_for}
 use Rattle.layer_core.specs.Pairing.{pair_of}
 use Rattle.solutions.specs.Needs.{needed}
 use Rattle.order_solve.specs.LayerContexts.{ContextOf, context_with, IsContext}
@@ -12,7 +12,7 @@ use Rattle.order_solve.proofs.cells.cells_by_rows.Goals as goal
 
 pub least_cell-requires-clause-inputs : goal.least_cell-requires-clause-inputs
 least_cell-requires-clause-inputs c =
-    c.setting.invariant.pairs ∙ ap (λ (t : Setting). t.problem.inputs) c.setting.view_is ∙ sym c.context.invariant.0.inputs
+    c.instance.invariant.pairs ∙ ap (λ (t : Instance). t.problem.inputs) c.instance.view_is ∙ sym c.context.invariant.0.inputs
 
 pub least_cell-requires-clause-next : goal.least_cell-requires-clause-next
 least_cell-requires-clause-next c =
@@ -29,8 +29,8 @@ loop-i-preserved c =
     let mask = get_or items c.loop-i.i 0 in
     let there = subst (λ (xs : List ℕ). slice_get xs c.loop-i.i ≡ Some mask) c.masks-mask-items.ensures
     (slice_get-get_or items c.loop-i.i 0 (omega arith)) in
-    let t = c.args.context.now.setting in
-    let same = c.setting.view_is ∙ ap (λ (b : ContextOf). b.setting) c.context.view_is in
+    let t = c.args.context.now.instance in
+    let same = c.instance.view_is ∙ ap (λ (b : ContextOf). b.instance) c.context.view_is in
     let lt = slice_get_within masks c.loop-i.i mask there in
     let at : slice_index masks c.loop-i.i ≡ mask = get_or_from_slice_get masks c.loop-i.i mask 0 there in
     let next = in_layer _ c.context.invariant.0 c.args.block.now
@@ -41,11 +41,11 @@ loop-i-preserved c =
     let own = get_or rows c.loop-i.i [] in
     let row = row_there t.problem masks (map (needed t) masks) rows c.loop-i.i mask (needed t mask) own c.requires.rows there need
     (slice_get-get_or rows c.loop-i.i [] (omega arith)) in
-    let context = subst (λ (z : Setting). IsContext (context_with z c.context.inside.layer.now c.context.inside.before.now)) (sym c.setting.view_is)
+    let context = subst (λ (z : Instance). IsContext (context_with z c.context.inside.layer.now c.context.inside.before.now)) (sym c.instance.view_is)
     c.context.invariant.0 in
-    let is = cell_is _ context c.setting.inside.reserves c.setting.invariant mask next own
-    (subst (λ (z : Setting). IsWidthRow z.problem mask (needed z mask) own) (sym same) row)
-    (pair_of c.least_cell.result) c.least_cell.ensures ∙ ap (λ (z : Setting). cell_for z mask) same in
+    let is = cell_is _ context c.instance.inside.bounds_above c.instance.invariant mask next own
+    (subst (λ (z : Instance). IsWidthRow z.problem mask (needed z mask) own) (sym same) row)
+    (pair_of c.least_cell.result) c.least_cell.ensures ∙ ap (λ (z : Instance). cell_for z mask) same in
     ap (map pair_of) c.in_ok-push.ensures.items
     ∙ map-append pair_of c.loop-i.cells.items (c.least_cell.result ∷ [])
     ∙ ap₂ (λ (xs : List (ℕ × ℕ)) (y : ℕ × ℕ). xs ++ y ∷ []) c.loop-i.invariant (is ∙ ap (cell_for t) (sym at))

@@ -13,9 +13,9 @@ returns g c =
     let t = c.problem-problem.result.now in
     let P = c.args.sifted.pairs in
     let Q = c.in_ok-pairs.pairs.pairs in
-    let setting = c.setting_of-setting.ensures in
+    let instance = c.instance_of-instance.ensures in
     let harmless = subst (λ (R : List Pair). IsHarmless t.inputs (functions t) R Q) c.pairs.ensures.value c.in_ok-pairs.ensures.harmless in
     IfOk-weaker c.optimum_for.result _ _ (λ o found. subst (λ (u : TruthTables). IsOptimumFor u P o) c.problem-problem.ensures
     (optimum_harmless t P Q o harmless
-    (subst (λ (u : TruthTables). IsOptimumFor u Q o) setting.problem
-    (subst (λ (k : KeptPairs). IsOptimumFor c.setting_of-setting.result.problem k.pairs o) setting.pairs found)))) c.optimum_for.ensures
+    (subst (λ (u : TruthTables). IsOptimumFor u Q o) instance.problem
+    (subst (λ (k : KeptPairs). IsOptimumFor c.instance_of-instance.result.problem k.pairs o) instance.pairs found)))) c.optimum_for.ensures

@@ -4,7 +4,7 @@ use Rattle.order_model.specs.KeptPairs.{KeptPairs}
 use Rattle.order_model.specs.Pairs.{Pair}
 use Rattle.order_model.specs.Problems.{TruthTables, functions}
 use Rattle.symmetries.specs.SymmetricPairs.{IsHarmless}
-use Rattle.layer_core.specs.Settings.{Setting}
+use Rattle.layer_core.specs.Instances.{Instance}
 use Rattle.solutions.specs.Solutions.{IsOptimumFor}
 use Rattle.solutions.proofs.Harmless.{optimum_harmless}
 use Rattle.order_solve.proofs.solving.find_optimum_alone.Goals as goal
@@ -14,11 +14,11 @@ returns c =
     let t = c.args.problem.now in
     let P = c.args.sifted.pairs in
     let Q = c.in_ok-pairs.pairs.pairs in
-    let setting = c.setting_of-setting.ensures in
+    let instance = c.instance_of-instance.ensures in
     let harmless = subst (λ (R : List Pair). IsHarmless t.inputs (functions t) R Q) c.pairs.ensures.value c.in_ok-pairs.ensures.harmless in
     let best =
-    subst (λ (z : Setting). IfOk c.optimum_of.result (IsOptimumFor z.problem z.pairs.pairs)) c.of_layers-cells.ensures
+    subst (λ (z : Instance). IfOk c.optimum_of.result (IsOptimumFor z.problem z.pairs.pairs)) c.of_layers-cells.ensures
     c.optimum_of.ensures.optimum in
     IfOk-weaker c.optimum_of.result _ _ (λ o found. optimum_harmless t P Q o harmless
-    (subst (λ (u : TruthTables). IsOptimumFor u Q o) setting.problem
-    (subst (λ (k : KeptPairs). IsOptimumFor c.setting_of-setting.result.problem k.pairs o) setting.pairs found))) best
+    (subst (λ (u : TruthTables). IsOptimumFor u Q o) instance.problem
+    (subst (λ (k : KeptPairs). IsOptimumFor c.instance_of-instance.result.problem k.pairs o) instance.pairs found))) best

@@ -4,7 +4,7 @@ use Rattle.symmetries.specs.SymmetricPairs.{IsHarmless}
 use Rattle.symmetries.proofs.FirstSorted.{harmless_same}
 use Rattle.order_solve.proofs.solving.solve_alone.Goals as goal
 
-pub setting_of-setting-requires-clause-harmless : goal.setting_of-setting-requires-clause-harmless
-setting_of-setting-requires-clause-harmless c =
+pub instance_of-instance-requires-clause-harmless : goal.instance_of-instance-requires-clause-harmless
+instance_of-instance-requires-clause-harmless c =
     subst (IsHarmless c.args.problem.now.inputs (functions c.args.problem.now) c.args.sifted.pairs) (sym c.pairs.ensures.value)
     (harmless_same c.args.problem.now.inputs (functions c.args.problem.now) c.args.sifted.pairs)

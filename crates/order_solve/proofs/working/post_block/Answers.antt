@@ -4,7 +4,7 @@ use Rattle.std.proofs.lemmas.List.{get_or-map}
 use Rattle.layer_core.proofs.Layouts.{length-map_lem}
 use Rattle.subset_layers.specs.Layers.{block_masks}
 use Rattle.subset_layers.specs.declared.costs.Cell.{Cell}
-use Rattle.layer_core.specs.Settings.{cell_for}
+use Rattle.layer_core.specs.Instances.{cell_for}
 use Rattle.layer_core.specs.Pairing.{pair_of}
 use Rattle.order_solve.specs.Gains.{IsPosted}
 use Rattle.order_solve.proofs.Posts.{stays_trans, posted_stays}
@@ -16,7 +16,7 @@ post_cell-requires-clause-cell g c κs within =
     let masks = block_masks c.args.block.now in
     let items = c.masks-mask-items.result.now in
     let is = c.masks-mask-items.ensures in
-    let t = c.args.worker.now.context.now.setting in
+    let t = c.args.worker.now.context.now.instance in
     let cells : List Cell = c.args.cells.now in
     let none : Cell = record { cost = 0; variable = 0 } in
     let lt : c.loop-i.i < length masks = (let l = ap length is in omega (arith, l)) in

@@ -22,7 +22,7 @@ cells_of_block-requires-clause-layer g c =
 
 pub cells_of_block-requires-clause-room : goal.cells_of_block-requires-clause-room
 cells_of_block-requires-clause-room g c =
-    let t = c.args.context.now.setting in
+    let t = c.args.context.now.instance in
     let s = c.loop-claim.seat in
     let s1 = c.claim.new.seat in
     let p = c.in-Some.claim.place in
@@ -35,11 +35,11 @@ cells_of_block-requires-clause-room g c =
     ∙ ap (λ (z : BlockOf). c.loop-claim.tallies.cells + widths_for t (block_masks z)) (sym c.block.ensures) in
     let small : t.problem.inputs ≤ 16 =
     (let f = c.inputs.ensures.few in
-    let v = c.inputs.ensures.value ∙ ap (λ (z : ContextOf). z.setting.problem.inputs) c.context.view_is in omega (arith, f, v)) in
+    let v = c.inputs.ensures.value ∙ ap (λ (z : ContextOf). z.instance.problem.inputs) c.context.view_is in omega (arith, f, v)) in
     let few = few_gained t c.args.seat s1 t.problem.inputs small
     (ap (λ (z : BoardId). z.brief.layer.inputs) c.requires.seat ∙ ap (λ (l : LayerOf). l.inputs) c.requires.layer
     ∙ ap (λ (z : ContextOf). z.layer.inputs) (sym c.context.view_is) ∙ ap (λ (l : LayerOf). l.inputs) c.context.invariant.0.layer
-    ∙ ap (λ (z : ContextOf). z.setting.problem.inputs) c.context.view_is)
+    ∙ ap (λ (z : ContextOf). z.instance.problem.inputs) c.context.view_is)
     small in
     let room = few_room s s1 s1 c.loop-claim.tallies.ahead p b h c.loop-claim.invariant.few in
     record { cells = omega (arith, gains, few); ahead = omega (arith, room) }
@@ -57,7 +57,7 @@ loop-claim-smaller g c =
 
 pub loop-claim-preserved : goal.loop-claim-preserved
 loop-claim-preserved g c =
-    let t = c.args.context.now.setting in
+    let t = c.args.context.now.instance in
     let s = c.loop-claim.seat in
     let s1 = c.claim.new.seat in
     let s2 = c.post_block.new.seat in
@@ -79,8 +79,8 @@ loop-claim-preserved g c =
       alone = λ none. ap (λ (z : AheadOf). z.rows) (c.in_ok-cells.ensures.alone none) ∙ c.loop-claim.invariant.alone none;
     }
 
-pub returns-clause-told : goal.returns-clause-told
-returns-clause-told g c = search rules
+pub returns-clause-ended : goal.returns-clause-ended
+returns-clause-ended g c = search rules
 
 pub returns-clause-tally : goal.returns-clause-tally
 returns-clause-tally g c = grind (arith, working_stays, no_more_stays)

@@ -6,8 +6,8 @@ use Rattle.order_solve.proofs.working.work_layer.Given as goal
 
 abbrev pub invariant-loop-claim : goal.invariant-loop-claim
 invariant-loop-claim g l = record {
-  working : Working l.context.setting l.fn.seat l.seat l.tallies.cells;
-  found : l.found.problem ≡ l.context.setting.problem;
+  working : Working l.context.instance l.fn.seat l.seat l.tallies.cells;
+  found : l.found.problem ≡ l.context.instance.problem;
   ahead : l.tallies.ahead ≡ widths_ahead l.found;
   few : IsFewAhead l.seat l.tallies.ahead;
   alone : l.context.has_source ≡ false → l.found.rows ≡ [];

@@ -29,5 +29,5 @@ returns c =
     record {
       numbers_are = made_numbers 0 ps join c.loop-block.out joined j all made;
       many = made_many 0 ps join c.loop-block.out joined j all made;
-      told = made_told 0 ps join c.loop-block.out joined j all made;
+      labels = made_told 0 ps join c.loop-block.out joined j all made;
     }

@@ -54,5 +54,5 @@ returns c =
     record {
       numbered_are = made_numbers (0, 0) ps (λ p. p) c.loop-j.out.items c.loop-j.pairs.items c.loop-j.j (omega arith) c.loop-j.invariant;
       many = made_many (0, 0) ps (λ p. p) c.loop-j.out.items c.loop-j.pairs.items c.loop-j.j (omega arith) c.loop-j.invariant;
-      told = made_told (0, 0) ps (λ p. p) c.loop-j.out.items c.loop-j.pairs.items c.loop-j.j (omega arith) c.loop-j.invariant ∙ map-id ps;
+      labels = made_told (0, 0) ps (λ p. p) c.loop-j.out.items c.loop-j.pairs.items c.loop-j.j (omega arith) c.loop-j.invariant ∙ map-id ps;
     }

@@ -10,7 +10,7 @@ join_masks-requires-clause-classes c =
     let n = c.in_ok-numbered-2.ensures in
     subst (λ us. ArePairsBelow us (length c.args.masks.now)) (sym c.deref.ensures.value)
     (met_classes c.args.entries.now.numbers c.args.entries.now.rank (length c.args.masks.now) c.requires.table.paired.whole c.requires.table.below
-    c.in_ok-numbered-2.numbered.numbers.items c.in_ok-numbered-2.numbered.pairs.items n.numbered_are n.many n.told)
+    c.in_ok-numbered-2.numbered.numbers.items c.in_ok-numbered-2.numbered.pairs.items n.numbered_are n.many n.labels)
 
 pub returns : goal.returns
 returns c =
@@ -22,6 +22,6 @@ returns c =
     let joined = c.in_ok-joined.ensures ∙ ap (map join) c.deref.ensures.value in
     record {
       numbers_are = n.numbered_are;
-      many = ap length joined ∙ masks_many ps numbers pairs n.numbered_are n.many n.told join;
-      told = ap (λ us. map (λ k. get_or us k 0) numbers) joined ∙ masks_told ps numbers pairs n.numbered_are n.many n.told join;
+      many = ap length joined ∙ masks_many ps numbers pairs n.numbered_are n.many n.labels join;
+      labels = ap (λ us. map (λ k. get_or us k 0) numbers) joined ∙ masks_told ps numbers pairs n.numbered_are n.many n.labels join;
     }

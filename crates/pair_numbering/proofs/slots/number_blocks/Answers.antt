@@ -23,5 +23,5 @@ returns c =
     record {
       numbered_are = made_numbers (0, 0) ps (λ p. p) c.loop-block.out keys j all made;
       many = made_many (0, 0) ps (λ p. p) c.loop-block.out keys j all made;
-      told = made_told (0, 0) ps (λ p. p) c.loop-block.out keys j all made ∙ map-id ps;
+      labels = made_told (0, 0) ps (λ p. p) c.loop-block.out keys j all made ∙ map-id ps;
     }

@@ -3,7 +3,7 @@ use Rattle.order_model.specs.Problems.{functions}
 use Rattle.order_model.proofs.Widths.SizeBounds.{order_length}
 use Rattle.dd_builder.specs.Building.{IsDiagramOf}
 use Rattle.pla_reader.specs.Covers.{functions_of}
-use Rattle.dd_builder.proofs.Going.{ok_same}
+use Rattle.dd_builder.proofs.SessionSteps.{ok_same}
 use Rattle.dd_builder.proofs.Covers.{tables_diagram}
 use Rattle.report.proofs.diagrams.diagram_under.Goals as goal
 

@@ -5,9 +5,9 @@ use Rattle.std.proofs.lemmas.Nat.Bits.{shr_and_one}
 use Rattle.order_model.specs.Orders.{members}
 use Rattle.order_model.specs.Problems.{functions}
 use Rattle.order_model.specs.KeptPairs.{KeptPairs}
-use Rattle.order_model.specs.Reserves.{ReservesOf}
+use Rattle.order_model.specs.BoundsAbove.{BoundsAboveOf}
 use Rattle.order_model.specs.Cells.{AreForCell, cell_of}
-use Rattle.order_model.specs.declared.reserve.Limit.{Limit}
+use Rattle.order_model.specs.declared.bounds_above.Limit.{Limit}
 use Rattle.subfunction_classes.proofs.Counted.{width_is_dependent_classes}
 use Rattle.subset_layers.specs.Costs.{as_pair}
 use Rattle.subset_layers.proofs.CostLists.{bit_from_member, member_from_bit}
@@ -18,7 +18,7 @@ use Rattle.small_search.proofs.cells.cell_of_set.Goals.{then-contains, else-cont
 
 pub loop-x-preserved : goal.loop-x-preserved
 loop-x-preserved c =
-    let t = c.args.setting.now in
+    let t = c.args.instance.now in
     let n = t.problem.inputs in
     let mask = c.args.set in
     let x = c.loop-x.x in
@@ -50,21 +50,21 @@ loop-x-preserved c =
 
 pub returns : goal.returns
 returns c =
-    let t = c.args.setting.now in
+    let t = c.args.instance.now in
     let mask = c.args.set in
     let below = c.loop-x.below in
     let widths = c.loop-x.widths in
     let bound = c.limit.result.bound in
     let cell = as_pair c.cell_from.result in
-    let own = subst (λ (v : ReservesOf).
-    AreForCell v.problem.inputs (functions v.problem) c.pairs.result.now.pairs v.reserve bound mask (slice_index below) (slice_index widths) →
-    cell ≡ cell_of v.problem.inputs (functions v.problem) c.pairs.result.now.pairs v.reserve bound mask) c.reserves.ensures c.cell_from.ensures in
+    let own = subst (λ (v : BoundsAboveOf).
+    AreForCell v.problem.inputs (functions v.problem) c.pairs.result.now.pairs v.bound_above bound mask (slice_index below) (slice_index widths) →
+    cell ≡ cell_of v.problem.inputs (functions v.problem) c.pairs.result.now.pairs v.bound_above bound mask) c.bounds_above.ensures c.cell_from.ensures in
     let kept = subst (λ (k : KeptPairs).
-    AreForCell t.problem.inputs (functions t.problem) k.pairs t.reserve bound mask (slice_index below) (slice_index widths) →
-    cell ≡ cell_of t.problem.inputs (functions t.problem) k.pairs t.reserve bound mask) c.pairs.ensures.value own in
+    AreForCell t.problem.inputs (functions t.problem) k.pairs t.bound_above bound mask (slice_index below) (slice_index widths) →
+    cell ≡ cell_of t.problem.inputs (functions t.problem) k.pairs t.bound_above bound mask) c.pairs.ensures.value own in
     let bounded = subst (λ (l : Limit).
-    AreForCell t.problem.inputs (functions t.problem) t.pairs.pairs t.reserve l.bound mask (slice_index below) (slice_index widths) →
-    cell ≡ cell_of t.problem.inputs (functions t.problem) t.pairs.pairs t.reserve l.bound mask) c.limit.ensures kept in
+    AreForCell t.problem.inputs (functions t.problem) t.pairs.pairs t.bound_above l.bound mask (slice_index below) (slice_index widths) →
+    cell ≡ cell_of t.problem.inputs (functions t.problem) t.pairs.pairs t.bound_above l.bound mask) c.limit.ensures kept in
     let v = c.inputs-x-end.ensures.value in
     let f = c.loop-x-test.false in
     bounded (rows_all t mask below widths c.loop-x.x c.loop-x.invariant (omega (arith, v, f)))

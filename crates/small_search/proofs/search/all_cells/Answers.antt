@@ -6,14 +6,14 @@ use Rattle.order_model.specs.Problems.{TruthTables}
 use Rattle.pair_chains.specs.declared.numbering.Numbered.{Numbered}
 use Rattle.subset_layers.specs.declared.costs.Cell.{Cell}
 use Rattle.layer_core.specs.Pairing.{pair_of}
-use Rattle.layer_core.specs.Settings.{Setting, cell_for}
+use Rattle.layer_core.specs.Instances.{Instance, cell_for}
 use Rattle.solutions.specs.FlatCells.{no_cell}
 use Rattle.small_search.specs.FirstCells.{AreFirstCells}
 use Rattle.small_search.specs.Paths.{HoldPath}
 use Rattle.small_search.proofs.search.all_cells.Goals as goal
 
 -- the cell of the empty set
-first_cell : (t : Setting) → AreFirstCells t 1 (record { cost = 0; variable = 0 } ∷ [])
+first_cell : (t : Instance) → AreFirstCells t 1 (record { cost = 0; variable = 0 } ∷ [])
 first_cell t = record { many = refl; none = refl; each = λ mask low lt. absurd (omega arith) }
 
 pub loop-number-init : goal.loop-number-init
@@ -22,11 +22,11 @@ loop-number-init c =
     let items = c.in_ok-push.ensures.items ∙ ap (λ (us : List Cell). us ++ start ∷ []) c.in_ok-cells.ensures.items in
     record {
       path = subst (λ (p : TruthTables). HoldPath p 0 c.in_ok-tables.tables.items) c.problem.ensures c.in_ok-tables.ensures;
-      cells = subst (λ (us : List Cell). AreFirstCells c.args.setting.now 1 us) (sym items) (first_cell c.args.setting.now);
+      cells = subst (λ (us : List Cell). AreFirstCells c.args.instance.now 1 us) (sym items) (first_cell c.args.instance.now);
     }
 
 -- one cell more
-cells_more : (t : Setting) (number : ℕ) (cells : List Cell) (cell : Cell) → 1 ≤ number → AreFirstCells t number cells → pair_of cell ≡ cell_for t number →
+cells_more : (t : Instance) (number : ℕ) (cells : List Cell) (cell : Cell) → 1 ≤ number → AreFirstCells t number cells → pair_of cell ≡ cell_for t number →
     AreFirstCells t (number + 1) (cells ++ cell ∷ [])
 cells_more t number cells cell some h is = record {
   many = (let l = length-append cells (cell ∷ []) in let m = h.many in omega (arith, l, m));
@@ -46,7 +46,7 @@ lent len new old a b = ap (λ k. take k (new ++ drop (length new) old)) (b ∙ s
 
 pub loop-number-preserved : goal.loop-number-preserved
 loop-number-preserved c =
-    let t = c.args.setting.now in
+    let t = c.args.instance.now in
     let number = c.loop-number.number in
     let new = c.next_cell.new.tables in
     let old = c.loop-number.tables.items in

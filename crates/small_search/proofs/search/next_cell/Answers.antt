@@ -16,21 +16,21 @@ path_of p q mask tables e h = subst (λ (r : TruthTables). HoldPath r mask table
 
 pub bounds-tables-set : goal.bounds-tables-set
 bounds-tables-set c =
-    let p = path_of c.problem.result.now c.args.setting.now.problem c.args.set c.add_lowest.new.tables c.problem.ensures c.in_ok-add_lowest.ensures in
-    let l = ones-le c.args.setting.now.problem.inputs c.args.set c.requires.within in
+    let p = path_of c.problem.result.now c.args.instance.now.problem c.args.set c.add_lowest.new.tables c.problem.ensures c.in_ok-add_lowest.ensures in
+    let l = ones-le c.args.instance.now.problem.inputs c.args.set c.requires.within in
     let m = p.many in
     omega (arith, l, m)
 
 pub cell_of_set-requires-clause-masks : goal.cell_of_set-requires-clause-masks
 cell_of_set-requires-clause-masks c =
-    let t = c.args.setting.now.problem in
+    let t = c.args.instance.now.problem in
     let p = path_of c.problem.result.now t c.args.set c.add_lowest.new.tables c.problem.ensures c.in_ok-add_lowest.ensures in
     let h = own_table t c.args.set c.add_lowest.new.tables p c.index-tables-set.result in
     subst (λ us. AreMasks t.inputs (functions t) (members t.inputs c.args.set) us) (sym c.deref.ensures.value) h.masks_are
 
 pub cell_of_set-requires-clause-few : goal.cell_of_set-requires-clause-few
 cell_of_set-requires-clause-few c =
-    let t = c.args.setting.now.problem in
+    let t = c.args.instance.now.problem in
     let p = path_of c.problem.result.now t c.args.set c.add_lowest.new.tables c.problem.ensures c.in_ok-add_lowest.ensures in
     let d = get_or c.add_lowest.new.tables (count_ones c.args.set) c.index-tables-set.result in
     let h = own_table t c.args.set c.add_lowest.new.tables p c.index-tables-set.result in
@@ -41,4 +41,4 @@ cell_of_set-requires-clause-few c =
 
 pub returns-clause-path : goal.returns-clause-path
 returns-clause-path c =
-    path_of c.problem.result.now c.args.setting.now.problem c.args.set c.add_lowest.new.tables c.problem.ensures c.in_ok-add_lowest.ensures
+    path_of c.problem.result.now c.args.instance.now.problem c.args.set c.add_lowest.new.tables c.problem.ensures c.in_ok-add_lowest.ensures

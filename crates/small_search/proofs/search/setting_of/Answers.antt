@@ -5,9 +5,9 @@ use Rattle.order_model.specs.Orders.{IsOrder}
 use Rattle.order_model.specs.Problems.{functions}
 use Rattle.order_model.proofs.Precedence.Cycles.{acyclic_kept}
 use Rattle.order_model.proofs.Widths.SizeBounds.{size_bound}
-use Rattle.layer_core.specs.Settings.{Setting}
+use Rattle.layer_core.specs.Instances.{Instance}
 use Rattle.solutions.specs.Bounded.{IsBounded}
-use Rattle.small_search.proofs.search.setting_of.Goals as goal
+use Rattle.small_search.proofs.search.instance_of.Goals as goal
 
 pub returns-clause-bounded : goal.returns-clause-bounded
 returns-clause-bounded c =
@@ -17,4 +17,4 @@ returns-clause-bounded c =
     let order = subst (λ (i : ℕ). IsOrder i o.0) c.requires o.2.is_order in
     let many : length (functions p) ≤ 16 = omega (arith, length-map p.tables from_table, c.outputs.ensures.value, c.outputs.ensures.few) in
     let size = size_bound p.inputs (functions p) o.0 (omega (arith, c.inputs.ensures.value, c.inputs.ensures.few)) many order in
-    subst (λ (t : Setting). IsBounded t) (sym c.new.ensures) (record { order = o.0; is_order = order; keeps = o.2.kept; size = omega (arith, size) })
+    subst (λ (t : Instance). IsBounded t) (sym c.new.ensures) (record { order = o.0; is_order = order; keeps = o.2.kept; size = omega (arith, size) })

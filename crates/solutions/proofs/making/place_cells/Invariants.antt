@@ -1,6 +1,6 @@
 use Rattle.std.proofs.Common.{◌≡◌, length}
 use Rattle.subset_layers.specs.Layers.{block_masks}
-use Rattle.layer_core.specs.Settings.{Setting}
+use Rattle.layer_core.specs.Instances.{Instance}
 use Rattle.solutions.specs.LayerCosts.{AreCells}
 use Rattle.solutions.proofs.Placing.{PlacesFirst}
 use Rattle.solutions.proofs.making.place_cells.Given as goal
@@ -8,5 +8,5 @@ use Rattle.solutions.proofs.making.place_cells.Given as goal
 abbrev pub invariant-loop-i : goal.invariant-loop-i
 invariant-loop-i l = record {
   long : length l.cells ≡ length l.fn.cells;
-  first : (t : Setting) → AreCells t (block_masks l.block) l.found → PlacesFirst t l.layer l.block l.fn.cells l.i l.cells;
+  first : (t : Instance) → AreCells t (block_masks l.block) l.found → PlacesFirst t l.layer l.block l.fn.cells l.i l.cells;
 }

@@ -1,24 +1,24 @@
 use Rattle.std.proofs.Common.{◌≡◌, ℕ, sym, ap, ◌∙◌}
 use Rattle.order_model.specs.Orders.{mask_of}
 use Rattle.order_model.specs.Cells.{asked}
-use Rattle.order_model.specs.declared.reserve.Reserve.{Reserve}
-use Rattle.order_model.specs.declared.reserve.Reserve.TheVariants.{Variables, Widths}
+use Rattle.order_model.specs.declared.bounds_above.BoundAbove.{BoundAbove}
+use Rattle.order_model.specs.declared.bounds_above.BoundAbove.TheVariants.{Variables, Widths}
 use Rattle.solutions.proofs.Wanted.{asked_variables, asked_none, asked_some}
 use Rattle.solutions.proofs.needs.asked_members.Goals as goal
 
 -- what is asked for one of two equal ways of counting on nodes
-alike : (n bound mask : ℕ) (costs : ℕ → ℕ) (r s : Reserve) → r ≡ s → mask_of (asked n s bound mask costs) ≡ mask_of (asked n r bound mask costs)
-alike n bound mask costs r s e = ap (λ (k : Reserve). mask_of (asked n k bound mask costs)) (sym e)
+alike : (n bound mask : ℕ) (costs : ℕ → ℕ) (r s : BoundAbove) → r ≡ s → mask_of (asked n s bound mask costs) ≡ mask_of (asked n r bound mask costs)
+alike n bound mask costs r s e = ap (λ (k : BoundAbove). mask_of (asked n k bound mask costs)) (sym e)
 
 pub returns-in-Variables : goal.returns-in-Variables
 returns-in-Variables c = λ n bound costs is small. sym (asked_variables n bound c.args.mask c.args.known costs is small)
-    ∙ alike n bound c.args.mask costs c.args.reserve Variables c.in-Variables.is
+    ∙ alike n bound c.args.mask costs c.args.bound_above Variables c.in-Variables.is
 
 pub returns-then-known-eq0 : goal.returns-then-known-eq0
 returns-then-known-eq0 c = λ n bound costs is small.
     sym c.if-known-eq0.true ∙ sym (asked_none n bound c.args.mask c.args.known costs is small c.if-known-eq0.true)
-    ∙ alike n bound c.args.mask costs c.args.reserve Widths c.in-Widths.is
+    ∙ alike n bound c.args.mask costs c.args.bound_above Widths c.in-Widths.is
 
 pub returns-else-known-eq0 : goal.returns-else-known-eq0
 returns-else-known-eq0 c = λ n bound costs is small. sym (asked_some n bound c.args.mask c.args.known costs is small c.if-known-eq0.false)
-    ∙ alike n bound c.args.mask costs c.args.reserve Widths c.in-Widths.is
+    ∙ alike n bound c.args.mask costs c.args.bound_above Widths c.in-Widths.is

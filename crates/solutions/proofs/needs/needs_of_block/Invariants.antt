@@ -4,4 +4,4 @@ use Rattle.solutions.specs.Needs.{needed}
 use Rattle.solutions.proofs.needs.needs_of_block.Given as goal
 
 abbrev pub invariant-loop-mask : goal.invariant-loop-mask
-invariant-loop-mask l = l.needs.items ≡ map (needed l.setting) (take l.mask-index (block_masks l.block))
+invariant-loop-mask l = l.needs.items ≡ map (needed l.instance) (take l.mask-index (block_masks l.block))

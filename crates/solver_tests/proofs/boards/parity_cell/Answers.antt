@@ -1,12 +1,12 @@
 use Rattle.std.proofs.Common.{◌∙◌, sym, ap}
 use Rattle.order_model.specs.Problems.{functions}
 use Rattle.order_model.specs.Cells.{cell_of}
-use Rattle.order_model.specs.declared.reserve.Limit.{Limit}
-use Rattle.order_model.specs.declared.reserve.Reserve.TheVariants.{Variables}
-use Rattle.layer_core.specs.Settings.{cell_for, setting_of}
+use Rattle.order_model.specs.declared.bounds_above.Limit.{Limit}
+use Rattle.order_model.specs.declared.bounds_above.BoundAbove.TheVariants.{Variables}
+use Rattle.layer_core.specs.Instances.{cell_for, instance_of}
 use Rattle.solver_tests.proofs.boards.parity_cell.Goals as goal
 
 pub new-requires-clause-cell : goal.new-requires-clause-cell
 new-requires-clause-cell c = c.requires.cell
     ∙ (λ i. cell_of (sym c.requires.problem i).inputs (functions (sym c.requires.problem i)) (sym c.requires.pairs i) Variables 7 c.args.mask)
-    ∙ ap (λ (l : Limit). cell_for (setting_of c.args.problem.now c.args.pairs.now l) c.args.mask) (sym c.limit.ensures)
+    ∙ ap (λ (l : Limit). cell_for (instance_of c.args.problem.now c.args.pairs.now l) c.args.mask) (sym c.limit.ensures)

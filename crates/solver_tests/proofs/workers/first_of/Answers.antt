@@ -3,4 +3,4 @@ use Rattle.solutions.proofs.Placing.{found_cell}
 use Rattle.solver_tests.proofs.workers.first_of.Goals as goal
 
 pub returns : goal.returns
-returns g c = found_cell c.args.setting.now (masks_of c.args.layer.now) c.args.cells.now 0 c.mask_at.result c.requires c.mask_at.ensures
+returns g c = found_cell c.args.instance.now (masks_of c.args.layer.now) c.args.cells.now 0 c.mask_at.result c.requires c.mask_at.ensures

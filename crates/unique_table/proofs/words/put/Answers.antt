@@ -6,7 +6,7 @@ use Rattle.unique_table.specs.declared.session.View.{View}
 use Rattle.unique_table.proofs.Steps.{after_goes, seat_after}
 use Rattle.node_words.specs.Nodes.{probe, IsNode, IsTaken}
 use Rattle.unique_table.specs.Plans.{levels_of}
-use Rattle.unique_table.specs.Picture.{putting}
+use Rattle.unique_table.specs.Invariant.{putting}
 use Rattle.unique_table.proofs.Rule.{M, may_put}
 use Rattle.unique_table.proofs.words.put.Goals as goal
 

@@ -12,7 +12,7 @@ are_wide-requires c = grind (arith, pair_table, ready)
 
 pub returns-in-None : goal.returns-in-None
 unfolding pairs_with
-returns-in-None c = IfOk-then c.are_wide.result _ _ c.are_wide.ensures (λ wide h told y member.
+returns-in-None c = IfOk-then c.are_wide.result _ _ c.are_wide.ensures (λ wide h labels y member.
     let t = c.args.self.now in
     let table =
     subst (λ (z : TableOf). HoldsTable z c.self.inside.full c.self.inside.numbers.items c.self.inside.masks.items) c.self.view_is
@@ -23,4 +23,4 @@ returns-in-None c = IfOk-then c.are_wide.result _ _ c.are_wide.ensures (λ wide 
     let e : pairs_with c.deref-in-None.result.now c.args.x y (places.pairs c.deref.result.now (2 ^ c.args.x))
     ≡ pairs_with c.self.inside.masks.items c.args.x y (places.pairs c.self.inside.numbers.items (2 ^ c.args.x)) =
     (λ i. pairs_with (c.deref-in-None.ensures.value i) c.args.x y (places.pairs (c.deref.ensures.value i) (2 ^ c.args.x))) in
-    omega (arith, h told y))
+    omega (arith, h labels y))

@@ -26,6 +26,6 @@ invariant_of-result c =
     c.in_ok-numbered.numbered.masks.items)
     c.in_ok-numbered.ensures in
     let k = holds_more c.args.self.now c.args.x c.requires.inside c.requires.new c.self.inside.numbers.items c.self.inside.masks.items
-    c.in_ok-numbered.numbered.numbers.items c.in_ok-numbered.numbered.masks.items h q.numbers_are q.many q.told in
+    c.in_ok-numbered.numbered.numbers.items c.in_ok-numbered.numbered.masks.items h q.numbers_are q.many q.labels in
     subst (λ (z : ClassesOf). HoldsClasses z c.in_ok-numbered.numbered.numbers.items c.in_ok-numbered.numbered.masks.items)
     (λ i. classes_of (sym c.self.view_is i).problem (bit_or (sym c.self.view_is i).set (sym s i))) k

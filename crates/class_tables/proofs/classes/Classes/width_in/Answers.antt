@@ -15,7 +15,7 @@ width_counted : (t : ClassesOf) (x : ℕ) → x < t.problem.inputs → has (set_
     HoldsClasses t numbers masks →
     CountsMasks masks x (pairs numbers (2 ^ free_below t.set x)) count → count ≡ width t.problem.inputs (functions_of t) (set_of t) x
 width_counted t x inside new numbers masks count h q =
-    let k = holds_more t x inside new numbers masks (ranks same_pair (pairs numbers (2 ^ free_below t.set x))) q.joined h refl q.many q.told in
+    let k = holds_more t x inside new numbers masks (ranks same_pair (pairs numbers (2 ^ free_below t.set x))) q.joined h refl q.many q.labels in
     let w = width_into t x inside new in
     q.counted ∙ sym (width_is_dependent_classes t.problem.inputs (functions_of t) (set_of (with_variable t x)) q.joined x inside w.0 k.masks_are) ∙ w.1
 

@@ -32,24 +32,24 @@ invariant_of-result c =
     let n = c.requires.inner in
     let e = c.rank_of-rank.ensures ∙ ap (λ (z : ClassesOf). free_below z.set c.args.x) c.self.view_is in
     let s = one_shl c.args.x 16 (omega arith) in
-    let told = c.in_ok-told.told in
+    let labels = c.in_ok-labels.labels in
     let k = bytes_more c.args.self.now c.args.x (omega arith) c.requires.new n c.self.inside.outer.items c.self.inside.bytes.items
-    c.self.inside.rows.items c.self.inside.masks.items h told.numbers.items told.masks.items
+    c.self.inside.rows.items c.self.inside.masks.items h labels.numbers.items labels.masks.items
     (subst (λ us. TellsPairs us c.args.x (places.pairs c.self.inside.rows.items (2 ^ free_below c.args.self.now.set c.args.x))
-    told.numbers.items told.masks.items)
+    labels.numbers.items labels.masks.items)
     c.deref-4.ensures.value
-    (subst (λ us. TellsPairs c.deref-4.result.now c.args.x (places.pairs us (2 ^ free_below c.args.self.now.set c.args.x)) told.numbers.items
-    told.masks.items)
+    (subst (λ us. TellsPairs c.deref-4.result.now c.args.x (places.pairs us (2 ^ free_below c.args.self.now.set c.args.x)) labels.numbers.items
+    labels.masks.items)
     c.deref-3.ensures.value
-    (subst (λ r. TellsPairs c.deref-4.result.now c.args.x (places.pairs c.deref-3.result.now (2 ^ r)) told.numbers.items told.masks.items) e
-    c.in_ok-told.ensures.tells))) in
+    (subst (λ r. TellsPairs c.deref-4.result.now c.args.x (places.pairs c.deref-3.result.now (2 ^ r)) labels.numbers.items labels.masks.items) e
+    c.in_ok-labels.ensures.tells))) in
     let outer = c.in_ok-outer.ensures.items_if_clones_equal (λ x y h. h) ∙ c.deref.ensures.value in
     let bytes = c.in_ok-extend_from_slice.ensures.items ∙ (λ i. c.in_ok-bytes.ensures.items i ++ c.deref-2.ensures.value i) in
     subst (λ us. HoldsBytes (classes_of c.self.inside.problem.now (bit_or c.self.inside.set (1 * 2 ^ c.args.x % 2 ^ 16))) 8 us
-    c.extend_from_slice.new.self.items told.numbers.items told.masks.items) (sym outer)
+    c.extend_from_slice.new.self.items labels.numbers.items labels.masks.items) (sym outer)
     (subst (λ us. HoldsBytes (classes_of c.self.inside.problem.now (bit_or c.self.inside.set (1 * 2 ^ c.args.x % 2 ^ 16))) 8
-    c.self.inside.outer.items us told.numbers.items told.masks.items) (sym bytes)
-    (subst (λ (z : ClassesOf). HoldsBytes z 8 c.self.inside.outer.items c.self.inside.bytes.items told.numbers.items told.masks.items)
+    c.self.inside.outer.items us labels.numbers.items labels.masks.items) (sym bytes)
+    (subst (λ (z : ClassesOf). HoldsBytes z 8 c.self.inside.outer.items c.self.inside.bytes.items labels.numbers.items labels.masks.items)
     (λ z. classes_of (sym c.self.view_is z).problem (bit_or (sym c.self.view_is z).set (sym s z))) k))
 
 pub returns : goal.returns

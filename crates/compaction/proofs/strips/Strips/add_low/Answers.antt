@@ -27,19 +27,19 @@ of_parts-requires c =
     let m = c.deref-in-None.ensures.value in
     let k = holds_low c.args.self.now c.args.x (omega arith) c.requires.new (low_variables c.args.self.now.problem) c.self.inside.outer.items
     c.self.inside.numbers.items c.self.inside.masks.items h l
-    c.in_ok-told-in-None.told.numbers.items c.in_ok-told-in-None.told.masks.items
+    c.in_ok-labels-in-None.labels.numbers.items c.in_ok-labels-in-None.labels.masks.items
     (subst (λ us. TellsPairs us c.args.x (places.pairs c.self.inside.numbers.items (2 ^ free_below c.args.self.now.set c.args.x))
-    c.in_ok-told-in-None.told.numbers.items c.in_ok-told-in-None.told.masks.items) m
+    c.in_ok-labels-in-None.labels.numbers.items c.in_ok-labels-in-None.labels.masks.items) m
     (subst (λ us. TellsPairs c.deref-in-None.result.now c.args.x (places.pairs us (2 ^ free_below c.args.self.now.set c.args.x))
-    c.in_ok-told-in-None.told.numbers.items c.in_ok-told-in-None.told.masks.items) v
+    c.in_ok-labels-in-None.labels.numbers.items c.in_ok-labels-in-None.labels.masks.items) v
     (subst (λ r. TellsPairs c.deref-in-None.result.now c.args.x (places.pairs c.deref.result.now (2 ^ r))
-    c.in_ok-told-in-None.told.numbers.items c.in_ok-told-in-None.told.masks.items)
-    e c.in_ok-told-in-None.ensures.tells))) in
+    c.in_ok-labels-in-None.labels.numbers.items c.in_ok-labels-in-None.labels.masks.items)
+    e c.in_ok-labels-in-None.ensures.tells))) in
     let outer = c.in_ok-outer-in-None.ensures.items_if_clones_equal (λ x y h. h) ∙ c.deref-in-None-2.ensures.value in
     subst (λ us. HoldsStrips (classes_of c.self.inside.problem.now (bit_or c.self.inside.set (1 * 2 ^ c.args.x % 2 ^ 16)))
-    (low_variables c.self.inside.problem.now) us c.in_ok-told-in-None.told.numbers.items c.in_ok-told-in-None.told.masks.items) (sym outer)
-    (subst (λ (z : ClassesOf). HoldsStrips z (low_variables z.problem) c.self.inside.outer.items c.in_ok-told-in-None.told.numbers.items
-    c.in_ok-told-in-None.told.masks.items)
+    (low_variables c.self.inside.problem.now) us c.in_ok-labels-in-None.labels.numbers.items c.in_ok-labels-in-None.labels.masks.items) (sym outer)
+    (subst (λ (z : ClassesOf). HoldsStrips z (low_variables z.problem) c.self.inside.outer.items c.in_ok-labels-in-None.labels.numbers.items
+    c.in_ok-labels-in-None.labels.masks.items)
     (λ i. classes_of (sym c.self.view_is i).problem (bit_or (sym c.self.view_is i).set (sym s i))) k)
 
 pub of_count-requires : goal.of_count-requires

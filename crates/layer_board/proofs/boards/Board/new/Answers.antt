@@ -1,7 +1,7 @@
 use Rattle.std.proofs.Common.{◌≡◌, ◌+◌, ℕ, replicate, length, sym, ap, ◌∙◌, arith}
 use Rattle.subset_layers.specs.Layers.{LayerOf, masks_of}
 use Rattle.layer_core.proofs.Lists.{length-same}
-use Rattle.layer_core.specs.Settings.{setting_of}
+use Rattle.layer_core.specs.Instances.{instance_of}
 use Rattle.layer_board.specs.Views.{BriefOf}
 use Rattle.layer_board.proofs.Rule.{may_open}
 use Rattle.layer_core.proofs.Layouts.{few_masks_in}
@@ -11,7 +11,7 @@ pub of_words-requires : goal.of_words-requires
 of_words-requires c =
     let b : BriefOf =
     record {
-      setting = setting_of c.of.result.value c.of-2.result.value c.args.limit;
+      instance = instance_of c.of.result.value c.of-2.result.value c.args.limit;
       layer = c.of-3.result.value;
       workers = c.args.workers;
     } in

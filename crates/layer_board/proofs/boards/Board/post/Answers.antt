@@ -3,7 +3,7 @@ use Rattle.std.proofs.lemmas.Option.{slice_get_within}
 use Rattle.subset_layers.specs.Layers.{masks_of}
 use Rattle.layer_board.specs.declared.seats.BoardSeat.TheInside.{Inside}
 use Rattle.layer_board.specs.Views.{knows_filled, has_claimed, learned}
-use Rattle.layer_board.specs.Picture.{cell_in}
+use Rattle.layer_board.specs.Invariant.{cell_in}
 use Rattle.layer_board.specs.Held.{seat_shown}
 use Rattle.layer_core.proofs.Layouts.{missing_if}
 use Rattle.layer_board.proofs.Words.{word_back}
@@ -74,7 +74,7 @@ compare_exchange-found-requires c =
           mine c.word_of_cell-word.ensures.cell
           (ap cell_in c.word_of_cell-word.ensures.word ∙ word_back c.args.cell.cell c.word_of_cell-word.ensures.variable)
           (cell_there b s c.args.self.now c.args.seat.now c.self.invariant c.seat.invariant c.self.view_is c.seat.view_is c.requires.board
-          c.mask.result c.in-Some.place is c.args.cell c.word_of_cell-word.ensures.right c.requires.setting (sym c.mask.ensures)),
+          c.mask.result c.in-Some.place is c.args.cell c.word_of_cell-word.ensures.right c.requires.instance (sym c.mask.ensures)),
     )
 
 pub returns-then-found-eq0-clause-claimed : goal.returns-then-found-eq0-clause-claimed
@@ -90,24 +90,24 @@ returns-then-found-eq0-clause-claimed c =
 pub returns-then-found-eq0-clause-filled : goal.returns-then-found-eq0-clause-filled
 returns-then-found-eq0-clause-filled c =
     let b = c.self.inside in let s = c.seat.inside in let is = c.in-Some.ensures.found in
-    let new : Inside = record { seat = c.compare_exchange-found.new.seat; claims = s.claims; told = s.told } in
+    let new : Inside = record { seat = c.compare_exchange-found.new.seat; claims = s.claims; ended = s.ended } in
     let e = c.compare_exchange-found.ensures in
-    let told = posted_at b.table.shared.table_id.slots c.in-Some.place 0 c.word_of_cell-word.result c.compare_exchange-found.result
+    let ended = posted_at b.table.shared.table_id.slots c.in-Some.place 0 c.word_of_cell-word.result c.compare_exchange-found.result
     s.seat.me c.compare_exchange-found.new.seat.me e.2 in
     after_learning b s c.args.self.now c.args.seat.now c.self.invariant c.seat.invariant c.self.view_is c.seat.view_is c.requires.board
-    c.mask.result c.in-Some.place is new 1 e.0 (told.0 c.if-found-eq0.true)
+    c.mask.result c.in-Some.place is new 1 e.0 (ended.0 c.if-found-eq0.true)
     ∙ ap (λ (m : ℕ). learned c.args.seat.now m 1) c.mask.ensures
 
 pub returns-then-found-eq0-clause-known : goal.returns-then-found-eq0-clause-known
 returns-then-found-eq0-clause-known c =
     let b = c.self.inside in let s = c.seat.inside in let is = c.in-Some.ensures.found in
-    let new : Inside = record { seat = c.compare_exchange-found.new.seat; claims = s.claims; told = s.told } in
+    let new : Inside = record { seat = c.compare_exchange-found.new.seat; claims = s.claims; ended = s.ended } in
     let e = c.compare_exchange-found.ensures in
-    let told = posted_at b.table.shared.table_id.slots c.in-Some.place 0 c.word_of_cell-word.result c.compare_exchange-found.result
+    let ended = posted_at b.table.shared.table_id.slots c.in-Some.place 0 c.word_of_cell-word.result c.compare_exchange-found.result
     s.seat.me c.compare_exchange-found.new.seat.me e.2 in
     λ _. subst (λ (m : ℕ). knows_filled (seat_shown new) m ≡ true) c.mask.ensures
     (knows_after b s c.args.self.now c.args.seat.now c.self.invariant c.seat.invariant c.self.view_is c.seat.view_is c.requires.board
-    c.mask.result c.in-Some.place is new 1 e.0 (told.0 c.if-found-eq0.true))
+    c.mask.result c.in-Some.place is new 1 e.0 (ended.0 c.if-found-eq0.true))
 
 pub returns-clause-refused : goal.returns-clause-refused
 returns-clause-refused c =
@@ -115,11 +115,11 @@ returns-clause-refused c =
     let mine = marked b s c.args.self.now c.args.seat.now c.self.invariant c.seat.invariant c.self.view_is c.seat.view_is c.requires.board
     c.mask.result c.in-Some.place is c.block_place.result c.index.result.now true c.block_place.ensures.place
     c.block_place.ensures.below c.index.ensures c.if-not-index.false in
-    let new : Inside = record { seat = c.compare_exchange-found.new.seat; claims = s.claims; told = s.told } in
+    let new : Inside = record { seat = c.compare_exchange-found.new.seat; claims = s.claims; ended = s.ended } in
     let e = c.compare_exchange-found.ensures in
-    let told = posted_at b.table.shared.table_id.slots c.in-Some.place 0 c.word_of_cell-word.result c.compare_exchange-found.result
+    let ended = posted_at b.table.shared.table_id.slots c.in-Some.place 0 c.word_of_cell-word.result c.compare_exchange-found.result
     s.seat.me c.compare_exchange-found.new.seat.me e.2 in
-    let full = told.1 c.if-found-eq0.false in (
+    let full = ended.1 c.if-found-eq0.false in (
       ap (has_claimed c.args.seat.now) (sym c.mask.ensures)
           ∙ (claimed_there b s c.args.self.now c.args.seat.now c.self.invariant c.seat.invariant c.self.view_is c.seat.view_is
           c.requires.board c.mask.result c.in-Some.place is
@@ -135,11 +135,11 @@ returns-clause-refused c =
 pub returns-clause-known : goal.returns-clause-known
 returns-clause-known c =
     let b = c.self.inside in let s = c.seat.inside in let is = c.in-Some.ensures.found in
-    let new : Inside = record { seat = c.compare_exchange-found.new.seat; claims = s.claims; told = s.told } in
+    let new : Inside = record { seat = c.compare_exchange-found.new.seat; claims = s.claims; ended = s.ended } in
     let e = c.compare_exchange-found.ensures in
-    let told = posted_at b.table.shared.table_id.slots c.in-Some.place 0 c.word_of_cell-word.result c.compare_exchange-found.result
+    let ended = posted_at b.table.shared.table_id.slots c.in-Some.place 0 c.word_of_cell-word.result c.compare_exchange-found.result
     s.seat.me c.compare_exchange-found.new.seat.me e.2 in
-    let full = told.1 c.if-found-eq0.false in
+    let full = ended.1 c.if-found-eq0.false in
     λ _. subst (λ (m : ℕ). knows_filled (seat_shown new) m ≡ true) c.mask.ensures
     (still_known b s c.args.self.now c.args.seat.now c.self.invariant c.seat.invariant c.self.view_is c.seat.view_is c.requires.board
     c.mask.result c.in-Some.place is new 0 e.0 full.0 full.1)

@@ -4,7 +4,7 @@ use Rattle.subset_layers.specs.Layers.{masks_of}
 use Rattle.layer_board.specs.declared.seats.BoardSeat.TheInside.{Inside}
 use Rattle.layer_core.proofs.Layouts.{missing_if}
 use Rattle.layer_board.proofs.Rule.{may_read_at, read_at}
-use Rattle.layer_board.proofs.Seated.{same_table, seen_setting, missing_unknown, missing_empty, has_word, mask_there, known_there, after_learning, knows_after, after_none, still_there}
+use Rattle.layer_board.proofs.Seated.{same_table, seen_instance, missing_unknown, missing_empty, has_word, mask_there, known_there, after_learning, knows_after, after_none, still_there}
 use Rattle.layer_board.proofs.boards.Board.read.Goals as goal
 
 pub returns-in_default-clause-unknown : goal.returns-in_default-clause-unknown
@@ -35,29 +35,29 @@ returns-then-found-eq0-clause-unknown c = grind (arith, read_at, known_there)
 pub returns-then-found-eq0-clause-empty : goal.returns-then-found-eq0-clause-empty
 returns-then-found-eq0-clause-empty c =
     let b = c.self.inside in let s = c.seat.inside in let is = c.in-Some.ensures.found in
-    let new : Inside = record { seat = c.load-found.new.seat; claims = s.claims; told = s.told } in let e = c.load-found.ensures in
-    let told = read_at b.table.shared.table_id.slots c.in-Some.place 0 0 c.load-found.result s.seat.me c.load-found.new.seat.me e.2 in
+    let new : Inside = record { seat = c.load-found.new.seat; claims = s.claims; ended = s.ended } in let e = c.load-found.ensures in
+    let ended = read_at b.table.shared.table_id.slots c.in-Some.place 0 0 c.load-found.result s.seat.me c.load-found.new.seat.me e.2 in
     λ _. after_none b s c.args.self.now c.args.seat.now c.self.invariant c.seat.invariant c.self.view_is c.seat.view_is c.requires
-    c.args.mask c.in-Some.place is new 0 e.0 (told.0 c.if-found-eq0.true).0
+    c.args.mask c.in-Some.place is new 0 e.0 (ended.0 c.if-found-eq0.true).0
 
 pub returns-clause-cell : goal.returns-clause-cell
-returns-clause-cell c = grind (arith, read_at, seen_setting, mask_there)
+returns-clause-cell c = grind (arith, read_at, seen_instance, mask_there)
 
 pub returns-clause-learned : goal.returns-clause-learned
 returns-clause-learned c =
     let b = c.self.inside in let s = c.seat.inside in let is = c.in-Some.ensures.found in
-    let new : Inside = record { seat = c.load-found.new.seat; claims = s.claims; told = s.told } in let e = c.load-found.ensures in
-    let told = read_at b.table.shared.table_id.slots c.in-Some.place 0 0 c.load-found.result s.seat.me c.load-found.new.seat.me e.2 in
+    let new : Inside = record { seat = c.load-found.new.seat; claims = s.claims; ended = s.ended } in let e = c.load-found.ensures in
+    let ended = read_at b.table.shared.table_id.slots c.in-Some.place 0 0 c.load-found.result s.seat.me c.load-found.new.seat.me e.2 in
     after_learning b s c.args.self.now c.args.seat.now c.self.invariant c.seat.invariant c.self.view_is c.seat.view_is c.requires
-    c.args.mask c.in-Some.place is new 0 e.0 (told.1 c.if-found-eq0.false).0
+    c.args.mask c.in-Some.place is new 0 e.0 (ended.1 c.if-found-eq0.false).0
 
 pub returns-clause-known : goal.returns-clause-known
 returns-clause-known c =
     let b = c.self.inside in let s = c.seat.inside in let is = c.in-Some.ensures.found in
-    let new : Inside = record { seat = c.load-found.new.seat; claims = s.claims; told = s.told } in let e = c.load-found.ensures in
-    let told = read_at b.table.shared.table_id.slots c.in-Some.place 0 0 c.load-found.result s.seat.me c.load-found.new.seat.me e.2 in
+    let new : Inside = record { seat = c.load-found.new.seat; claims = s.claims; ended = s.ended } in let e = c.load-found.ensures in
+    let ended = read_at b.table.shared.table_id.slots c.in-Some.place 0 0 c.load-found.result s.seat.me c.load-found.new.seat.me e.2 in
     knows_after b s c.args.self.now c.args.seat.now c.self.invariant c.seat.invariant c.self.view_is c.seat.view_is c.requires c.args.mask
-    c.in-Some.place is new 0 e.0 (told.1 c.if-found-eq0.false).0
+    c.in-Some.place is new 0 e.0 (ended.1 c.if-found-eq0.false).0
 
 pub returns-then-found-eq0-clause-board : goal.returns-then-found-eq0-clause-board
 returns-then-found-eq0-clause-board c = grind (arith, read_at, still_there)

@@ -1,6 +1,6 @@
 use Rattle.std.proofs.Common.{sym, ap, ◌∙◌, arith}
 use Rattle.layer_board.specs.Views.{BoardId}
-use Rattle.layer_board.specs.Picture.{Sat}
+use Rattle.layer_board.specs.Invariant.{Sat}
 use Rattle.layer_board.proofs.Rule.{may_split}
 use Rattle.layer_board.proofs.boards.Board.seats.Goals as goal
 

@@ -3,7 +3,7 @@ use Rattle.std.specs.Slots.{slots_items}
 use mathlib.Core.Option.{some}
 use lib.ListN.{get_elem?}
 use Rattle.layer_board.specs.Views.{ClosedBoardOf}
-use Rattle.layer_board.specs.Picture.{IsCellWord, cell_in, cell_words}
+use Rattle.layer_board.specs.Invariant.{IsCellWord, cell_in, cell_words}
 use Rattle.layer_board.proofs.Words.{cell_found, cell_shown, full_word, empty_word}
 use Rattle.layer_board.proofs.closed.ClosedBoard.cell_at.Goals as goal
 

@@ -21,9 +21,9 @@ index_mut-requires-then-block-blocks c =
 pub invariant_of-self : goal.invariant_of-self
 invariant_of-self c =
     let x = c.self.inside in let low = has_marks x c.args.self.now c.args.worker c.self.view_is c.requires in let m : Marks = c.index_mut.result.now in
-    let untold : m.told ≡ false =
+    let untold : m.ended ≡ false =
     grind (arith, same_there) in
-    let after : Marks = record { claims = with_item m.claims x.counter true; known = m.known; told = m.told } in (
+    let after : Marks = record { claims = with_item m.claims x.counter true; known = m.known; ended = m.ended } in (
       sound_step (shown x) (shown_with x (x.counter + 1) x.cells.items c.args.worker after) (Claimed x.counter) (Claim c.args.worker)
           (drawn x c.self.invariant c.args.worker m low c.index_mut.ensures.value after refl untold
           (omega arith))
@@ -39,9 +39,9 @@ pub invariant_of-self-else-block-blocks : goal.invariant_of-self-else-block-bloc
 invariant_of-self-else-block-blocks c =
     let x = c.self.inside in let low = has_marks x c.args.self.now c.args.worker c.self.view_is c.requires in
     let m : Marks = c.index_mut-else-block-blocks.result.now in
-    let untold : m.told ≡ false =
+    let untold : m.ended ≡ false =
     grind (arith, same_there) in
-    let after : Marks = record { claims = m.claims; known = m.known; told = true } in (
+    let after : Marks = record { claims = m.claims; known = m.known; ended = true } in (
       sound_step (shown x) (shown_with x (x.counter + 1) x.cells.items c.args.worker after) NoMore (Claim c.args.worker)
           (ended x c.self.invariant c.args.worker m low c.index_mut-else-block-blocks.ensures.value after refl untold
           (omega arith))

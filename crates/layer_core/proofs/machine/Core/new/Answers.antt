@@ -4,7 +4,7 @@ use Rattle.layer_core.specs.Machine.{blank, opening}
 use Rattle.layer_core.specs.Rights.{Right}
 use Rattle.layer_core.proofs.Starts.{right_opening}
 use Rattle.layer_core.specs.declared.machine.Core.TheInside.{Inside}
-use Rattle.layer_core.specs.Settings.{layout_of}
+use Rattle.layer_core.specs.Instances.{layout_of}
 use Rattle.layer_core.specs.Marked.{marks_of}
 use Rattle.layer_core.proofs.CoreSteps.{opened, opened_workers}
 use Rattle.layer_core.proofs.Layouts.{laid}

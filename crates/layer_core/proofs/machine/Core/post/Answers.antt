@@ -4,7 +4,7 @@ use Rattle.std.proofs.lemmas.Option.{slice_get_within}
 use Rattle.subset_layers.specs.Layers.{masks_of}
 use Rattle.layer_core.specs.Machine.{World, Post, Posted, Stranger, learns, step}
 use Rattle.layer_core.specs.declared.machine.Marks.{Marks}
-use Rattle.layer_core.specs.Settings.{layout_of}
+use Rattle.layer_core.specs.Instances.{layout_of}
 use Rattle.layer_core.specs.Pairing.{pair_of}
 use Rattle.layer_core.specs.Marked.{marks_of}
 use Rattle.layer_core.specs.Shown.{shown}
@@ -73,7 +73,7 @@ invariant_of-self c =
     c.index-2.ensures c.if-not-index.false in
     let m2 : Marks = c.index_mut-2.result.now in
     let same : m ≡ m2 = search same_there in
-    let after : Marks = record { claims = m2.claims; known = with_item m2.known p true; told = m2.told } in
+    let after : Marks = record { claims = m2.claims; known = with_item m2.known p true; ended = m2.ended } in
     let new : marks_of after ≡ learns (marks_of m) p = λ i. learns (marks_of (sym same i)) p in
     let empty = is_there x.cells.items p c.index-3.result.now None c.index-3.ensures c.in-None.is in (
       sound_step (shown x) (shown_with x x.counter (set x.cells.items p (Some c.args.cell)) c.args.worker after) Posted

@@ -2,7 +2,7 @@ use Rattle.std.proofs.Common.{◌≢◌, ◌<◌, length, get_or, map, set, sym,
 use Rattle.std.proofs.lemmas.Bool.{cases_eq}
 use Rattle.std.proofs.lemmas.List.{get_or-set_same, get_or-set_other, length-set}
 use Rattle.sifting.specs.declared.levels.Level.{Level}
-use Rattle.sifting.proofs.Held.{count_is, items_long, counts_get}
+use Rattle.sifting.proofs.ManagerFields.{count_is, items_long, counts_get}
 use Rattle.sifting.proofs.manager.Manager.level_counts.Goals as goal
 
 pub bounds-counts-place : goal.bounds-counts-place

@@ -1,7 +1,7 @@
 use Rattle.std.proofs.Common.{subst}
 use Rattle.sifting.specs.LevelLists.{nodes_of}
 use Rattle.sifting.specs.Managed.{IsManagedOrder}
-use Rattle.sifting.proofs.Held.{held_order}
+use Rattle.sifting.proofs.ManagerFields.{held_order}
 use Rattle.sifting.proofs.manager.Manager.order.Goals as goal
 
 pub returns-clause-managed : goal.returns-clause-managed

@@ -3,7 +3,7 @@ use Rattle.std.specs.List.{sum_by}
 use Rattle.std.proofs.lemmas.List.{take_all}
 use Rattle.std.proofs.lemmas.List.Sums.{sum_by_more_le, sum_by_more}
 use Rattle.sifting.specs.declared.levels.Level.{Level}
-use Rattle.sifting.proofs.Held.{sum_small, sum_is_size, held_order}
+use Rattle.sifting.proofs.ManagerFields.{sum_small, sum_is_size, held_order}
 use Rattle.sifting.specs.LevelLists.{nodes_of}
 use Rattle.sifting.specs.Managed.{IsManagedOrder}
 use Rattle.sifting.proofs.manager.Manager.size.Goals as goal

@@ -3,7 +3,7 @@ use Rattle.order_model.specs.Pairs.{has_pair}
 use Rattle.sifting.specs.declared.levels.Level.{Level}
 use Rattle.sifting.specs.Leveled.{Exchanges}
 use Rattle.sifting.specs.Managed.{Managed}
-use Rattle.sifting.proofs.Held.{length-nodes, upper_is, lower_is, upper_few, upper_inside, exchanged_held, exchanged_problem}
+use Rattle.sifting.proofs.ManagerFields.{length-nodes, upper_is, lower_is, upper_few, upper_inside, exchanged_held, exchanged_problem}
 use Rattle.sifting.proofs.manager.Manager.swap.Goals as goal
 
 pub index-requires : goal.index-requires

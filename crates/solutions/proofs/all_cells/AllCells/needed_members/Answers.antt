@@ -3,34 +3,34 @@ use Rattle.order_model.specs.KeptPairs.{KeptPairs}
 use Rattle.order_model.specs.Orders.{mask_of, members}
 use Rattle.order_model.specs.Pairs.{is_lawful}
 use Rattle.order_model.specs.Cells.{asked}
-use Rattle.order_model.specs.declared.reserve.Reserve.{Reserve}
-use Rattle.order_model.specs.declared.reserve.Limit.{Limit}
-use Rattle.layer_core.specs.Settings.{Setting}
+use Rattle.order_model.specs.declared.bounds_above.BoundAbove.{BoundAbove}
+use Rattle.order_model.specs.declared.bounds_above.Limit.{Limit}
+use Rattle.layer_core.specs.Instances.{Instance}
 use Rattle.solutions.specs.Solutions.{cost_for_without}
 use Rattle.solutions.proofs.Wanted.{needed_lawful, needed_unlawful}
 use Rattle.solutions.proofs.all_cells.AllCells.needed_members.Goals as goal
 
 -- whether a set is lawful, as the pairs say
-lawful_as : (s t : Setting) (pairs : KeptPairs) (mask : ℕ) (lawful : Bool) → s ≡ t → pairs ≡ s.pairs → pairs.inputs ≡ s.problem.inputs →
+lawful_as : (s t : Instance) (pairs : KeptPairs) (mask : ℕ) (lawful : Bool) → s ≡ t → pairs ≡ s.pairs → pairs.inputs ≡ s.problem.inputs →
     lawful ≡ is_lawful pairs.pairs (members pairs.inputs mask) → is_lawful t.pairs.pairs (members t.problem.inputs mask) ≡ lawful
 lawful_as s t pairs mask lawful same value inputs is =
     sym (is ∙ ap₂ (λ (k : KeptPairs) n. is_lawful k.pairs (members n mask)) value inputs
-    ∙ ap (λ (z : Setting). is_lawful z.pairs.pairs (members z.problem.inputs mask)) same)
+    ∙ ap (λ (z : Instance). is_lawful z.pairs.pairs (members z.problem.inputs mask)) same)
 
 pub returns-then-lawful : goal.returns-then-lawful
 returns-then-lawful c =
     let t = c.args.self.now in
     let mask = c.args.mask in
     let costs = cost_for_without t mask in
-    let reserve : c.limit.result.reserve ≡ t.reserve = ap (λ (l : Limit). l.reserve) c.limit.ensures ∙ ap (λ (z : Setting). z.reserve) c.self.view_is in
-    let low = lawful_as c.self.inside.setting.now t c.pairs.result.now mask c.lawful.result c.self.view_is c.pairs.ensures.value c.pairs.ensures.inputs
+    let bound_above : c.limit.result.bound_above ≡ t.bound_above = ap (λ (l : Limit). l.bound_above) c.limit.ensures ∙ ap (λ (z : Instance). z.bound_above) c.self.view_is in
+    let low = lawful_as c.self.inside.instance.now t c.pairs.result.now mask c.lawful.result c.self.view_is c.pairs.ensures.value c.pairs.ensures.inputs
     c.lawful.ensures ∙ c.if-lawful.true in
     c.asked_members.ensures t.problem.inputs t.bound costs c.affordable_members-known.ensures c.requires
-    ∙ ap (λ (r : Reserve). mask_of (asked t.problem.inputs r t.bound mask costs)) reserve
+    ∙ ap (λ (r : BoundAbove). mask_of (asked t.problem.inputs r t.bound mask costs)) bound_above
     ∙ needed_lawful t costs mask (λ x m. refl) low
 
 pub returns-else-lawful : goal.returns-else-lawful
 returns-else-lawful c =
     needed_unlawful c.args.self.now c.args.mask
-    (lawful_as c.self.inside.setting.now c.args.self.now c.pairs.result.now c.args.mask c.lawful.result c.self.view_is c.pairs.ensures.value
+    (lawful_as c.self.inside.instance.now c.args.self.now c.pairs.result.now c.args.mask c.lawful.result c.self.view_is c.pairs.ensures.value
     c.pairs.ensures.inputs c.lawful.ensures ∙ c.if-lawful.false)

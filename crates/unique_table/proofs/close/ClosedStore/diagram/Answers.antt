@@ -7,7 +7,7 @@ use Rattle.node_words.specs.Nodes.{IsKnown}
 use Rattle.node_words.specs.Meaning.{function_of}
 use Rattle.unique_table.specs.declared.close.ClosedStore.TheInside as closed
 use Rattle.unique_table.specs.Plans.{order_of, levels_of}
-use Rattle.unique_table.specs.Picture.{nodes_of}
+use Rattle.unique_table.specs.Invariant.{nodes_of}
 use Rattle.unique_table.specs.Closed.{closed_store, IsClosedStore}
 use Rattle.unique_table.specs.Closing.{ClosedStoreOf, AreFinal}
 use Rattle.unique_table.proofs.Roots.{ids_known, ids_represent}

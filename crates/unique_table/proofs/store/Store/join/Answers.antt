@@ -26,8 +26,8 @@ returns-clause-two c =
     (subst (IsNoLess c.two.inside.seat.me.0.stake)
     (sym (c.look.ensures.step.view.stake ∙ ap (λ (m : M). m.0.stake) c.join_seat.ensures.2))
     (no_less_second c.one.inside.seat.me.0.stake c.two.inside.seat.me.0.stake))
-    (subst (λ (m : M). Grows m.0.told c.look.new.seat.me.0.seen) c.join_seat.ensures.2 c.look.ensures.step.view.told)
-    (subst (λ (m : M). Grows m.0.pieces_told c.look.new.seat.me.0.pieces) c.join_seat.ensures.2 c.look.ensures.step.view.pieces_told)
+    (subst (λ (m : M). Grows m.0.received c.look.new.seat.me.0.seen) c.join_seat.ensures.2 c.look.ensures.step.view.received)
+    (subst (λ (m : M). Grows m.0.pieces_received c.look.new.seat.me.0.pieces) c.join_seat.ensures.2 c.look.ensures.step.view.pieces_received)
 
 pub returns-clause-unique : goal.returns-clause-unique
 returns-clause-unique c = unique_ids c.self.inside c.self.invariant c.look.new.seat c.look.ensures.step.seat

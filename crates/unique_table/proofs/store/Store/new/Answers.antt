@@ -1,7 +1,7 @@
 use Rattle.std.proofs.Common.{ℕ, ◌+◌, List, [], rules, sym, refl, subst}
 use Rattle.atomic_table.specs.Table.{opening}
 use Rattle.unique_table.specs.declared.plan.Plan.{Plan}
-use Rattle.unique_table.specs.Picture.{IsKept, newcomer}
+use Rattle.unique_table.specs.Invariant.{IsKept, newcomer}
 use Rattle.unique_table.proofs.Starts.{starts}
 use Rattle.unique_table.proofs.store.Store.new.Goals as goal
 

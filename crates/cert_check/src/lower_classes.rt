@@ -1,0 +1,57 @@
+//! Lower bounds on the widths after adding one variable. Distinct lower classes belong to distinct
+//! pairs, so there are at least as many pairs as lower classes, and no pair is numbered.
+
+ghost use Rattle.std.specs.Prelude.{◌≡◌, ℕ, ◌<◌, ◌≤◌, ◌^◌, length, slice_index, IfOk, IsTrue};
+ghost use Rattle.subfunction_classes.specs.PairTables.{IsPairTable};
+ghost use Rattle.subfunction_classes.specs.Places as places;
+ghost use Rattle.cert_check.specs.LowerClasses.{AreLowerMasks, pairs_with};
+
+use order_model::VarIx;
+use pair_chains::pair_at;
+use std::alloc::{AllocError, Global};
+use subfunction_classes::{count_with, join_mask};
+
+/// For each class the masks of the pairs whose lower class it is, joined.
+fn lower_masks(
+    alloc: Global,
+    numbers: &[u32],
+    x: VarIx,
+    masks: &[u16],
+) -> Result<Vec<u16>, AllocError>
+    requires { IsPairTable numbers.now x (length masks.now) }
+    ensures long { IfOk result (λ v. length v.items ≡ length masks.now) }
+    ensures labels { IfOk result
+        (λ v. AreLowerMasks masks.now x (places.pairs numbers.now (2 ^ x)) v.items) }
+{
+    let mut labels = vec![in alloc; 0u16; masks.len()]?;
+    for j in 0..numbers.len() / 2 {
+        let pair = pair_at(numbers, x, j);
+        labels[pair.0 as usize] |= join_mask(masks, x, pair);
+    }
+    Ok(labels)
+}
+
+/// Whether the lower classes show, for each variable, that as many distinct pairs as are needed have
+/// it in their masks.
+pub(crate) fn are_wide(
+    alloc: Global,
+    numbers: &[u32],
+    masks: &[u16],
+    x: VarIx,
+    needed: &[u32],
+) -> Result<bool, AllocError>
+    requires table { IsPairTable numbers.now x (length masks.now) }
+    requires few { length masks.now ≤ 2 ^ 20 }
+    requires variables { length needed.now ≤ 16 }
+    ensures { IfOk result
+        (λ wide. IsTrue wide → (y : ℕ) → slice_index needed.now y ≤ pairs_with masks.now x y
+        (places.pairs numbers.now (2 ^ x))) }
+{
+    let labels = lower_masks(alloc, numbers, x, masks)?;
+    for y in 0..needed.len() {
+        if needed[y] > 0 && count_with(&labels, y as VarIx) < needed[y] {
+            return Ok(false);
+        }
+    }
+    Ok(true)
+}

@@ -1,0 +1,41 @@
+-- What cells are for, a layer as the machine has it, and what contracts see of a result.
+--     Instance, instance_of problem pairs limit, cell_for t mask      what cells are for; the cell of a mask
+--     layout_of l      the masks and blocks of a layer
+--     ResultOf      the cell of a mask
+use Rattle.std.specs.Prelude.{ℕ, map, length}
+use Rattle.std.specs.List.{range_with_len}
+use Rattle.order_model.specs.Cells.{cell_of}
+use Rattle.order_model.specs.Problems.{TruthTables, functions}
+use Rattle.order_model.specs.declared.bounds_above.Limit.{Limit}
+use Rattle.order_model.specs.declared.bounds_above.BoundAbove.{BoundAbove}
+use Rattle.order_model.specs.KeptPairs.{KeptPairs}
+use Rattle.subset_layers.specs.Layers.{LayerOf, masks_of, blocks_of, block_place}
+use Rattle.layer_core.specs.Machine.{Layout}
+
+-- what cells are for: the functions, the pairs that an order must keep, the lower bound on the nodes above a set, and the bound
+pub record Instance : Type 0 where
+  pub problem : TruthTables
+  pub pairs : KeptPairs
+  pub bound_above : BoundAbove
+  pub bound : ℕ
+
+abbrev pub instance_of : TruthTables → KeptPairs → Limit → Instance
+instance_of problem pairs limit = record { problem = problem; pairs = pairs; bound_above = limit.bound_above; bound = limit.bound }
+
+-- the cell (cost, variable) of a mask
+abbrev pub cell_for : Instance → ℕ → ℕ × ℕ
+cell_for t mask = cell_of t.problem.inputs (functions t.problem) t.pairs.pairs t.bound_above t.bound mask
+
+-- the masks of a layer, and their blocks
+abbrev pub layout_of : LayerOf → Layout
+layout_of l = record {
+  masks = masks_of l;
+  block_of = map (block_place l) (range_with_len 0 (length (masks_of l)));
+  blocks = length (blocks_of l);
+}
+
+-- a mask with its cell, and what the cell is for
+pub record ResultOf : Type 0 where
+  pub instance : Instance
+  pub mask : ℕ
+  pub cell : ℕ × ℕ

@@ -1,0 +1,13 @@
+use Rattle.std.proofs.Common.{◌≡◌, ◌^◌, ◌<◌, map, max}
+use Rattle.std.specs.List.{fold}
+use Rattle.order_model.specs.Orders.{members}
+use Rattle.order_model.specs.Problems.{functions}
+use Rattle.order_model.specs.BoundsAbove.{asked_by, AreMembersWidths}
+use Rattle.order_model.proofs.bounds_above.BoundsAbove.most_asked.Given as goal
+
+abbrev pub invariant-loop-x : goal.invariant-loop-x
+invariant-loop-x l = record {
+  few : l.most < 2 ^ 33;
+  most : AreMembersWidths l.self.problem l.mask l.widths →
+      l.most ≡ fold max l.least (map (asked_by l.self.problem.inputs (functions l.self.problem) (members l.self.problem.inputs l.mask)) (members l.x l.mask));
+}

@@ -1,5 +1,0 @@
-use Rattle.solutions.proofs.ListedSets.{ListedTo}
-use Rattle.solutions.proofs.listing.listed_cells.Given as goal
-
-abbrev pub invariant-loop-number : goal.invariant-loop-number
-invariant-loop-number l = ListedTo l.cells l.total l.number l.found.items

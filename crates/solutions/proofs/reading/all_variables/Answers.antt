@@ -1,5 +1,0 @@
-use Rattle.solutions.proofs.reading.all_variables.Goals as goal
-use Rattle.order_model.proofs.Bits.Masks.{all_ones}
-
-pub returns : goal.returns
-returns c = all_ones c.args.inputs c.requires.few

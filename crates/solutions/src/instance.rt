@@ -1,0 +1,106 @@
+//! What a search is for.
+
+ghost use Rattle.std.specs.Prelude.{◌≡◌, ◌+◌, ◌^◌, ◌<◌, ◌≤◌};
+
+use layer_core::CellResult;
+use order_model::{Limit, Mask, Pairs, Problem, BoundsAbove};
+use std::marker::Model;
+use subset_layers::Cell;
+
+/// What a search is for: the functions, the pairs that an order must keep, and what clips its
+/// cells: the bound, and the lower bound on the nodes above a set.
+#[derive(Drop)]
+pub struct Instance<'a> {
+    pub problem: &'a Problem,
+    pub pairs: &'a Pairs,
+    pub limit: Limit,
+    pub bounds_above: BoundsAbove<'a>,
+}
+
+impl<'a> Model for Instance<'a> {
+    ghost use Rattle.layer_core.specs.Instances.{Instance, instance_of};
+    ghost use Rattle.solutions.specs.Instances.{HoldsInstance};
+
+    ghost Value = { Instance };
+
+    ghost view = { λ s. instance_of s.problem.now s.pairs.now s.limit };
+
+    ghost invariant = { λ s. HoldsInstance
+        (instance_of s.problem.now s.pairs.now s.limit) s.bounds_above };
+}
+
+impl<'a> Instance<'a> {
+    ghost use Rattle.order_model.specs.Problems.{functions};
+    ghost use Rattle.order_model.specs.Widths.{essential_mask};
+    ghost use Rattle.order_model.specs.BoundsAbove.{bounds_above_with};
+    ghost use Rattle.layer_core.specs.Pairing.{pair_of};
+    ghost use Rattle.layer_core.specs.Instances.{cell_for, instance_of};
+
+    /// The pairs are of the functions' variables.
+    pub fn new(problem: &'a Problem, pairs: &'a Pairs, limit: Limit) -> Instance<'a>
+        requires pairs { pairs.now.inputs ≡ problem.now.inputs }
+        requires room { limit.bound + 1 < 2 ^ 32 }
+        ensures { result ≡ instance_of problem.now pairs.now limit }
+    {
+        prove!(problem.inputs() <= 16);
+        Instance {
+            problem,
+            pairs,
+            limit,
+            bounds_above: BoundsAbove::new(problem, limit.bound_above),
+        }
+    }
+
+    /// The number of variables.
+    pub fn inputs(&self) -> u8
+        ensures value { result ≡ self.now.problem.inputs }
+        ensures some { 1 ≤ result }
+        ensures few { result ≤ 16 }
+    {
+        self.problem.inputs()
+    }
+
+    /// The functions.
+    pub fn problem(&self) -> &Problem
+        ensures { result.now ≡ self.now.problem }
+    {
+        self.problem
+    }
+
+    /// The pairs that an order must keep.
+    pub fn pairs(&self) -> &Pairs
+        ensures value { result.now ≡ self.now.pairs }
+        ensures inputs { result.now.inputs ≡ self.now.problem.inputs }
+    {
+        self.pairs
+    }
+
+    /// The bound, and the lower bound on the nodes above a set.
+    pub fn limit(&self) -> Limit
+        ensures { result ≡ record { bound = self.now.bound; bound_above = self.now.bound_above } }
+    {
+        self.limit
+    }
+
+    /// The lower bound on the nodes above the sets.
+    pub fn bounds_above(&self) -> &BoundsAbove<'a>
+        ensures { result.now ≡ bounds_above_with self.now.problem self.now.bound_above }
+    {
+        &self.bounds_above
+    }
+
+    /// The set of the variables on which some function depends.
+    pub fn essential(&self) -> Mask
+        ensures { result ≡ essential_mask self.now.problem.inputs (functions self.now.problem) }
+    {
+        self.bounds_above.essential()
+    }
+
+    /// The result of a set whose cell is found.
+    pub fn result(&self, mask: Mask, cell: Cell) -> CellResult
+        requires { pair_of cell ≡ cell_for self.now mask }
+        ensures { result ≡ record { instance = self.now; mask = mask; cell = pair_of cell } }
+    {
+        CellResult::new(self.problem, self.limit, mask, cell, self.pairs)
+    }
+}

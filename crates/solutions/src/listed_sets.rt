@@ -1,0 +1,55 @@
+//! What a certificate lists of the cells, and how many widths they take.
+
+ghost use Rattle.std.specs.Prelude.{◌≡◌, ◌<◌, ◌≤◌, ℕ, count_ones, IfOk, List};
+ghost use Rattle.order_model.specs.Functions.{Function};
+ghost use Rattle.order_model.specs.Orders.{members};
+ghost use Rattle.order_model.specs.Widths.{essential_mask, essentials_outside};
+ghost use Rattle.order_model.specs.declared.bounds_above.BoundAbove.TheVariants.{Variables};
+ghost use Rattle.solutions.specs.Solutions.{AreListedFor, widths_for_all};
+
+use crate::all_cells::AllCells;
+use order_model::{ListedCell, Mask};
+use std::alloc::{AllocError, Global};
+
+/// How many of some variables are not in a set.
+fn count_outside(essential: Mask, mask: Mask) -> u32
+    ensures few { result ≤ 16 }
+    ensures exact { (n : ℕ) (F : List Function) → essential ≡ essential_mask n F →
+        result ≡ essentials_outside n F (members n mask) }
+{
+    (essential & !mask).count_ones()
+}
+
+/// The sets, without that of all variables, whose cost with one node for each essential variable
+/// outside is below the total.
+pub(crate) fn listed_cells(
+    alloc: Global,
+    cells: &AllCells<'_>,
+    total: u32,
+) -> Result<Vec<ListedCell>, AllocError>
+    requires within { total ≤ cells.now.bound }
+    requires bound_above { cells.now.bound_above ≡ Variables }
+    ensures { IfOk result (λ v. AreListedFor cells.now total v.items) }
+{
+    let essential = cells.essential();
+    let mut found = Vec::new(alloc);
+    for number in 0..(1u32 << cells.inputs()) - 1 {
+        let mask = number as Mask;
+        let cost = cells.cost(mask);
+        if u64::from(cost) + u64::from(count_outside(essential, mask)) < u64::from(total) {
+            found.push(ListedCell { mask, cost })?;
+        }
+    }
+    Ok(found)
+}
+
+/// How many widths the cells of all sets take.
+pub(crate) fn count_widths(cells: &AllCells<'_>) -> u64
+    ensures { result ≡ widths_for_all cells.now }
+{
+    let mut count = 0;
+    for number in 1..1u32 << cells.inputs() {
+        count += u64::from(cells.needed_members(number as Mask).count_ones());
+    }
+    count
+}
