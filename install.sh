@@ -83,11 +83,11 @@ documents() {
     put 755 share/minorder/optima "$top"/optima/{check_page,functions,make,permute}.py "$top/optima/league.sh"
     put 644 share/minorder/optima/html "$top"/optima/html/*
     put 755 $folder/examples "$top/examples/make_examples.py"
-    install -d "$made/tree/$folder"/{check,draw,bindings} "$made/tree/share/minorder/bindings"
+    install -d "$made/tree/$folder"/{scripts,bindings} "$made/tree/share/minorder/bindings"
     ln -s ../python "$made/tree/share/minorder/bindings/python"
     ln -s ../../minorder/optima "$made/tree/$folder/optima"
-    ln -s ../../../minorder/draw.py "$made/tree/$folder/draw/draw.py"
-    ln -s ../../../minorder/check.py "$made/tree/$folder/check/check.py"
+    ln -s ../../../minorder/draw.py "$made/tree/$folder/scripts/draw.py"
+    ln -s ../../../minorder/check.py "$made/tree/$folder/scripts/check.py"
     ln -s ../../../minorder/python "$made/tree/$folder/bindings/python"
 }
 
@@ -120,7 +120,7 @@ tree() {
     package_file
     manual
     documents
-    put 755 share/minorder "$top/draw/draw.py" "$top/check/check.py"
+    put 755 share/minorder "$top/scripts/draw.py" "$top/scripts/check.py"
     put 644 share/minorder/python "$top/bindings/python/pyproject.toml"
     put 644 share/minorder/python/backend "$top"/bindings/python/backend/*.py
     put 644 share/minorder/python/minorder "$top"/bindings/python/minorder/{*.py,py.typed}

@@ -5,7 +5,7 @@ import sys
 
 HERE = os.path.dirname(os.path.abspath(__file__))
 # where it is installed, draw.py lies a folder above
-sys.path[:0] = [f"{HERE}/../draw", f"{HERE}/.."]
+sys.path[:0] = [f"{HERE}/../scripts", f"{HERE}/.."]
 import draw  # noqa: E402
 
 MOST = 40

@@ -1,4 +1,4 @@
-"""The reader of PLA files and the faults of certificates beside sweeps/plain.py, reports, and values; none of it
+"""The reader of PLA files and the faults of certificates beside random_tests/plain.py, reports, and values; none of it
 calls the library.
 
     python3 -m unittest discover -s bindings/python/tests -p test_files.py
@@ -15,7 +15,7 @@ import unittest
 
 HERE = os.path.dirname(os.path.abspath(__file__))
 TOP = os.path.dirname(os.path.dirname(os.path.dirname(HERE)))
-sys.path[:0] = [os.path.dirname(HERE), f"{TOP}/sweeps"]
+sys.path[:0] = [os.path.dirname(HERE), f"{TOP}/random_tests"]
 
 import plain  # noqa: E402
 import random_texts  # noqa: E402

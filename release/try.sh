@@ -1,5 +1,5 @@
 #!/usr/bin/env bash
-# release.sh     tries the release that build/release.sh made, from an empty folder: its sums, the programs alone on the path, the
+# try.sh         tries the release that release/release.sh made, from an empty folder: its sums, the programs alone on the path, the
 #                library for C by pkg-config, the shared library from Python, the certificates of the table of optima; the tree of
 #                the Debian packages likewise, and what lintian says of them
 set -euo pipefail
@@ -7,7 +7,7 @@ top=$(cd "$(dirname "${BASH_SOURCE[0]}")/.." && pwd)
 version=$(< "$top/VERSION")
 made=$(mktemp -d)
 trap 'rm -rf "$made"' EXIT
-fail() { echo "sweeps/release.sh: $*" >&2; exit 1; }
+fail() { echo "release/try.sh: $*" >&2; exit 1; }
 has() { command -v "$1" > /dev/null || { echo "left out: no $1 here"; return 1; }; }
 
 # run NAME WORD..: a program with nothing else on the path

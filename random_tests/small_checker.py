@@ -22,7 +22,7 @@ import random_texts
 
 HERE = os.path.dirname(os.path.abspath(__file__))
 DATA = f"{HERE}/../crates/worked_cases/data"
-sys.path.append(f"{HERE}/../check")
+sys.path.append(f"{HERE}/../scripts")
 import check  # noqa: E402
 
 MOST_INPUTS = 6
@@ -84,7 +84,7 @@ class Comparison:
         self.seen[verdict.group() if verdict else f"status {ran.returncode}"] += 1
 
     def called(self, words):
-        ran = subprocess.run([sys.executable, f"{HERE}/../check/check.py", *words], capture_output=True, text=True)
+        ran = subprocess.run([sys.executable, f"{HERE}/../scripts/check.py", *words], capture_output=True, text=True)
         if ran.returncode in (0, 2):
             return ran.returncode, bool(ran.stdout), bool(ran.stderr)
         return ran.returncode, ran.stdout, ran.stderr.replace("check.py: ", "", 1)

@@ -12,9 +12,10 @@ import subprocess
 import sys
 import tempfile
 
-import tools
-
 TOP = os.path.dirname(os.path.dirname(os.path.abspath(__file__)))
+sys.path.append(f"{TOP}/build")
+import tools  # noqa: E402
+
 LEAST_LINES, MOST_LEMMAS, COLUMNS = 4, 8, 150
 TOKEN = re.compile(r"--[^\n]*|\s+|[(){}\[\],;]|[^\s(){}\[\],;]+")
 SIGNATURE = re.compile(r"^( *)(?:pub )?([^\s(){}\[\],;:=]+) : ")

@@ -1,7 +1,7 @@
 #!/usr/bin/env bash
-# check.sh PROGRAM     compares the level counts of PROGRAM's reports of all examples with those of the diagrams that draw.py makes
+# try_drawings.sh PROGRAM     compares the level counts of PROGRAM's reports of all examples with those of the diagrams that draw.py makes
 set -euo pipefail
-[ $# = 1 ] || { echo "usage: draw/check.sh PROGRAM" >&2; exit 1; }
+[ $# = 1 ] || { echo "usage: scripts/try_drawings.sh PROGRAM" >&2; exit 1; }
 here=$(cd "$(dirname "${BASH_SOURCE[0]}")" && pwd)
 made=$(mktemp -d)
 trap 'rm -rf "$made"' EXIT

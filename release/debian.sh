@@ -5,7 +5,7 @@
 set -euo pipefail
 umask 022
 top=$(cd "$(dirname "${BASH_SOURCE[0]}")/.." && pwd)
-[ $# = 2 ] || { echo "usage: build/debian.sh TREE FOLDER" >&2; exit 1; }
+[ $# = 2 ] || { echo "usage: release/debian.sh TREE FOLDER" >&2; exit 1; }
 . "$top/build/tools.sh"
 need dpkg-deb git gzip objdump
 tree=$1 folder=$2

@@ -22,9 +22,10 @@ import sys
 import tempfile
 import time
 
-import tools
-
 TOP = os.path.dirname(os.path.dirname(os.path.abspath(__file__)))
+sys.path.append(f"{TOP}/build")
+import tools  # noqa: E402
+
 TICKS = os.sysconf("SC_CLK_TCK")
 KINDS = ("proof", "tests", "edits")
 

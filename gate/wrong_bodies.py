@@ -1,5 +1,5 @@
 #!/usr/bin/env python3
-"""wrong_bodies.py      fails if a wrong body of build/wrong_bodies.csv isn't shown any more, or an edit changes no code
+"""wrong_bodies.py      fails if a wrong body of gate/wrong_bodies.csv isn't shown any more, or an edit changes no code
 
 A row of the list says what a wrong body does and what refuses it: an edit that the prover must refuse (CRATE), a test
 (CRATE/FUNCTION), a worked case (FILE/CASE), or a bound that the crate's functions do without (CRATE/BOUND)."""
@@ -14,7 +14,7 @@ from pathlib import Path
 TOP = Path(__file__).resolve().parent.parent
 CRATES = TOP / "crates"
 CASES = CRATES / "worked_cases"
-LIST = TOP / "build/wrong_bodies.csv"
+LIST = TOP / "gate/wrong_bodies.csv"
 
 
 class ShownBy(Enum):

@@ -12,11 +12,11 @@ fail() { echo "release.sh: $*" >&2; exit 1; }
 
 with_certificates=true
 [ "${1:-}" != --without-certificates ] || { with_certificates=false; shift; }
-[ $# = 1 ] || fail "usage: build/release.sh [--without-certificates] VERSION"
+[ $# = 1 ] || fail "usage: release/release.sh [--without-certificates] VERSION"
 need git gzip python3 tar
 version=$1
 [ "$version" = "$(< "$top/VERSION")" ] || fail "VERSION says $(< "$top/VERSION"), not $version"
-"$top/build/versions.sh" > /dev/null
+"$top/gate/versions.sh" > /dev/null
 commit=$(git -C "$top" rev-parse HEAD) || fail "no commit to name"
 changes=$(git -C "$top" status --porcelain)
 seconds=$(git -C "$top" log -1 --format=%ct)
@@ -50,7 +50,7 @@ packages() {
         return
     fi
     local packages
-    mapfile -t packages < <(SOURCE_DATE_EPOCH=$seconds "$top/build/debian.sh" "$made/$name" "$made")
+    mapfile -t packages < <(SOURCE_DATE_EPOCH=$seconds "$top/release/debian.sh" "$made/$name" "$made")
     ((${#packages[@]} == 4)) || fail "the Debian packages can't be made"
     files+=("${packages[@]}")
 }
@@ -58,10 +58,10 @@ packages() {
 # The certificates of the table of optima: those of an earlier run if all lie in optima/out, else made anew.
 certificates() {
     local room=$top/optima/out certificates=minorder-$version-certificates.tar.xz
-    if ! "$top/build/certificates.py" "$room/table" "$made/$certificates" "$seconds" 2> /dev/null; then
+    if ! "$top/release/certificates.py" "$room/table" "$made/$certificates" "$seconds" 2> /dev/null; then
         "$top/optima/make.py" table --minorder "$made/$name/bin/minorder" --ordercheck "$made/$name/bin/ordercheck" \
             --room "$room" --into "$made/optima" 2> "$made/log" || fail "the certificates can't be made: $(tail -1 "$made/log")"
-        "$top/build/certificates.py" "$room/table" "$made/$certificates" "$seconds"
+        "$top/release/certificates.py" "$room/table" "$made/$certificates" "$seconds"
     fi
     files+=("$certificates")
 }
