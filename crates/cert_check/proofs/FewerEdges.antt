@@ -9,7 +9,7 @@ use Rattle.std.specs.Int.{bit_at}
 use Rattle.std.proofs.lemmas.Bool.{cases_eq, cases_lt}
 use Rattle.std.proofs.lemmas.List.{get_or-set_same, get_or-set_other, length-set}
 use Rattle.std.proofs.lemmas.Nat.Bits.{bit_at-zero}
-use Rattle.order_model.specs.Functions.{Function}
+use Rattle.definitions.specs.Functions.{Function}
 use Rattle.cert_check.specs.Edges.{AreEdgeTables, EdgeFails, IsFirstEdge}
 use Rattle.cert_check.specs.FewerEdges.{AreFewer, IsPast}
 

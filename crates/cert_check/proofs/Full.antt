@@ -10,10 +10,10 @@ use Rattle.std.proofs.lemmas.Bool.{and_parts}
 use Rattle.std.proofs.lemmas.Nat.{pow_pos}
 use Rattle.std.proofs.lemmas.List.{ext_get_or, get_or-replicate, length-replicate, set-get_or, replicate-append-replicate}
 use Rattle.std.proofs.lemmas.List.FromFn.{length-range_with_len}
-use Rattle.order_model.specs.Orders.{has, variables, without}
-use Rattle.order_model.specs.Widths.{width}
-use Rattle.order_model.proofs.Bits.Masks.{has_members, members_small}
-use Rattle.order_model.proofs.Lists.Ranges.{range_at}
+use Rattle.definitions.specs.Orders.{has, variables, without}
+use Rattle.definitions.specs.Widths.{width}
+use Rattle.definitions.proofs.Bits.Masks.{has_members, members_small}
+use Rattle.definitions.proofs.Lists.Ranges.{range_at}
 use Rattle.subfunction_classes.specs.Dependence.{joined_mask}
 use Rattle.subfunction_classes.specs.Places.{low_place, pairs}
 use Rattle.subfunction_classes.specs.Table.{functions_of, set_of}

@@ -4,9 +4,9 @@ use Rattle.std.proofs.Common.{◌≡◌, ℕ, ◌+◌, ◌-◌, ◌^◌, ◌<◌
 use Rattle.std.specs.Int.{bit_at}
 use Rattle.std.proofs.lemmas.Bool.{cases_eq}
 use Rattle.std.proofs.lemmas.Nat.Bits.{bit_at-zero}
-use Rattle.order_model.specs.Functions.{Function}
-use Rattle.order_model.specs.Orders.{has, members, without}
-use Rattle.order_model.specs.Widths.{width}
+use Rattle.definitions.specs.Functions.{Function}
+use Rattle.definitions.specs.Orders.{has, members, without}
+use Rattle.definitions.specs.Widths.{width}
 use Rattle.cert_check.specs.Edges.{AreJudged, FailsWithin, IsFirstEdge}
 use Rattle.cert_check.proofs.IntoSet.{edge_kept}
 

@@ -8,9 +8,9 @@ use Rattle.std.proofs.lemmas.Bool.{cases_eq, and_parts}
 use Rattle.std.proofs.lemmas.Nat.Bits.{bit_at_or}
 use Rattle.std.proofs.lemmas.List.{get_or-set_same, get_or-set_other}
 use Rattle.std.proofs.lemmas.List.FromFn.{fill_by_all}
-use Rattle.order_model.specs.Orders.{has, variables}
-use Rattle.order_model.proofs.Lists.Orders.{has_filter}
-use Rattle.order_model.proofs.Widths.Recurrence.{distinct_filter, distinct_variables}
+use Rattle.definitions.specs.Orders.{has, variables}
+use Rattle.definitions.proofs.Lists.Orders.{has_filter}
+use Rattle.definitions.proofs.Widths.Recurrence.{distinct_filter, distinct_variables}
 use Rattle.subfunction_classes.specs.Dependence.{joined_mask}
 use Rattle.subfunction_classes.proofs.Counted.{length_filter_map}
 use Rattle.cert_check.specs.LowerClasses.{AreLowerMasks, pairs_with}

@@ -9,11 +9,11 @@ use Rattle.std.proofs.lemmas.Cmp.{nat_eq_equiv}
 use Rattle.std.proofs.lemmas.List.{append-nil, append_assoc, length-map, map-id, take_all}
 use Rattle.std.proofs.lemmas.List.FromFn.{fill_by_all}
 use Rattle.std.proofs.lemmas.Map.Made.{distinct_count-from_IsDistinct}
-use Rattle.order_model.specs.Orders.{has, variables, without}
-use Rattle.order_model.specs.Widths.{same_pair, width}
-use Rattle.order_model.proofs.Bits.Masks.{members_small}
-use Rattle.order_model.proofs.Lists.Sets.{Among, among_filter, among_map, among_unique, count_le, member_from_among, nat_decides}
-use Rattle.order_model.proofs.Widths.ClassPairs.{pair_decides}
+use Rattle.definitions.specs.Orders.{has, variables, without}
+use Rattle.definitions.specs.Widths.{same_pair, width}
+use Rattle.definitions.proofs.Bits.Masks.{members_small}
+use Rattle.definitions.proofs.Lists.Sets.{Among, among_filter, among_map, among_unique, count_le, member_from_among, nat_decides}
+use Rattle.definitions.proofs.Widths.ClassPairs.{pair_decides}
 use Rattle.subfunction_classes.specs.Dependence.{joined_mask}
 use Rattle.subfunction_classes.specs.Numbering.{rank, ranks}
 use Rattle.subfunction_classes.specs.Places.{pairs}

@@ -10,9 +10,9 @@ use Rattle.std.proofs.lemmas.Bool.{cases_eq, cases_lt}
 use Rattle.std.proofs.lemmas.Grind.{pow_more}
 use Rattle.std.proofs.lemmas.List.{get_or-map, length-map}
 use Rattle.std.proofs.lemmas.Nat.Bits.{same_from_bits_below}
-use Rattle.order_model.specs.Functions.{Point, weight, number, from_table, SameFunction}
-use Rattle.order_model.specs.Problems.{TruthTables, functions, packed_bit, table_at, table_in, value_at}
-use Rattle.order_model.proofs.Bits.PointNumbers.{number-small, bit-number}
+use Rattle.definitions.specs.Functions.{Point, weight, number, from_table, SameFunction}
+use Rattle.definitions.specs.Problems.{TruthTables, functions, packed_bit, table_at, table_in, value_at}
+use Rattle.definitions.proofs.Bits.PointNumbers.{number-small, bit-number}
 use Rattle.subfunction_classes.proofs.ValueRows.{bit_in}
 use Rattle.symmetries.specs.Exchanges.{AreSymmetric, IsExchange, exchanged}
 use Rattle.cert_check.specs.Images.{AreImages, TellValues}

@@ -12,8 +12,8 @@ use Rattle.std.specs.Set.{distinct_count}
 use Rattle.std.proofs.lemmas.List.{map-append, length-append, length-map, get_or_append_left, get_or-append-add}
 use Rattle.std.proofs.lemmas.Nat.{pow-add, div-mul-add, mod-mul-add, div-add-mod'}
 use Rattle.std.proofs.Math.Nat.{mod-lt}
-use Rattle.order_model.proofs.Lists.Sets.{Among, Within, among_left, among_right, among_cases, count_same}
-use Rattle.order_model.proofs.Lists.Ranges.{range_append}
+use Rattle.definitions.proofs.Lists.Sets.{Among, Within, among_left, among_right, among_cases, count_same}
+use Rattle.definitions.proofs.Lists.Ranges.{range_append}
 use Rattle.subfunction_classes.specs.Numbering.{rank}
 use Rattle.subfunction_classes.specs.Places.{low_place, pair_at, pairs}
 use Rattle.subfunction_classes.proofs.Index.{length-pairs, pair_within}

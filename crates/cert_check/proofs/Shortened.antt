@@ -4,11 +4,11 @@
 use Rattle.std.proofs.Common.{◌≡◌, ℕ, zero, suc, ◌+◌, ◌*◌, ◌%◌, ◌^◌, ◌<◌, Bool, true, false, nat_eq, inl, inr, List, [], ◌∷◌, map, length, get_or, refl, sym, ap, ◌∙◌, subst, arith}
 use Rattle.std.specs.Set.{distinct_count}
 use Rattle.std.proofs.lemmas.Nat.{pow_pos, pow-add}
-use Rattle.order_model.specs.Orders.{has}
-use Rattle.order_model.specs.Widths.{same_pair}
-use Rattle.order_model.proofs.Lists.Maps.{map_same}
-use Rattle.order_model.proofs.Lists.Sets.{Among, nat_decides}
-use Rattle.order_model.proofs.Widths.ClassPairs.{pair_decides}
+use Rattle.definitions.specs.Orders.{has}
+use Rattle.definitions.specs.Widths.{same_pair}
+use Rattle.definitions.proofs.Lists.Maps.{map_same}
+use Rattle.definitions.proofs.Lists.Sets.{Among, nat_decides}
+use Rattle.definitions.proofs.Widths.ClassPairs.{pair_decides}
 use Rattle.subfunction_classes.specs.Dependence.{joined_mask}
 use Rattle.subfunction_classes.specs.Numbering.{rank, ranks}
 use Rattle.subfunction_classes.specs.PairTables.{IsPairTable, NumbersPairs}

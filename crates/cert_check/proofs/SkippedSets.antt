@@ -5,12 +5,12 @@ use Rattle.std.proofs.Common.{◌≡◌, ℕ, zero, suc, ◌+◌, ◌-◌, ◌^�
 use Rattle.std.specs.Int.{bit_at}
 use Rattle.std.proofs.lemmas.Bool.{cases_eq}
 use Rattle.std.proofs.lemmas.Nat.Bits.{bit_at-lt, same_from_bits_below}
-use Rattle.order_model.specs.Functions.{Function}
-use Rattle.order_model.specs.Orders.{has, members}
-use Rattle.order_model.specs.Widths.{width}
-use Rattle.order_model.proofs.Lists.Orders.{has_variables}
-use Rattle.order_model.proofs.Bits.Masks.{has_members, members_without}
-use Rattle.order_model.proofs.Widths.Recurrence.{has_without, absent_without}
+use Rattle.definitions.specs.Functions.{Function}
+use Rattle.definitions.specs.Orders.{has, members}
+use Rattle.definitions.specs.Widths.{width}
+use Rattle.definitions.proofs.Lists.Orders.{has_variables}
+use Rattle.definitions.proofs.Bits.Masks.{has_members, members_without}
+use Rattle.definitions.proofs.Widths.Recurrence.{has_without, absent_without}
 use Rattle.cert_check.specs.Edges.{EdgeFails, AreEdgeTables}
 use Rattle.symmetries.specs.Exchanges.{IsExchange}
 use Rattle.symmetries.proofs.Partners.{same_partner}

@@ -9,9 +9,9 @@ use Rattle.std.proofs.Common.{◌≡◌, ℕ, zero, suc, ◌+◌, ◌*◌, ◌/�
 use Rattle.std.proofs.Math.Nat.{div-eq_of_lt}
 use Rattle.std.proofs.lemmas.Bool.{cases_lt}
 use Rattle.std.proofs.lemmas.Nat.{div-add-mod', pow_pos}
-use Rattle.order_model.specs.Orders.{has, members, without}
-use Rattle.order_model.specs.Problems.{TruthTables, functions}
-use Rattle.order_model.specs.Widths.{width}
+use Rattle.definitions.specs.Orders.{has, members, without}
+use Rattle.definitions.specs.Problems.{TruthTables, functions}
+use Rattle.definitions.specs.Widths.{width}
 use Rattle.cert_check.specs.Blocks.{IsBlock, IsPartTable, StandsAt}
 use Rattle.cert_check.specs.LowerClasses.{IsWide}
 use Rattle.cert_check.specs.Tables.{TableOf, rows_at, rows_with, table_at}

@@ -5,7 +5,7 @@ use Rattle.std.proofs.Common.{◌≡◌, ℕ, ◌+◌, ◌<◌, ◌≤◌, List,
 use Rattle.std.specs.List.{All}
 use Rattle.std.proofs.lemmas.Bool.{cases_lt}
 use Rattle.std.proofs.lemmas.List.{get_or_append_left, get_or_at, length_push}
-use Rattle.order_model.specs.Problems.{TruthTables}
+use Rattle.definitions.specs.Problems.{TruthTables}
 use Rattle.cert_check.specs.Blocks.{StandsAt}
 use Rattle.cert_check.specs.Tables.{TableOf}
 use Rattle.cert_check.proofs.Stands.{stands_lower}

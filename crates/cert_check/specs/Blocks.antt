@@ -3,7 +3,7 @@
 --     StandsAt P y t      a class table of P by which a walk can go on over the block of its set
 --     table_or o t, IsPartTable root part x t      a table, or another one where there is none; a table of the variables of a mask from x on
 use Rattle.std.specs.Prelude.{◌≡◌, ℕ, ◌≤◌, ◌+◌, ◌*◌, ◌/◌, ◌%◌, ◌^◌, Option, Some, None}
-use Rattle.order_model.specs.Problems.{TruthTables}
+use Rattle.definitions.specs.Problems.{TruthTables}
 use Rattle.cert_check.specs.Tables.{TableOf}
 
 -- no variable below y is in the set, and the 2 ^ y sets from it on have variables below n

@@ -2,8 +2,8 @@
 --     AreEdgesLeft n F cert values judged      the first edge that fails decides the verdict
 --     LeavesEdges n F cert left      the first reason but for edges, or what is left
 use Rattle.std.specs.Prelude.{ℕ, List, Option, Result, Ok, Err}
-use Rattle.order_model.specs.Functions.{Function}
-use Rattle.order_model.specs.Certificates as certs
+use Rattle.definitions.specs.Functions.{Function}
+use Rattle.definitions.specs.Certificates as certs
 use Rattle.cert_check.specs.declared.verdict.Reason.{Reason}
 use Rattle.cert_check.specs.declared.checking.EdgesLeft.{EdgesLeft}
 use Rattle.cert_check.specs.Edges.{AreEdgeTables, EdgeFails, IsFirstEdge}

@@ -5,7 +5,7 @@
 --     IsPast last T      each edge into T leads from a set past `last`
 --     AreFewer why judged fewer      the edges that are judged, but for those into sets that may be left out
 use Rattle.std.specs.Prelude.{◌≡◌, ℕ, ◌+◌, ◌^◌, ◌<◌, ◌⊎◌, List, length, slice_index}
-use Rattle.order_model.specs.Functions.{Function}
+use Rattle.definitions.specs.Functions.{Function}
 use Rattle.cert_check.specs.Edges.{EdgeFails}
 
 -- sets and their images have equal values, and the edges into them are judged by partners

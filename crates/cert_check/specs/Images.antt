@@ -3,7 +3,7 @@
 --     TellValues t values      points with equal values here have equal values of all functions
 use Rattle.std.specs.Prelude.{◌≡◌, ℕ, ◌^◌, ◌<◌, List, length, slice_index}
 use Rattle.std.specs.Int.{bit_at}
-use Rattle.order_model.specs.Problems.{TruthTables, outputs_of, value_at}
+use Rattle.definitions.specs.Problems.{TruthTables, outputs_of, value_at}
 
 -- a set, or the number of a point, with exchanged variables
 pub record IsImage (n : ℕ) (partners : List ℕ) (S T : ℕ) : Type 0 where

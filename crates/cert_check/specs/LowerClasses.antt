@@ -6,8 +6,8 @@ use Rattle.std.specs.Prelude.{◌≡◌, ◌==◌, ◌<◌, ◌≤◌, ℕ, true
 use Rattle.std.specs.Int.{bit_at}
 use Rattle.std.specs.List.{filter}
 use Rattle.std.specs.Set.{distinct_count}
-use Rattle.order_model.specs.Orders.{has, without}
-use Rattle.order_model.specs.Widths.{same_pair, width}
+use Rattle.definitions.specs.Orders.{has, without}
+use Rattle.definitions.specs.Widths.{same_pair, width}
 use Rattle.subfunction_classes.specs.Dependence.{joined_mask}
 use Rattle.subfunction_classes.specs.Table.{functions_of, set_of}
 use Rattle.cert_check.specs.Tables.{TableOf, classes_at}

@@ -6,7 +6,7 @@
 --     HoldsTable t full numbers masks      if it is so that count, else the numbers and masks
 use Rattle.std.specs.Prelude.{ℕ, ◌^◌, List, replicate, bit_or, Option, Some, None}
 use Rattle.std.specs.List.{range_with_len}
-use Rattle.order_model.specs.Problems.{TruthTables}
+use Rattle.definitions.specs.Problems.{TruthTables}
 use Rattle.subfunction_classes.specs.Table.{ClassesOf, HoldsClasses, classes_of}
 use Rattle.cert_check.specs.Rows.{IsShortened}
 

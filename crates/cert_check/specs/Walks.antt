@@ -5,7 +5,7 @@
 --     CanStart root tops y end      tasks may begin at the empty set's table and those of sets of variables from y on
 use Rattle.std.specs.Prelude.{◌≡◌, ℕ, ◌+◌, ◌-◌, ◌^◌, ◌<◌, ◌≤◌, List}
 use Rattle.std.specs.List.{All}
-use Rattle.order_model.specs.Problems.{functions}
+use Rattle.definitions.specs.Problems.{functions}
 use Rattle.cert_check.specs.declared.position.Edges.{Edges}
 use Rattle.cert_check.specs.declared.position.Position.{Position}
 use Rattle.cert_check.specs.Blocks.{StandsAt}

@@ -1,8 +1,8 @@
 //! The values of all functions at each point.
 
 ghost use Rattle.std.specs.Prelude.{◌≡◌, ℕ, ◌+◌, ◌*◌, ◌<◌, ◌≤◌, ◌^◌, length, slice_index, IfOk};
-ghost use Rattle.order_model.specs.Functions.{weight};
-ghost use Rattle.order_model.specs.Problems.{packed_bit};
+ghost use Rattle.definitions.specs.Functions.{weight};
+ghost use Rattle.definitions.specs.Problems.{packed_bit};
 ghost use Rattle.cert_check.specs.Images.{TellValues};
 
 use order_model::Problem;

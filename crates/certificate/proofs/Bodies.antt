@@ -2,9 +2,9 @@
 use Rattle.std.proofs.Common.{◌≡◌, ℕ, ◌+◌, ◌-◌, ◌^◌, refl, sym, ◌∙◌, ap, subst, inl, inr, ◌⊎◌, List, [], ◌∷◌, ◌++◌, length, map, codes, Option, Some, Result, Ok, Err, append_assoc, Vec, Global}
 use Rattle.std.specs.Result.{IsErrAnd}
 use Rattle.std.proofs.lemmas.List.{length-append}
-use Rattle.order_model.specs.Pairs.{Pair}
-use Rattle.order_model.specs.Listed.{listed}
-use Rattle.order_model.specs.declared.listed_cells.ListedCell.{ListedCell}
+use Rattle.definitions.specs.Pairs.{Pair}
+use Rattle.definitions.specs.Listed.{listed}
+use Rattle.definitions.specs.declared.listed_cells.ListedCell.{ListedCell}
 use Rattle.certificate.specs.declared.faults.CertFault.{CertFault}
 use Rattle.certificate.specs.Spelling.{most_pairs}
 use Rattle.certificate.specs.Faults.{LineTest, said, number_said, inputs_said, is_pair, is_cell, pair_key_of, cell_key_of, section_judges, pairs_judges, cells_judges, fixed_fault}

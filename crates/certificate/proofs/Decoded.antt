@@ -4,17 +4,17 @@ use Rattle.std.specs.List.{AllByRecursion, AllPairs}
 use Rattle.std.proofs.lemmas.List.{length-map, length-append}
 use Rattle.std.proofs.Math.Seq.{take-append_seam, drop-append-add, get_or-append_seam}
 use mathlib.Core.List.{append_assoc}
-use Rattle.order_model.specs.Pairs.{Pair}
-use Rattle.order_model.specs.Certificates.{Cell}
+use Rattle.definitions.specs.Pairs.{Pair}
+use Rattle.definitions.specs.Certificates.{Cell}
 use Rattle.certificate.specs.Spelling.{most_nodes, hex4, field, section, pair_words, cell_words, pair_key, IsPair, IsCell}
-use Rattle.order_model.specs.Texts.{number_of}
+use Rattle.definitions.specs.Texts.{number_of}
 use Rattle.certificate.specs.Faults.{number_said, is_pair, is_cell, pair_key_of, cell_key_of, section_judges}
 use Rattle.certificate.specs.Decoded.{read_pair, read_cell, mask_key, section_said}
 use Rattle.certificate.proofs.WordLines.{decimal_back, hex_back}
 use Rattle.certificate.proofs.Judges.{Pass, both_are, decimal_passes, decimal_is, mask_passes, mask_is, field_passes, field_is, one_number}
 use Rattle.certificate.proofs.Rising.{rise_pairs, pairs_rise}
 use Rattle.certificate.proofs.Sections.{StandAt, entries_pass, entries_are, IsKind, write_entries, read_entries, read_back}
-use Rattle.order_model.proofs.Bits.Masks.{power_small}
+use Rattle.definitions.proofs.Bits.Masks.{power_small}
 
 pub pair_kind : (n : ℕ) → 1 ≤ n → n ≤ 16 → IsKind pair_words read_pair pair_key (IsPair n) (is_pair n) pair_key_of
 pair_kind n some small = record { written = written; back = back; stated = stated } where

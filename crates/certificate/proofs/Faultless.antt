@@ -6,18 +6,18 @@ use Rattle.std.proofs.lemmas.List.{length-map, length-take, length-append, appen
 use Rattle.std.proofs.lemmas.List.Elements.{All-from_recursion}
 use Rattle.std.proofs.lemmas.List.Splits.{join_with_byte-slice_split}
 use mathlib.Core.List.{append_assoc}
-use Rattle.order_model.specs.Pairs.{Pair}
-use Rattle.order_model.specs.Certificates.{Certificate, Cell}
+use Rattle.definitions.specs.Pairs.{Pair}
+use Rattle.definitions.specs.Certificates.{Certificate, Cell}
 use Rattle.certificate.specs.declared.faults.LineFault.{LineFault}
 use Rattle.certificate.specs.Spelling.{most_nodes, most_pairs, field, section, pair_words, pair_lines, cell_words, pair_key, IsPair, IsCell, word_lines, text_line, spelling, HasSpelling}
-use Rattle.order_model.specs.Texts.{number_of}
+use Rattle.definitions.specs.Texts.{number_of}
 use Rattle.certificate.specs.Faults.{whole_lines, onto_line, words, said, number_said, inputs_said, is_pair, is_cell, pair_key_of, cell_key_of, title_fault, fixed_fault, section_judges, pairs_judges, cells_judges, judges, LineTest, numbered, line_faults, with_feeds, trailing, faults, Spells, FirstCertFault}
 use Rattle.certificate.proofs.WordLines.{decimal_back}
 use Rattle.certificate.proofs.Judges.{Pass, pass_length, all_same_is, IsFrom, field_is, one_number}
 use Rattle.certificate.proofs.Spelled.{no_fault}
 use Rattle.certificate.specs.Decoded.{read_pair, read_cell, mask_key, cells_place, cert_of}
 use Rattle.certificate.proofs.Decoded.{pair_kind, cell_kind, section_is}
-use Rattle.order_model.proofs.Bits.Masks.{power_small}
+use Rattle.definitions.proofs.Bits.Masks.{power_small}
 
 -- lines without a fault pass
 none_pass : (number : ℕ) (js : List LineTest) (ws : List (List (List ℕ))) → line_faults number js ws ≡ [] →

@@ -3,10 +3,10 @@ use Rattle.std.proofs.Common.{◌≡◌, ℕ, ◌-◌, ◌^◌, ◌<◌, ◌≤�
 use Rattle.std.specs.List.{AllByRecursion, All, AllPairs}
 use Rattle.std.proofs.lemmas.List.{length-map}
 use Rattle.std.proofs.lemmas.List.Elements.{All-from_recursion, recursion_from_All}
-use Rattle.order_model.specs.Pairs.{Pair}
-use Rattle.order_model.specs.Certificates.{Cell}
-use Rattle.order_model.specs.Listed.{listed}
-use Rattle.order_model.specs.declared.listed_cells.ListedCell.{ListedCell}
+use Rattle.definitions.specs.Pairs.{Pair}
+use Rattle.definitions.specs.Certificates.{Cell}
+use Rattle.definitions.specs.Listed.{listed}
+use Rattle.definitions.specs.declared.listed_cells.ListedCell.{ListedCell}
 use Rattle.certificate.specs.Spelling.{most_nodes, most_pairs, pair_key, IsPair, IsCell, HasSpelling}
 use Rattle.certificate.specs.Values.{fit, is_above, is_pair_of, is_cell_of, mask_in, value_of, HasPairs}
 use Rattle.certificate.proofs.Judges.{both_are}

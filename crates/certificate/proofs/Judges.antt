@@ -6,7 +6,7 @@ use Rattle.std.proofs.lemmas.Bool.{eqb-true}
 use Rattle.std.proofs.lemmas.List.{length-map}
 use Rattle.certificate.specs.declared.faults.LineFault.{LineFault}
 use Rattle.certificate.specs.Spelling.{hex4, field}
-use Rattle.order_model.specs.Texts.{same, number_of, first_fault}
+use Rattle.definitions.specs.Texts.{same, number_of, first_fault}
 use Rattle.certificate.specs.Faults.{mask_of, is_decimal, is_mask, field_fault, LineTest, line_faults}
 use Rattle.certificate.specs.Decoded.{numbers_of}
 use Rattle.certificate.proofs.WordLines.{decimal_back, hex_back}

@@ -9,8 +9,8 @@ use Rattle.std.proofs.lemmas.Fmt.{length-decimal-le}
 use Rattle.std.proofs.lemmas.Grind.{flat_map-append}
 use Rattle.std.proofs.lemmas.List.{length-map}
 use Rattle.std.proofs.lemmas.List.Elements.{recursion_from_All}
-use Rattle.order_model.specs.Pairs.{Pair}
-use Rattle.order_model.specs.Certificates.{Certificate, Cell}
+use Rattle.definitions.specs.Pairs.{Pair}
+use Rattle.definitions.specs.Certificates.{Certificate, Cell}
 use Rattle.certificate.specs.Spelling.{HasSpelling, IsCell, IsPair, hex4, field, section, head_lines, pair_lines, word_lines, text_line, spelling, pair_words, cell_words}
 use Rattle.certificate.specs.Faults.{Spells}
 use Rattle.certificate.specs.Heads.{most_bytes}

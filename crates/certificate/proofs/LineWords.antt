@@ -4,7 +4,7 @@ use Rattle.std.specs.List.{join_with_byte, slice_split}
 use Rattle.std.specs.Cmp.Lexicographic.{pointwise}
 use Rattle.std.proofs.lemmas.List.Splits.{join_with_byte-slice_split, slice_split_none, slice_split_at, length-slice_split}
 use Rattle.certificate.specs.declared.faults.LineFault.TheVariants.{BadLine}
-use Rattle.order_model.specs.Texts.{same, number_of}
+use Rattle.definitions.specs.Texts.{same, number_of}
 use Rattle.certificate.specs.Faults.{words, fixed_fault, title_fault, field_fault}
 use Rattle.certificate.specs.Parsing.{Lacks, Cuts}
 use Rattle.certificate.proofs.Judges.{same_is, same_self, all_same_is}

@@ -5,7 +5,7 @@ use Rattle.std.specs.Result.{IsErrAnd}
 use Rattle.certificate.specs.declared.faults.LineFault.TheVariants.{BadLine, BadNumber}
 use Rattle.certificate.specs.declared.faults.CertFault.{CertFault}
 use Rattle.certificate.specs.declared.faults.CertFault.TheVariants as found
-use Rattle.order_model.specs.Texts.{same, number_of}
+use Rattle.definitions.specs.Texts.{same, number_of}
 use Rattle.certificate.specs.Faults.{words, is_decimal, field_fault}
 use Rattle.certificate.specs.Parsing.{Lacks, Cuts, Asks}
 use Rattle.certificate.specs.Decoded.{numbers_of}

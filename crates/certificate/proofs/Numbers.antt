@@ -6,7 +6,7 @@ use Rattle.std.proofs.lemmas.Bool.{cases_lt}
 use Rattle.std.proofs.lemmas.Fmt.{decimal_nonempty, first_decimal, length-decimal-le, decimal-digits_value, digits_decimal}
 use Rattle.std.proofs.lemmas.Str.Parse.{tells_all_ascii_digits, numerals_by_value}
 use Rattle.certificate.specs.Spelling.{most_nodes}
-use Rattle.order_model.specs.Texts.{number_of}
+use Rattle.definitions.specs.Texts.{number_of}
 use Rattle.certificate.specs.Faults.{is_decimal}
 use Rattle.certificate.proofs.Judges.{same_self, decimal_is}
 

@@ -1,12 +1,12 @@
 -- The parts of an order's certificate.
 --     parts_same      parts that are an order's make that order's certificate
 use Rattle.std.proofs.Common.{◌≡◌, ℕ, List, length, map, sym, ◌∙◌}
-use Rattle.order_model.specs.Functions.{Function}
-use Rattle.order_model.specs.Pairs.{Pair, sorted_pairs}
-use Rattle.order_model.specs.Levels.{level_counts, size_under}
-use Rattle.order_model.specs.Listed.{listed}
-use Rattle.order_model.specs.declared.listed_cells.ListedCell.{ListedCell}
-use Rattle.order_model.specs.Certificates.{certificate_of}
+use Rattle.definitions.specs.Functions.{Function}
+use Rattle.definitions.specs.Pairs.{Pair, sorted_pairs}
+use Rattle.definitions.specs.Levels.{level_counts, size_under}
+use Rattle.definitions.specs.Listed.{listed}
+use Rattle.definitions.specs.declared.listed_cells.ListedCell.{ListedCell}
+use Rattle.definitions.specs.Certificates.{certificate_of}
 use Rattle.certificate.specs.Values.{value_of}
 
 pub parts_same : (n : ℕ) (F : List Function) (P : List Pair) (order : List ℕ) (inputs outputs : ℕ) (o levels : List ℕ) (total : ℕ)

@@ -1,8 +1,8 @@
 -- A text that is read to its end.
 use Rattle.std.proofs.Common.{◌≡◌, ℕ, ◌+◌, ◌≤◌, refl, sym, ◌∙◌, ap, subst, List, ◌++◌, length, Option, Result, Ok, Err, IfErr, arith, Vec, Global}
 use Rattle.std.specs.Result.{IsErrAnd}
-use Rattle.order_model.specs.Pairs.{Pair}
-use Rattle.order_model.specs.declared.listed_cells.ListedCell.{ListedCell}
+use Rattle.definitions.specs.Pairs.{Pair}
+use Rattle.definitions.specs.declared.listed_cells.ListedCell.{ListedCell}
 use Rattle.certificate.specs.declared.faults.CertFault.{CertFault}
 use Rattle.certificate.specs.declared.faults.CertFault.TheVariants as found
 use Rattle.certificate.specs.declared.parsing.Head.{Head}

@@ -5,15 +5,15 @@ use Rattle.std.specs.Fmt.{digits}
 use Rattle.std.proofs.lemmas.List.{length-map, length-append, take_all}
 use Rattle.std.proofs.lemmas.List.Elements.{recursion_from_All}
 use mathlib.Core.List.{append_assoc}
-use Rattle.order_model.specs.Pairs.{Pair}
-use Rattle.order_model.specs.Certificates.{Certificate, Cell}
+use Rattle.definitions.specs.Pairs.{Pair}
+use Rattle.definitions.specs.Certificates.{Certificate, Cell}
 use Rattle.certificate.specs.Spelling.{most_nodes, most_pairs, field, section, pair_words, pair_lines, cell_words, pair_key, IsPair, IsCell, head_lines, word_lines, text_line, spelling, HasSpelling}
 use Rattle.certificate.specs.Faults.{whole_lines, said, number_said, inputs_said, is_pair, is_cell, pair_key_of, cell_key_of, title_fault, fixed_fault, section_judges, pairs_judges, cells_judges, judges, head_judges, with_feeds, trailing, faults}
 use Rattle.certificate.proofs.WordLines.{AllPlain, ArePlain, list_word, decimal_plain, decimals_plain, decimals_back, decimal_back, hex_plain, plain_append, said_back, lines_back}
 use Rattle.certificate.proofs.Judges.{Pass, pass_length, pass_append, pass_none, IsFrom, field_passes}
 use Rattle.certificate.specs.Decoded.{read_pair, read_cell, mask_key, section_said, cells_place, cert_of, numbers_of}
 use Rattle.certificate.proofs.Decoded.{pair_kind, cell_kind, section_passes, section_back}
-use Rattle.order_model.proofs.Bits.Masks.{power_small}
+use Rattle.definitions.proofs.Bits.Masks.{power_small}
 
 -- numbers that are small
 small : (least most : ℕ) (ns : List ℕ) → most < 2 ^ 64 → AllByRecursion (λ n. n ≤ most) ns → AllByRecursion (λ n. n < 2 ^ 64) ns

@@ -6,7 +6,7 @@ use Rattle.std.proofs.lemmas.List.{length-append, length-map, map-append}
 use Rattle.std.proofs.lemmas.List.FromFn.{length-range_with_len}
 use Rattle.std.proofs.Math.Seq.{get_or-append_seam, drop-append-add, take-append_seam}
 use Rattle.certificate.specs.declared.faults.CertFault.{CertFault}
-use Rattle.order_model.specs.Texts.{number_of}
+use Rattle.definitions.specs.Texts.{number_of}
 use Rattle.certificate.specs.Faults.{LineTest, said, number_said, field_fault, entry_fault, rises, section_judges}
 use Rattle.certificate.specs.Decoded.{section_said}
 use Rattle.certificate.specs.Parsing.{FailsFirst, Asks, outcome, TakesSection}

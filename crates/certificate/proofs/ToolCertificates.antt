@@ -7,14 +7,14 @@ use Rattle.std.proofs.lemmas.List.{length-map}
 use Rattle.std.proofs.lemmas.List.Elements.{All-from_recursion}
 use Rattle.std.proofs.lemmas.List.FromFn.{length-map-range_with_len}
 use Rattle.std.proofs.lemmas.List.Sums.{sum_by-cons}
-use Rattle.order_model.specs.Functions.{Function}
-use Rattle.order_model.specs.Orders.{IsOrder, members}
-use Rattle.order_model.specs.Pairs.{Pair, AreBelow, has_pair, is_lawful, sorted_pairs}
-use Rattle.order_model.specs.Levels.{level_count, level_counts, size_under}
-use Rattle.order_model.specs.Widths.{least, essentials_outside}
-use Rattle.order_model.specs.Certificates.{Cell, certificate_of, least_listed, listed_masks}
-use Rattle.order_model.proofs.Functions.Exchange.{Below, below_from_has}
-use Rattle.order_model.proofs.Widths.SizeBounds.{order_length, size_bound}
+use Rattle.definitions.specs.Functions.{Function}
+use Rattle.definitions.specs.Orders.{IsOrder, members}
+use Rattle.definitions.specs.Pairs.{Pair, AreBelow, has_pair, is_lawful, sorted_pairs}
+use Rattle.definitions.specs.Levels.{level_count, level_counts, size_under}
+use Rattle.definitions.specs.Widths.{least, essentials_outside}
+use Rattle.definitions.specs.Certificates.{Cell, certificate_of, least_listed, listed_masks}
+use Rattle.definitions.proofs.Functions.Exchange.{Below, below_from_has}
+use Rattle.definitions.proofs.Widths.SizeBounds.{order_length, size_bound}
 use Rattle.certificate.specs.Spelling.{HasSpelling, IsCell, most_nodes, pair_key}
 use Rattle.certificate.proofs.Rising.{IsAbove, RiseFrom, rise_pairs}
 

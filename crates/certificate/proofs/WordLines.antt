@@ -9,7 +9,7 @@ use Rattle.std.proofs.lemmas.Str.{digit_value-digit_char}
 use Rattle.std.proofs.lemmas.Str.Parse.{digit_from_value}
 use mathlib.Core.List.{append_assoc}
 use Rattle.certificate.specs.Spelling.{hex4, text_line}
-use Rattle.order_model.specs.Texts.{number_of}
+use Rattle.definitions.specs.Texts.{number_of}
 use Rattle.certificate.specs.Faults.{whole_lines, words, said, mask_of, onto_line}
 
 -- a byte that ends neither a word nor a line

@@ -1,7 +1,7 @@
 -- Worked texts, by computation.
 use Rattle.std.proofs.Common.{◌≡◌, ℕ, refl, List, [], ◌∷◌, codes, Option, Some, None, map, slice_get}
 use Rattle.std.specs.Fmt.{digits}
-use Rattle.order_model.specs.Certificates.{Certificate}
+use Rattle.definitions.specs.Certificates.{Certificate}
 use Rattle.certificate.specs.declared.faults.LineFault.{LineFault}
 use Rattle.certificate.specs.declared.faults.LineFault.TheVariants.{MissingLine, BadLine, BadNumber, NotRising, TrailingText}
 use Rattle.certificate.specs.Spelling.{hex4, word_lines, text_line, spelling}

@@ -5,8 +5,8 @@ use Rattle.std.specs.Fmt.{char_count, digits, format_spec, padded_integral}
 use Rattle.std.proofs.lemmas.Bool.{cases_lt}
 use Rattle.std.proofs.lemmas.List.{take_more, map-append}
 use Rattle.std.proofs.lemmas.Grind.{flat_map-append}
-use Rattle.order_model.specs.Pairs.{Pair}
-use Rattle.order_model.specs.Certificates.{Certificate, Cell}
+use Rattle.definitions.specs.Pairs.{Pair}
+use Rattle.definitions.specs.Certificates.{Certificate, Cell}
 use Rattle.certificate.specs.Spelling.{hex4, field, section, head_lines, pair_lines, word_lines, text_line, spelling, pair_words, cell_words}
 use Rattle.certificate.specs.Values.{each_spaced}
 use Rattle.certificate.proofs.WordLines.{glyph}

@@ -2,9 +2,9 @@
 --     read_pair ws, read_cell ws, numbers_of ws      the pair, the listed set, the numbers of a line
 --     cert_of ws      the certificate that lines say
 use Rattle.std.specs.Prelude.{ℕ, ◌+◌, if◌then◌else◌, nat_eq, List, [], ◌∷◌, length, map, take, drop, get_or}
-use Rattle.order_model.specs.Pairs.{Pair}
-use Rattle.order_model.specs.Certificates.{Certificate, Cell}
-use Rattle.order_model.specs.Texts.{number_of}
+use Rattle.definitions.specs.Pairs.{Pair}
+use Rattle.definitions.specs.Certificates.{Certificate, Cell}
+use Rattle.definitions.specs.Texts.{number_of}
 use Rattle.certificate.specs.Faults.{mask_of, number_said, pairs_judges}
 
 -- the numbers of a line after its first word

@@ -7,8 +7,8 @@ use Rattle.std.specs.Prelude.{◌≡◌, ℕ, ◌+◌, ◌-◌, ◌^◌, Bool, n
 use Rattle.std.specs.List.{slice_split, slice_index_or, range_with_len, list_all, flat_map}
 use Rattle.std.specs.Cmp.Lexicographic.{pointwise}
 use Rattle.std.specs.Str.Parse.{digits_value}
-use Rattle.order_model.specs.Texts.{same, number_of, first_fault}
-use Rattle.order_model.specs.Certificates.{Certificate}
+use Rattle.definitions.specs.Texts.{same, number_of, first_fault}
+use Rattle.definitions.specs.Certificates.{Certificate}
 use Rattle.certificate.specs.declared.faults.LineFault.{LineFault}
 use Rattle.certificate.specs.declared.faults.LineFault.TheVariants.{MissingLine, BadLine, BadNumber, NotRising, TrailingText}
 use Rattle.certificate.specs.Spelling.{HasSpelling, spelling, hex4, most_nodes, most_pairs, pair_key}

@@ -1,7 +1,7 @@
 //! Certificates that no order has fewer nodes.
 
 ghost use Rattle.std.specs.Prelude.{◌≡◌, [], map, IfSome, IfNone};
-ghost use Rattle.order_model.specs.Listed.{listed};
+ghost use Rattle.definitions.specs.Listed.{listed};
 ghost use Rattle.certificate.specs.Spelling.{HasSpelling};
 ghost use Rattle.certificate.specs.Values.{value_of};
 
@@ -27,7 +27,7 @@ pub struct Certificate {
 impl Model for Certificate {
     ghost use Rattle.std.specs.Prelude.{[], unwrap_or};
     ghost use Rattle.std.specs.Option.{option_map};
-    ghost use Rattle.order_model.specs.Certificates.{Certificate as Contents};
+    ghost use Rattle.definitions.specs.Certificates.{Certificate as Contents};
     ghost use Rattle.certificate.specs.Spelling.{HasSpelling};
     ghost use Rattle.certificate.specs.Values.{value_of, format_of};
 

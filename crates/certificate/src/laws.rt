@@ -1,10 +1,10 @@
 //! What holds of all texts of certificates.
 
 ghost use Rattle.std.specs.Prelude.{◌≡◌, ◌+◌, ◌*◌, ◌⊎◌, ◌≤◌, ℕ, List, [], length};
-ghost use Rattle.order_model.specs.Certificates.{Certificate, certificate_of};
-ghost use Rattle.order_model.specs.Functions.{Function};
-ghost use Rattle.order_model.specs.Orders.{IsOrder};
-ghost use Rattle.order_model.specs.Pairs.{AreBelow, Pair, sorted_pairs};
+ghost use Rattle.definitions.specs.Certificates.{Certificate, certificate_of};
+ghost use Rattle.definitions.specs.Functions.{Function};
+ghost use Rattle.definitions.specs.Orders.{IsOrder};
+ghost use Rattle.definitions.specs.Pairs.{AreBelow, Pair, sorted_pairs};
 ghost use Rattle.certificate.specs.declared.faults.LineFault.{LineFault};
 ghost use Rattle.certificate.specs.Spelling.{HasSpelling, spelling};
 ghost use Rattle.certificate.specs.Faults.{Spells, FirstCertFault, faults};

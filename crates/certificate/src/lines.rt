@@ -3,11 +3,11 @@
 ghost use Rattle.std.specs.Prelude.{◌≡◌, ◌≤◌, ◌∷◌, ℕ, [], codes, get_or, length, Some, IfSome, IfNone, IfOk};
 ghost use Rattle.certificate.specs.declared.faults.LineFault.TheVariants.{BadLine};
 ghost use Rattle.certificate.specs.Spelling.{most_nodes};
-ghost use Rattle.order_model.specs.Texts.{number_of};
+ghost use Rattle.definitions.specs.Texts.{number_of};
 ghost use Rattle.certificate.specs.Faults.{cell_key_of, entry_fault, field_fault, fixed_fault, is_cell, is_pair, mask_of, pair_key_of, title_fault, words};
 ghost use Rattle.certificate.specs.Parsing.{Says};
 ghost use Rattle.certificate.specs.Values.{is_above as above};
-ghost use Rattle.order_model.specs.Listed.{listed};
+ghost use Rattle.definitions.specs.Listed.{listed};
 
 use crate::bounds::{MOST_NODES, is_above, key_of_pair};
 use crate::faults::LineFault;

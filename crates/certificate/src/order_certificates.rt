@@ -2,11 +2,11 @@
 
 ghost use Rattle.std.specs.Prelude.{◌≡◌, IfOk, map, string_bytes};
 ghost use Rattle.certificate.specs.Faults.{Spells};
-ghost use Rattle.order_model.specs.Certificates.{certificate_of};
-ghost use Rattle.order_model.specs.Levels.{level_counts, size_under};
-ghost use Rattle.order_model.specs.Listed.{listed};
-ghost use Rattle.order_model.specs.Orders.{IsOrder};
-ghost use Rattle.order_model.specs.Problems.{functions};
+ghost use Rattle.definitions.specs.Certificates.{certificate_of};
+ghost use Rattle.definitions.specs.Levels.{level_counts, size_under};
+ghost use Rattle.definitions.specs.Listed.{listed};
+ghost use Rattle.definitions.specs.Orders.{IsOrder};
+ghost use Rattle.definitions.specs.Problems.{functions};
 
 use crate::certificate::Certificate;
 use crate::laws::orders_have_certificates;

@@ -4,9 +4,9 @@ ghost use Rattle.std.specs.Prelude.{◌≡◌, ◌+◌, ◌-◌, ◌^◌, ◌<�
 ghost use Rattle.std.specs.List.{list_all};
 ghost use Rattle.certificate.specs.declared.faults.CertFault.TheVariants.{Line, OutOfMemory};
 ghost use Rattle.certificate.specs.declared.faults.LineFault.TheVariants.{BadNumber, MissingLine};
-ghost use Rattle.order_model.specs.Listed.{listed};
+ghost use Rattle.definitions.specs.Listed.{listed};
 ghost use Rattle.certificate.specs.Decoded.{numbers_of, read_pair, read_cell};
-ghost use Rattle.order_model.specs.Texts.{number_of};
+ghost use Rattle.definitions.specs.Texts.{number_of};
 ghost use Rattle.certificate.specs.Faults.{cell_key_of, entry_fault, field_fault, fixed_fault, is_cell, is_decimal, is_pair, pair_key_of, title_fault, words};
 ghost use Rattle.certificate.specs.Parsing.{Cuts, FailsFirst, Lacks, outcome};
 ghost use Rattle.certificate.specs.Reading.{FitsCount, StaysWithin, TakesEntries, TakesLine};

@@ -2,7 +2,7 @@
 
 ghost use Rattle.std.specs.Prelude.{◌≡◌, ◌≤◌, ◌++◌, [], ◌∷◌, length, map, codes, string_bytes, IfOk, OnOk};
 ghost use Rattle.std.specs.List.{flat_map};
-ghost use Rattle.order_model.specs.Listed.{listed};
+ghost use Rattle.definitions.specs.Listed.{listed};
 ghost use Rattle.certificate.specs.Spelling.{field, section, head_lines, pair_lines, text_line, pair_words, cell_words, spelling};
 ghost use Rattle.certificate.specs.Heads.{most_bytes};
 

@@ -3,7 +3,7 @@
 ghost use Rattle.std.specs.Prelude.{◌≡◌, ◌≤◌, ◌<◌, ◌==◌, ℕ, true, false, length, position, IfSome, IfNone, decimal as decimal_of};
 ghost use Rattle.std.specs.Fmt.{digit_glyph};
 ghost use Rattle.certificate.specs.Spelling.{most_nodes};
-ghost use Rattle.order_model.specs.Texts.{number_of};
+ghost use Rattle.definitions.specs.Texts.{number_of};
 ghost use Rattle.certificate.specs.Faults.{is_decimal, is_mask, mask_of};
 ghost use Rattle.certificate.specs.Parsing.{Cuts, Lacks};
 

@@ -3,11 +3,11 @@
 --     true_certificate      what a good certificate says of all diagrams
 --     accepted      an accepted certificate is true
 use Rattle.std.proofs.Common.{◌∙◌, List, ℕ, subst}
-use Rattle.order_model.specs.Certificates.{Certificate, Reason, IsGood, IsFirstReason}
-use Rattle.order_model.specs.Problems.{TruthTables, functions}
-use Rattle.order_model.proofs.Nodes.Construction.{exact_diagram}
-use Rattle.order_model.proofs.Certificates.Potential.{good_order, no_diagram_is_smaller}
-use Rattle.order_model.proofs.Certificates.Same.{first_reason_same, good_same}
+use Rattle.definitions.specs.Certificates.{Certificate, Reason, IsGood, IsFirstReason}
+use Rattle.definitions.specs.Problems.{TruthTables, functions}
+use Rattle.definitions.proofs.Nodes.Construction.{exact_diagram}
+use Rattle.definitions.proofs.Certificates.Potential.{good_order, no_diagram_is_smaller}
+use Rattle.definitions.proofs.Certificates.Same.{first_reason_same, good_same}
 use Rattle.pla_reader.specs.Covers.{NamedCover, functions_of}
 use Rattle.pla_reader.specs.Reading.{Reads}
 use Rattle.certificate.specs.Faults.{Spells}

@@ -2,13 +2,13 @@
 --     verdict_unique      one verdict on a certificate for a cover, and one line
 --     judge_unique      one outcome of a check, and one line
 use Rattle.std.proofs.Common.{◌≡◌, ℕ, ◌≤◌, ◌<◌, List, [], length, refl, sym, ap, ◌∙◌, subst, arith}
-use Rattle.order_model.specs.Certificates.{Certificate}
+use Rattle.definitions.specs.Certificates.{Certificate}
 use Rattle.certificate.specs.declared.faults.LineFault.{LineFault as TextFault}
 use Rattle.certificate.specs.Faults.{FirstCertFault}
 use Rattle.certificate.specs.Heads.{most_bytes}
 use Rattle.certificate.proofs.Faultless.{spelled_not_faulty, one_first_fault}
 use Rattle.certificate.proofs.Spelled.{one_form}
-use Rattle.order_model.proofs.Certificates.Potential.{good_has_no_reason}
+use Rattle.definitions.proofs.Certificates.Potential.{good_has_no_reason}
 use Rattle.cert_check.proofs.Reasons.{first_reason_unique}
 use Rattle.pla_reader.specs.declared.errors.LineFault.{LineFault}
 use Rattle.pla_reader.specs.Covers.{NamedCover, functions_of}

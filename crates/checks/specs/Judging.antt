@@ -6,7 +6,7 @@
 --     CheckEnds file cert before after outcome, OrdercheckEnds words status before after      how a check and ordercheck end
 use Rattle.std.specs.Prelude.{◌≡◌, ◌⊎◌, ℕ, ◌<◌, ◌≤◌, List, [], length, take, Option, Result, Ok, Err, IfSome}
 use Rattle.std.specs.Io.KnownBytes.{Appends}
-use Rattle.order_model.specs.Certificates.{Certificate, Reason, IsGood, IsFirstReason}
+use Rattle.definitions.specs.Certificates.{Certificate, Reason, IsGood, IsFirstReason}
 use Rattle.certificate.specs.Faults.{FirstCertFault}
 use Rattle.certificate.specs.Heads.{most_bytes}
 use Rattle.pla_reader.specs.Covers.{NamedCover, functions_of}

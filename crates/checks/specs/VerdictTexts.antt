@@ -1,7 +1,7 @@
 -- The lines of verdicts.
 --     valid_line cert, invalid_line reason      the verdict on a certificate
 use Rattle.std.specs.Prelude.{ℕ, zero, suc, List, [], ◌∷◌, ◌++◌, length, codes, decimal}
-use Rattle.order_model.specs.Certificates.{Certificate, Reason, Shape, Order, Pairs, Levels, Total, Start, CellTooBig, Edge}
+use Rattle.definitions.specs.Certificates.{Certificate, Reason, Shape, Order, Pairs, Levels, Total, Start, CellTooBig, Edge}
 use Rattle.certificate.specs.Spelling.{hex4}
 
 -- how many pairs a certificate has, if it has any

@@ -5,8 +5,8 @@ use Rattle.std.specs.Prelude.{◌≡◌, ◌==◌, ℕ, ◌*◌, ◌^◌, List, 
 use Rattle.std.specs.Set.{distinct_count}
 use Rattle.std.specs.List.{filter}
 use Rattle.std.specs.Int.{bit_at}
-use Rattle.order_model.specs.Problems.{TruthTables, outputs_of}
-use Rattle.order_model.specs.Widths.{same_pair}
+use Rattle.definitions.specs.Problems.{TruthTables, outputs_of}
+use Rattle.definitions.specs.Widths.{same_pair}
 use Rattle.subfunction_classes.specs.Numbering.{ranks}
 use Rattle.subfunction_classes.specs.Dependence.{joined_mask}
 

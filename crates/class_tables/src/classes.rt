@@ -3,8 +3,8 @@
 ghost use Rattle.std.specs.Prelude.{◌≡◌, ◌==◌, ℕ, ◌+◌, ◌*◌, ◌^◌, ◌<◌, ◌≤◌, if◌then◌else◌, length, slice_index, IfOk, OnOk, OnErr, IsFalse, IsTrue};
 ghost use Rattle.std.specs.Int.{bit_at};
 ghost use Rattle.std.specs.List.{filter};
-ghost use Rattle.order_model.specs.Orders.{has, without};
-ghost use Rattle.order_model.specs.Widths.{class_numbers, width as width_over};
+ghost use Rattle.definitions.specs.Orders.{has, without};
+ghost use Rattle.definitions.specs.Widths.{class_numbers, width as width_over};
 ghost use Rattle.subfunction_classes.specs.Table.{free_below};
 ghost use Rattle.class_tables.specs.Scratch.{most_entries};
 

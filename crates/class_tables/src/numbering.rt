@@ -1,7 +1,7 @@
 //! Numbers of pairs of entries by first occurrence, and their masks.
 
 ghost use Rattle.std.specs.Prelude.{◌≡◌, ℕ, ◌*◌, ◌^◌, ◌<◌, ◌≤◌, length, IfOk};
-ghost use Rattle.order_model.specs.Widths.{same_pair};
+ghost use Rattle.definitions.specs.Widths.{same_pair};
 ghost use Rattle.subfunction_classes.specs.Numbering.{ranks};
 ghost use Rattle.subfunction_classes.specs.Places as places;
 ghost use Rattle.subfunction_classes.specs.PairTables.{IsPairTable, NumbersPairs};

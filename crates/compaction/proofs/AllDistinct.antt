@@ -11,23 +11,24 @@ use Rattle.std.proofs.lemmas.Bool.{and_parts, cases_eq, cases_lt}
 use Rattle.std.proofs.lemmas.Nat.{pow_pos}
 use Rattle.std.proofs.lemmas.List.{length-map, get_or-map}
 use Rattle.std.proofs.lemmas.List.FromFn.{length-range_with_len, get_or-map-range_with_len, length-map-range_with_len}
-use Rattle.order_model.specs.Orders.{has, variables, without}
-use Rattle.order_model.specs.Widths.{width}
-use Rattle.order_model.proofs.Bits.Masks.{has_members}
-use Rattle.order_model.proofs.Lists.Orders.{has_variables}
-use Rattle.order_model.proofs.Lists.Ranges.{range_at}
+use Rattle.definitions.specs.Orders.{has, variables, without}
+use Rattle.definitions.specs.Widths.{width}
+use Rattle.definitions.proofs.Bits.Masks.{has_members}
+use Rattle.definitions.proofs.Lists.Orders.{has_variables}
+use Rattle.definitions.proofs.Lists.Ranges.{range_at}
 use Rattle.subfunction_classes.specs.Dependence.{joined_mask}
 use Rattle.subfunction_classes.specs.Places.{low_place, pairs}
 use Rattle.compaction.specs.Rows.{width_wanted}
 use Rattle.pair_numbering.specs.Keys.{AreUsed, TellsPairs}
-use Rattle.pair_numbering.specs.Strips.{unrolled}
-use Rattle.compaction.specs.Strips.{AreDistinct, AreStrips, HoldsStrips, HoldsStripTable, masks_in_use, HoldsKeys}
+use Rattle.subfunction_classes.specs.Strips.{unrolled}
+use Rattle.value_strips.specs.ValueStrips.{AreStrips}
+use Rattle.compaction.specs.Strips.{AreDistinct, HoldsStrips, HoldsStripTable, masks_in_use, HoldsKeys}
 use Rattle.subfunction_classes.specs.Table.{ClassesOf, with_variable, functions_of, set_of, free_below}
 use Rattle.subfunction_classes.proofs.Counted.{length_filter_map}
 use Rattle.subfunction_classes.proofs.Index.{length-pairs, pair_listed, pair_within}
 use Rattle.compaction.proofs.Keyed.{keys_ready, keys_by_names}
 use Rattle.compaction.proofs.Stripped.{parts_of}
-use Rattle.compaction.proofs.Unrolled.{same_by_places, length_unrolled, unrolled_at}
+use Rattle.value_strips.proofs.Unrolled.{same_by_places, length_unrolled, unrolled_at}
 use Rattle.compaction.proofs.Used.{in_use_same, width_by_use}
 
 -- the same value so many times

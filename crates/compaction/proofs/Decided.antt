@@ -14,7 +14,7 @@ use Rattle.std.proofs.Math.Nat.{mod-eq_of_lt}
 use Rattle.std.proofs.lemmas.Bool.{cases_eq, cases_lt}
 use Rattle.std.proofs.lemmas.Nat.{and_mask, and_assoc, and_comm, or_comm, and_or_self, and_or_apart}
 use Rattle.std.proofs.lemmas.Nat.Bits.{bit_at_and, bit_at_or, bit_at-pow_same, bit_at-pow_other, bit_at-lt, bit_at_above, bit_at_ones, bit_at_ones_above, same_from_bits, and_pow, shr_and_one}
-use Rattle.order_model.specs.Orders.{has, members}
+use Rattle.definitions.specs.Orders.{has, members}
 use Rattle.subfunction_classes.specs.Table.{free_below}
 use Rattle.subfunction_classes.proofs.LowSets.{bit_unset}
 use Rattle.subfunction_classes.proofs.Extended.{free_none, free_more, free_same, free_le}

@@ -15,9 +15,9 @@ use Rattle.std.proofs.Common.{◌++◌, min, take, drop, replicate, pow_mono}
 use Rattle.std.proofs.Math.Nat.{mod-eq_of_lt, two-pow-succ}
 use Rattle.std.proofs.lemmas.Nat.{and_mask}
 use Rattle.std.proofs.lemmas.Nat.Bits.{bit_at-zero}
-use Rattle.order_model.specs.Orders.{members, without}
-use Rattle.order_model.specs.Widths.{width}
-use Rattle.order_model.specs.Problems.{TruthTables, functions}
+use Rattle.definitions.specs.Orders.{members, without}
+use Rattle.definitions.specs.Widths.{width}
+use Rattle.definitions.specs.Problems.{TruthTables, functions}
 use Rattle.compaction.proofs.Decided.{split_decided, join_without, join_with, not_both}
 use Rattle.compaction.specs.HighBytes.{HasByte}
 use Rattle.compaction.specs.Rows.{width_wanted, AreByteRows, AreRowsFilled, HoldsWidths, IsRowFilled, most_compactions}

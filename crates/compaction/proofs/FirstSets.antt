@@ -14,8 +14,8 @@ use Rattle.std.proofs.lemmas.Nat.{one_shl, or_disjoint}
 use Rattle.std.proofs.lemmas.Nat.Bits.{and_pow, bit_at_above}
 use Rattle.std.proofs.lemmas.List.{length-append, length-map, append-nil, append_assoc, ext_get_or, get_or-map}
 use Rattle.std.proofs.lemmas.List.FromFn.{map-range_with_len_more, get_or-map-range_with_len, length-map-range_with_len}
-use Rattle.order_model.specs.Orders.{has, members}
-use Rattle.order_model.specs.Problems.{TruthTables}
+use Rattle.definitions.specs.Orders.{has, members}
+use Rattle.definitions.specs.Problems.{TruthTables}
 use Rattle.subfunction_classes.specs.Table.{ClassesOf, classes_of, with_variable}
 use Rattle.subfunction_classes.proofs.LowSets.{low_new}
 use Rattle.compaction.specs.Strips.{AreOfFirstSets, CanTakeLow, low_variables}

@@ -3,12 +3,13 @@
 --     bytes_table, bytes_more      one more of the lowest three variables
 use Rattle.std.proofs.Common.{◌≡◌, ℕ, ◌*◌, ◌^◌, ◌<◌, ◌≤◌, false, List, [], ◌∷◌, length, sym, ap, ◌∙◌, subst, arith}
 use Rattle.std.proofs.lemmas.Nat.{pow_pos}
-use Rattle.order_model.specs.Orders.{has}
-use Rattle.order_model.specs.Problems.{TruthTables}
+use Rattle.definitions.specs.Orders.{has}
+use Rattle.definitions.specs.Problems.{TruthTables}
 use Rattle.subfunction_classes.specs.PairTables.{AllBelow, IsPairTable}
 use Rattle.subfunction_classes.specs.Places.{pairs}
-use Rattle.pair_numbering.specs.Strips.{AreNamed, unrolled}
-use Rattle.compaction.specs.Strips.{HoldsBytes, HoldsStrips, HoldsValues}
+use Rattle.subfunction_classes.specs.Strips.{AreNamed, unrolled}
+use Rattle.value_strips.specs.ValueStrips.{HoldsValues}
+use Rattle.compaction.specs.Strips.{HoldsBytes, HoldsStrips}
 use Rattle.pair_numbering.specs.Keys.{TellsPairs}
 use Rattle.subfunction_classes.specs.Table.{ClassesOf, classes_of, with_variable, set_of, free_below}
 use Rattle.compaction.proofs.HeldStrips.{rest, parts, less, rank_few, holds_low, holds_values}

@@ -8,22 +8,23 @@ use Rattle.std.proofs.Math.Nat.{eq_of_mul-eq-mul_right, div-lt_iff_lt-mul, mod-l
 use Rattle.std.proofs.lemmas.Bool.{cases_eq}
 use Rattle.std.proofs.lemmas.Nat.{pow_pos, pow-add}
 use Rattle.std.proofs.lemmas.Nat.Bits.{bit_at_or, bit_at-pow_same, bit_at-pow_other, bit_at-lt}
-use Rattle.order_model.specs.Orders.{has}
-use Rattle.order_model.proofs.Bits.Masks.{has_members}
-use Rattle.order_model.proofs.Lists.Orders.{has_variables}
+use Rattle.definitions.specs.Orders.{has}
+use Rattle.definitions.proofs.Bits.Masks.{has_members}
+use Rattle.definitions.proofs.Lists.Orders.{has_variables}
 use Rattle.subfunction_classes.specs.PairTables.{IsPairTable}
 use Rattle.subfunction_classes.specs.Places.{pairs}
-use Rattle.pair_numbering.specs.Strips.{unrolled}
-use Rattle.compaction.specs.Strips.{AreStrips, GrowsStrips, HoldsStrips, HoldsValues, IsStripTable, HoldsKeys}
+use Rattle.subfunction_classes.specs.Strips.{unrolled}
+use Rattle.value_strips.specs.ValueStrips.{AreStrips, HoldsValues}
+use Rattle.compaction.specs.Strips.{GrowsStrips, HoldsStrips, IsStripTable, HoldsKeys}
 use Rattle.pair_numbering.specs.Keys.{TellsPairs}
 use Rattle.subfunction_classes.specs.Table.{ClassesOf, classes_of, with_variable, set_of, free_below}
 use Rattle.subfunction_classes.proofs.Extended.{free_none, free_step, rank_small}
-use Rattle.order_model.specs.Problems.{TruthTables}
+use Rattle.definitions.specs.Problems.{TruthTables}
 use Rattle.compaction.proofs.Keyed.{keys_ready, free_zero, value_keys, keys_by_names}
 use Rattle.pair_numbering.proofs.Names.{names_below, length_names}
 use Rattle.compaction.proofs.Stripped.{parts_of, below_product, low_strips, low_tells}
 use Rattle.subfunction_classes.proofs.Index.{length-pairs}
-use Rattle.compaction.proofs.Unrolled.{named_of, length_unrolled, unrolled_at}
+use Rattle.value_strips.proofs.Unrolled.{named_of, length_unrolled, unrolled_at}
 
 -- one step of the count
 step_of_bit : (set y : ℕ) → free_below set (suc y) ≡ free_below set y + cond (not (eqb (bit_at set y) 1)) 1 0

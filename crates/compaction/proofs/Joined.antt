@@ -6,10 +6,10 @@ use Rattle.std.proofs.Common.{◌≡◌, ℕ, ◌+◌, ◌*◌, ◌/◌, ◌%◌
 use Rattle.std.specs.Int.{bit_at}
 use Rattle.std.proofs.lemmas.Bool.{cases_lt, cases_eq}
 use Rattle.std.proofs.lemmas.List.{get_or_append_left, get_or_push}
-use Rattle.order_model.specs.Orders.{members, without}
-use Rattle.order_model.specs.Problems.{TruthTables, functions}
-use Rattle.order_model.specs.Widths.{width}
-use Rattle.order_model.proofs.Lists.Orders.{has_at}
+use Rattle.definitions.specs.Orders.{members, without}
+use Rattle.definitions.specs.Problems.{TruthTables, functions}
+use Rattle.definitions.specs.Widths.{width}
+use Rattle.definitions.proofs.Lists.Orders.{has_at}
 use Rattle.subset_layers.specs.Layers.{BlockOf, block_masks}
 use Rattle.subset_layers.proofs.BlockLists.{in_block}
 use Rattle.compaction.specs.Requests.{asked}

@@ -10,29 +10,29 @@ use Rattle.std.specs.List.{filter, range_with_len, list_any}
 use Rattle.std.proofs.lemmas.Bool.{cases_eq}
 use Rattle.std.proofs.lemmas.Nat.{pow_pos}
 use Rattle.std.proofs.lemmas.List.{length-map, get_or-map, map-id}
-use Rattle.order_model.specs.Functions.{Function, restrict, same_table, depends}
-use Rattle.order_model.specs.Orders.{has, variables}
-use Rattle.order_model.specs.Levels.{reach}
-use Rattle.order_model.specs.Widths.{same_pair, entries, class_of, class_numbers, class_pair, outside}
-use Rattle.order_model.proofs.Lists.Sets.{Among, among_from_map, nat_decides}
-use Rattle.order_model.proofs.Functions.Tables.{same_table_decides, depends_same}
-use Rattle.order_model.proofs.Widths.ClassPairs.{pair_decides, rank_apart, depends_by_classes}
+use Rattle.definitions.specs.Functions.{Function, restrict, same_table, depends}
+use Rattle.definitions.specs.Orders.{has, variables}
+use Rattle.definitions.specs.Levels.{reach}
+use Rattle.definitions.specs.Widths.{same_pair, entries, class_of, class_numbers, class_pair, outside}
+use Rattle.definitions.proofs.Lists.Sets.{Among, among_from_map, nat_decides}
+use Rattle.definitions.proofs.Functions.Tables.{same_table_decides, depends_same}
+use Rattle.definitions.proofs.Widths.ClassPairs.{pair_decides, rank_apart, depends_by_classes}
 use Rattle.subfunction_classes.specs.Dependence.{dependence, joined_mask}
 use Rattle.subfunction_classes.specs.Numbering.{rank, ranks}
 use Rattle.subfunction_classes.specs.Places.{low_place, pairs}
 use Rattle.std.proofs.lemmas.Nat.Bits.{shr_and_one, bit_at-zero}
-use Rattle.order_model.specs.Problems.{TruthTables, value_at}
+use Rattle.definitions.specs.Problems.{TruthTables, value_at}
 use Rattle.subfunction_classes.specs.Values.{values_of, number_of}
 use Rattle.subfunction_classes.proofs.StartClasses.{holds_start}
 use Rattle.subfunction_classes.specs.Table.{classes_of, ClassesOf, HoldsClasses, functions_of, set_of, free_below, with_variable}
 use Rattle.compaction.specs.Strips.{HoldsKeys}
 use Rattle.pair_numbering.specs.Keys.{TellsPairs}
 use Rattle.pair_numbering.proofs.Names.{length_names, names_below, names_masks, names_ranked}
-use Rattle.order_model.proofs.Precedence.Masks.{among_at}
+use Rattle.definitions.proofs.Precedence.Masks.{among_at}
 use Rattle.subfunction_classes.proofs.RankLaws.{ranks_alike}
 use Rattle.subfunction_classes.proofs.Index.{length-pairs, pair_within}
 use Rattle.subfunction_classes.proofs.DependenceMasks.{dependence_joined}
-use Rattle.order_model.proofs.Lists.Maps.{map_same}
+use Rattle.definitions.proofs.Lists.Maps.{map_same}
 use Rattle.subfunction_classes.proofs.Compacted.{step_of, tops, length_numbers, pairs_told, pairs_of_classes, compacted, counted, class_numbers_same, class_pair_same}
 use Rattle.subfunction_classes.proofs.Extended.{members_more, step_is, class_below, few_masks, IsReady, rank_small, free_none, free_more}
 use mathlib.Core.List.{map-map}

@@ -7,13 +7,10 @@ pub mod JoinedTables
 pub mod OwnMembers
 pub mod Decided
 pub mod Keyed
-pub mod Unrolled
 pub mod Paired
 pub mod Stripped
 pub mod HeldStrips
 pub mod Used
-pub mod Expanded
-pub mod KeptRuns
 pub mod AllDistinct
 pub mod HeldBytes
 pub mod FirstSets

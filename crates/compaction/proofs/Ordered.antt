@@ -3,11 +3,11 @@
 --     ordered_strips, ordered_tells      one more variable above the strips
 use Rattle.std.proofs.Common.{◌≡◌, ℕ, ◌*◌, ◌/◌, ◌<◌, List, length, get_or, sym, ap, ◌∙◌, subst, arith}
 use Rattle.subfunction_classes.specs.Places.{pairs}
-use Rattle.pair_numbering.specs.Strips.{unrolled}
-use Rattle.compaction.specs.Strips.{AreStrips}
+use Rattle.subfunction_classes.specs.Strips.{unrolled}
+use Rattle.value_strips.specs.ValueStrips.{AreStrips}
 use Rattle.pair_numbering.specs.Keys.{TellsPairs}
 use Rattle.compaction.proofs.AllDistinct.{own_count}
-use Rattle.compaction.proofs.Expanded.{whole_are, whole_values}
+use Rattle.value_strips.proofs.Expanded.{whole_are, whole_values}
 use Rattle.subfunction_classes.proofs.Index.{length-pairs}
 use Rattle.pair_numbering.proofs.Names.{length_names}
 

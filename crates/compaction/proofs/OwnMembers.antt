@@ -7,13 +7,13 @@ use Rattle.std.proofs.lemmas.Bool.{cases_lt}
 use Rattle.std.proofs.lemmas.List.Sums.{sum_by-cons}
 use Rattle.std.proofs.lemmas.Nat.Bits.{bit_at_above}
 use lib.Count.{ones-le}
-use Rattle.order_model.specs.Orders.{has, members}
-use Rattle.order_model.specs.Problems.{TruthTables}
-use Rattle.order_model.proofs.Lists.Orders.{has_at}
+use Rattle.definitions.specs.Orders.{has, members}
+use Rattle.definitions.specs.Problems.{TruthTables}
+use Rattle.definitions.proofs.Lists.Orders.{has_at}
 use Rattle.subset_layers.specs.Layers.{BlockOf, block_masks}
 use Rattle.subset_layers.proofs.BlockLists.{in_block}
 use Rattle.compaction.specs.Rows.{AreMembers, wanted_count}
-use Rattle.order_model.proofs.Precedence.MaskLaws.{member_from}
+use Rattle.definitions.proofs.Precedence.MaskLaws.{member_from}
 
 -- a bit of a mask stands for a member
 pub bit_member : (n mask x : ℕ) → mask < 2 ^ n → bit_at mask x ≡ 1 → has (members n mask) x ≡ true

@@ -5,15 +5,15 @@ use Rattle.std.proofs.Common.{◌≡◌, ℕ, zero, suc, ◌+◌, ◌*◌, ◌/�
 use Rattle.std.specs.Set.{distinct_count}
 use Rattle.std.proofs.Math.Nat.{mul-le-mul_right}
 use Rattle.std.proofs.lemmas.Map.Made.{distinct_count-le}
-use Rattle.order_model.specs.Widths.{same_pair}
+use Rattle.definitions.specs.Widths.{same_pair}
 use Rattle.pair_numbering.specs.Chains.{lower_at, upper_at}
 use Rattle.pair_numbering.specs.Numbers.{ArePairsNumbered}
 use Rattle.subfunction_classes.specs.Places as places
-use Rattle.pair_numbering.specs.Strips.{AreNamed, names_of, unrolled}
-use Rattle.compaction.specs.Strips.{AreStrips}
+use Rattle.subfunction_classes.specs.Strips.{AreNamed, names_of, unrolled}
+use Rattle.value_strips.specs.ValueStrips.{AreStrips}
 use Rattle.subfunction_classes.proofs.DistinctPairs.{met_classes, number_below, pair_numbered}
 use Rattle.subfunction_classes.proofs.Index.{length-pairs, pair_listed}
-use Rattle.pair_numbering.proofs.Unrolled.{length_named, length_names_of, name_high, name_low, named_at}
+use Rattle.subfunction_classes.proofs.Unrolled.{length_named, length_names_of, name_high, name_low, named_at}
 
 pub names_of_below : (count : ℕ) (pairs : List (ℕ × ℕ)) →
     ((k : ℕ) → k < length pairs → ((get_or pairs k (0, 0)).0 < count) × ((get_or pairs k (0, 0)).1 < count)) → (i : ℕ) →

@@ -12,8 +12,8 @@ use Rattle.std.proofs.lemmas.Bool.{cases_eq, cases_lt}
 use Rattle.std.proofs.lemmas.Grind.{get_or_default_zero}
 use Rattle.std.proofs.lemmas.List.{length-set, length-replicate}
 use Rattle.std.proofs.lemmas.Nat.Bits.{bit_at_and, bit_at_or, bit_at-lt, bit_at-zero, bit_at_above}
-use Rattle.order_model.specs.Orders.{has, members}
-use Rattle.order_model.proofs.Precedence.MaskLaws.{member_from}
+use Rattle.definitions.specs.Orders.{has, members}
+use Rattle.definitions.proofs.Precedence.MaskLaws.{member_from}
 use Rattle.compaction.specs.Requests.{AreMembersOf, IsRequest}
 use Rattle.compaction.proofs.Filled.{zeros_at}
 

@@ -6,22 +6,22 @@ use Rattle.std.proofs.Common.{◌≡◌, ℕ, suc, ◌+◌, ◌*◌, ◌/◌, �
 use Rattle.std.specs.Set.{distinct_count}
 use Rattle.std.proofs.Math.Nat.{mul-le-mul_right, add-mul-mod_self_right, add-mul-div_right, mod-eq_of_lt, div-eq_of_lt, mod-lt, div-lt_iff_lt-mul}
 use Rattle.std.proofs.lemmas.List.{get_or-map, length-map}
-use Rattle.order_model.specs.Widths.{same_pair}
-use Rattle.order_model.proofs.Widths.ClassPairs.{pair_decides}
+use Rattle.definitions.specs.Widths.{same_pair}
+use Rattle.definitions.proofs.Widths.ClassPairs.{pair_decides}
 use Rattle.pair_numbering.specs.Chains.{lower_at, upper_at}
 use Rattle.subfunction_classes.specs.Numbering.{rank, ranks}
 use Rattle.subfunction_classes.specs.Places.{low_place, pair_at, pairs}
-use Rattle.pair_numbering.specs.Strips.{AreNamed, unrolled}
-use Rattle.compaction.specs.Strips.{AreStrips}
+use Rattle.subfunction_classes.specs.Strips.{AreNamed, unrolled}
+use Rattle.value_strips.specs.ValueStrips.{AreStrips}
 use Rattle.pair_numbering.specs.Keys.{TellsPairs}
 use Rattle.subfunction_classes.proofs.Index.{length-pairs, pair_listed, pair_within}
 use Rattle.subfunction_classes.proofs.Joined.{number_at, length-ranks}
 use Rattle.pair_numbering.proofs.Names.{names_among, length_names}
 use Rattle.subfunction_classes.proofs.Lists.{place_of}
-use Rattle.order_model.proofs.Precedence.Masks.{among_at}
+use Rattle.definitions.proofs.Precedence.Masks.{among_at}
 use Rattle.subfunction_classes.proofs.RankLaws.{rank_below, rank_reached}
-use Rattle.pair_numbering.proofs.Unrolled.{length_named, named_at}
-use Rattle.compaction.proofs.Unrolled.{named_of, same_by_places, length_unrolled, unrolled_at}
+use Rattle.subfunction_classes.proofs.Unrolled.{length_named, named_at}
+use Rattle.value_strips.proofs.Unrolled.{named_of, same_by_places, length_unrolled, unrolled_at}
 
 -- ---- places
 

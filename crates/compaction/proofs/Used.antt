@@ -14,33 +14,34 @@ use Rattle.std.proofs.lemmas.List.{map-append, length-append, length-map, get_or
 use Rattle.std.proofs.lemmas.List.Elements.{filter-append}
 use Rattle.std.proofs.lemmas.List.FromFn.{fill_by_all, length-range_with_len}
 use Rattle.std.proofs.lemmas.Map.Made.{distinct_count-from_IsDistinct}
-use Rattle.order_model.specs.Functions.{Function, same_table}
-use Rattle.order_model.specs.Levels.{reach}
-use Rattle.order_model.specs.Orders.{has, variables, without}
-use Rattle.order_model.specs.Widths.{class_numbers, class_of, entries, outside, width}
-use Rattle.order_model.proofs.Bits.Masks.{has_members}
-use Rattle.order_model.proofs.Lists.Orders.{has_variables, same_bool}
-use Rattle.order_model.proofs.Widths.ClassPairs.{count_alike, rank_apart}
-use Rattle.order_model.proofs.Widths.Recurrence.{distinct_filter, distinct_variables}
-use Rattle.order_model.proofs.Lists.Sets.{Among, Within, among_filter, among_from_filter, among_from_member, member_from_among, count_same, nat_decides}
-use Rattle.order_model.proofs.Functions.Tables.{same_table_decides}
+use Rattle.definitions.specs.Functions.{Function, same_table}
+use Rattle.definitions.specs.Levels.{reach}
+use Rattle.definitions.specs.Orders.{has, variables, without}
+use Rattle.definitions.specs.Widths.{class_numbers, class_of, entries, outside, width}
+use Rattle.definitions.proofs.Bits.Masks.{has_members}
+use Rattle.definitions.proofs.Lists.Orders.{has_variables, same_bool}
+use Rattle.definitions.proofs.Widths.ClassPairs.{count_alike, rank_apart}
+use Rattle.definitions.proofs.Widths.Recurrence.{distinct_filter, distinct_variables}
+use Rattle.definitions.proofs.Lists.Sets.{Among, Within, among_filter, among_from_filter, among_from_member, member_from_among, count_same, nat_decides}
+use Rattle.definitions.proofs.Functions.Tables.{same_table_decides}
 use Rattle.subfunction_classes.specs.Dependence.{AreMasks, dependence}
 use Rattle.subfunction_classes.specs.Numbering.{rank, ranks}
 use Rattle.compaction.specs.Rows.{width_wanted}
-use Rattle.pair_numbering.specs.Strips.{unrolled}
-use Rattle.compaction.specs.Strips.{AreStrips, HoldsStrips, masks_in_use}
+use Rattle.subfunction_classes.specs.Strips.{unrolled}
+use Rattle.value_strips.specs.ValueStrips.{AreStrips}
+use Rattle.compaction.specs.Strips.{HoldsStrips, masks_in_use}
 use Rattle.pair_numbering.specs.Keys.{AreUsed}
 use Rattle.subfunction_classes.specs.Table.{ClassesOf, functions_of, set_of, free_below}
 use Rattle.subfunction_classes.proofs.Compacted.{filter_range_same}
 use Rattle.subfunction_classes.proofs.Counted.{among_variables, distinct_by_numbers, length_filter_map, width_is_dependent_classes}
-use Rattle.order_model.proofs.Lists.Maps.{map_same}
+use Rattle.definitions.proofs.Lists.Maps.{map_same}
 use Rattle.subfunction_classes.proofs.Lists.{place_of}
-use Rattle.order_model.proofs.Precedence.Masks.{among_at}
+use Rattle.definitions.proofs.Precedence.Masks.{among_at}
 use Rattle.compaction.proofs.Stripped.{parts_of, below_product}
-use Rattle.compaction.proofs.Unrolled.{length_unrolled, unrolled_at}
+use Rattle.value_strips.proofs.Unrolled.{length_unrolled, unrolled_at}
 use Rattle.subfunction_classes.proofs.RankLaws.{rank_below, rank_reached}
 use mathlib.Core.List.{map-map}
-use Rattle.order_model.proofs.Lists.Ranges.{range_append, filter_at_most}
+use Rattle.definitions.proofs.Lists.Ranges.{range_append, filter_at_most}
 
 -- one more mask, where the number occurs or not
 pub in_use_more : {X : Type 0} (f : ℕ → X) (p : ℕ → Bool) (k : ℕ) →

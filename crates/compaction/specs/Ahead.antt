@@ -6,7 +6,7 @@
 --     with_others found others      with what others found of the same problem
 use Rattle.std.specs.Prelude.{ℕ, List, [], ◌++◌, sum_by}
 use Rattle.std.specs.List.{All}
-use Rattle.order_model.specs.Problems.{TruthTables}
+use Rattle.definitions.specs.Problems.{TruthTables}
 use Rattle.compaction.specs.Rows.{HoldsRows, RowsOf, wanted_count}
 
 -- the functions, rows that were found ahead of the layers of their sets, and the size of the largest sets of which rows are to be found

@@ -1,5 +1,4 @@
 pub mod Ahead
-pub mod Columns
 pub mod HighBytes
 pub mod Joining
 pub mod Requests

@@ -5,7 +5,7 @@
 --     Asks needed masks wanted      all that is wanted of some sets
 use Rattle.std.specs.Prelude.{◌≡◌, ℕ, ◌+◌, ◌*◌, ◌/◌, ◌%◌, ◌^◌, ◌<◌, ◌≤◌, IsTrue, List, length, slice_index}
 use Rattle.std.specs.Int.{bit_at}
-use Rattle.order_model.specs.Orders.{has, members}
+use Rattle.definitions.specs.Orders.{has, members}
 
 -- the variables that are wanted of a set are its members
 abbrev pub AreMembersOf : ℕ → ℕ → ℕ → Type 0

@@ -10,9 +10,9 @@
 --     AreRowsFilled p low needed set decided old new, IsRowFilled p low needed set old new      some rows are filled; that of one set is
 use Rattle.std.specs.Prelude.{◌≡◌, ◌≢◌, ℕ, ◌+◌, ◌*◌, ◌<◌, ◌==◌, IsTrue, List, [], if◌then◌else◌, sum_by, length, slice_index, get_or, count_ones, bit_and}
 use Rattle.std.specs.Int.{bit_at}
-use Rattle.order_model.specs.Orders.{has, members, without}
-use Rattle.order_model.specs.Problems.{TruthTables, functions}
-use Rattle.order_model.specs.Widths.{width}
+use Rattle.definitions.specs.Orders.{has, members, without}
+use Rattle.definitions.specs.Problems.{TruthTables, functions}
+use Rattle.definitions.specs.Widths.{width}
 
 -- the width of x over the set without it, if it is wanted
 unfoldable pub width_wanted : TruthTables → ℕ → ℕ → ℕ → ℕ

@@ -1,7 +1,5 @@
 -- Tables kept in strips: entries that differ in the low free variables only stand in one strip, and equal strips are kept once.
 --     low_variables p      how many variables run inside a strip of the empty set
---     AreStrips      each strip is whole, and used
---     HoldsValues p outer numbers len      strips that hold a problem's values
 --     StripTableOf, IsStripTable outer rank numbers bits masks      strips whose names are paired by a variable
 --     GrowsStrips t x grown labels joined      the strips with that variable too
 --     masks_in_use numbers masks      the masks of the numbers that occur, rising
@@ -15,10 +13,10 @@
 --         assignment of the variables below 3 outside the set
 use Rattle.std.specs.Prelude.{◌≡◌, ℕ, ◌+◌, ◌*◌, ◌^◌, ◌<◌, ◌≤◌, Bool, IsFalse, IsTrue, min, List, Option, None, Some, map, length, reverse, slice_index, nat_eq}
 use Rattle.std.specs.List.{filter, range_with_len}
-use Rattle.order_model.specs.Orders.{has, variables}
-use Rattle.order_model.specs.Problems.{TruthTables, value_at}
-use Rattle.order_model.specs.Levels.{reach}
-use Rattle.order_model.specs.Widths.{class_numbers, outside}
+use Rattle.definitions.specs.Orders.{has, variables}
+use Rattle.definitions.specs.Problems.{TruthTables, value_at}
+use Rattle.definitions.specs.Levels.{reach}
+use Rattle.definitions.specs.Widths.{class_numbers, outside}
 use Rattle.subfunction_classes.specs.Numbering.{ranks}
 use Rattle.subfunction_classes.specs.PairTables.{AllBelow}
 use Rattle.subfunction_classes.specs.Places.{pairs}
@@ -26,24 +24,11 @@ use Rattle.subfunction_classes.specs.Values.{values_of, number_of}
 use Rattle.subfunction_classes.specs.Dependence.{dependence}
 use Rattle.subfunction_classes.specs.Table.{ClassesOf, classes_of, functions_of, set_of, free_below}
 use Rattle.pair_numbering.specs.Keys.{AreUsed, TellsPairs}
-use Rattle.pair_numbering.specs.Strips.{AreNamed, unrolled}
+use Rattle.subfunction_classes.specs.Strips.{AreNamed, unrolled}
 
 -- how many variables run inside a strip of the empty set
 abbrev pub low_variables : TruthTables → ℕ
 low_variables p = min p.inputs 8
-
--- strips of `len` entries, each of which is named in `outer`
-pub record AreStrips (outer numbers : List ℕ) (len : ℕ) : Type 0 where
-  pub count : ℕ
-  pub whole : length numbers ≡ count * len
-  pub within : (i : ℕ) → i < length outer → slice_index outer i < count
-  pub used : (k : ℕ) → k < count → (i : ℕ) × ((i < length outer) × (slice_index outer i ≡ k))
-
--- strips whose entries are the numbers of a problem's values
-pub record HoldsValues (p : TruthTables) (outer numbers : List ℕ) (len : ℕ) : Type 0 where
-  pub strips : AreStrips outer numbers len
-  pub values : unrolled outer numbers len ≡ map (number_of (value_at p 0 0)) (values_of p)
-  pub few : length numbers ≤ 2 ^ 20
 
 -- strips, how many variables stand inside one and below the variable that pairs the names, and the mask of each number
 pub record StripTableOf : Type 0 where

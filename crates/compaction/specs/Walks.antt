@@ -9,7 +9,7 @@
 --     Counts widths old before new after      one tally rises by so many widths, the other by what is found ahead
 use Rattle.std.specs.Prelude.{◌≡◌, ◌≢◌, ℕ, ◌+◌, ◌*◌, ◌^◌, ◌<◌, ◌≤◌, List, length, slice_index, bit_and}
 use Rattle.std.specs.Int.{bit_at}
-use Rattle.order_model.specs.Problems.{TruthTables}
+use Rattle.definitions.specs.Problems.{TruthTables}
 use Rattle.subfunction_classes.specs.Table.{ClassesOf}
 use Rattle.subset_layers.specs.Layers.{BlockOf, block_masks}
 use Rattle.compaction.specs.Ahead.{AheadOf, widths_ahead}

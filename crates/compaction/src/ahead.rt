@@ -137,7 +137,7 @@ pub struct WidthSource<'a> {
 
 impl<'a> Model for WidthSource<'a> {
     ghost use Rattle.std.specs.Prelude.{◌≡◌};
-    ghost use Rattle.order_model.specs.Problems.{TruthTables};
+    ghost use Rattle.definitions.specs.Problems.{TruthTables};
 
     ghost Value = { TruthTables };
 

@@ -2,11 +2,11 @@
 //! rows of the 256 bytes are worked on before the strips are written out.
 
 ghost use Rattle.std.specs.Prelude.{◌≡◌, ◌*◌, ◌^◌, ◌<◌, ◌≤◌, length, IfOk, IsFalse};
-ghost use Rattle.order_model.specs.Orders.{has};
-ghost use Rattle.pair_numbering.specs.Strips.{AreNamed, unrolled};
+ghost use Rattle.definitions.specs.Orders.{has};
+ghost use Rattle.subfunction_classes.specs.Strips.{AreNamed, unrolled};
 
 use crate::add_variable::StripParts;
-use crate::columns::{ByteStrips, byte_strips};
+use value_strips::{ByteStrips, byte_strips};
 use crate::strips::Strips;
 use order_model::{Mask, Problem, VarIx};
 use pair_numbering::label_pairs;

@@ -5,7 +5,6 @@ mod add_variable;
 mod ahead;
 mod blocks;
 mod bytes;
-mod columns;
 mod high_bytes;
 mod low_tables;
 mod names;

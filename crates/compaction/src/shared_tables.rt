@@ -31,7 +31,7 @@ pub struct SharedTables<'a> {
 }
 
 impl<'a> Model for SharedTables<'a> {
-    ghost use Rattle.order_model.specs.Problems.{TruthTables};
+    ghost use Rattle.definitions.specs.Problems.{TruthTables};
     ghost use Rattle.compaction.specs.Strips.{AreOfFirstSets};
 
     ghost Value = { TruthTables };

@@ -4,12 +4,12 @@
 ghost use Rattle.std.specs.Prelude.{◌≡◌, ℕ, ◌^◌, ◌<◌, ◌≤◌, length, slice_index, get_or, if◌then◌else◌, ◌==◌, false, IfOk, IsFalse, IsTrue};
 ghost use Rattle.std.specs.Int.{bit_at};
 ghost use Rattle.std.specs.List.{filter};
-ghost use Rattle.order_model.specs.Orders.{has};
+ghost use Rattle.definitions.specs.Orders.{has};
 ghost use Rattle.subfunction_classes.specs.PairTables.{AllBelow, AreOwn};
 ghost use Rattle.compaction.specs.Strips.{masks_in_use, low_variables as low_of};
 
 use crate::add_variable::{StripParts, StripTable, add_above, are_in_order};
-use crate::columns::{ValueStrips, whole_strips};
+use value_strips::{ValueStrips, whole_strips};
 use crate::names::NamePairs;
 use order_model::{Mask, Problem, VarIx, contains};
 use pair_numbering::label_pairs;

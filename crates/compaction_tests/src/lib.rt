@@ -6,6 +6,8 @@ mod numberings;
 #[cfg(test)]
 mod problems;
 #[cfg(test)]
+mod strips;
+#[cfg(test)]
 mod tables;
 #[cfg(test)]
 mod walks;

@@ -1,6 +1,6 @@
 -- Operations on ids, level by level.
 use Rattle.std.proofs.Common.{◌≡◌, ℕ, ◌+◌, ◌<◌, ◌≤◌, ⊎_elim, Bool, true, false, cond, sym, refl, ap, ◌∙◌, subst, arith}
-use Rattle.order_model.specs.Functions.{Point, Function, bit, SameFunction}
+use Rattle.definitions.specs.Functions.{Point, Function, bit, SameFunction}
 use Rattle.node_words.specs.declared.operation.Operation.{Operation}
 use Rattle.node_words.specs.Entries.{combine, combine_values}
 use Rattle.node_words.specs.Meaning.{branch}

@@ -3,13 +3,13 @@ use Rattle.std.proofs.Common.{◌≡◌, ℕ, suc, ◌+◌, ◌<◌, Bool, Bor, 
 use Rattle.std.specs.List.{AllZip, range_with_len}
 use Rattle.std.proofs.lemmas.List.{length-map, get_or-map}
 use Rattle.std.proofs.lemmas.List.FromFn.{length-map-range_with_len, get_or-map-range_with_len}
-use Rattle.order_model.specs.declared.terms.Term.{Term}
-use Rattle.order_model.specs.Functions.{Function, SameFunction, from_table, table}
-use Rattle.order_model.specs.Diagrams.{Graph, Represents, IsReduced}
-use Rattle.order_model.specs.OrderedGraphs.{OrderedGraph}
-use Rattle.order_model.specs.Orders.{IsOrder}
-use Rattle.order_model.specs.Problems.{TruthTables, functions, outputs_of, table_at}
-use Rattle.order_model.specs.Products.{product_of, product_function, product_functions}
+use Rattle.definitions.specs.declared.terms.Term.{Term}
+use Rattle.definitions.specs.Functions.{Function, SameFunction, from_table, table}
+use Rattle.definitions.specs.Diagrams.{Graph, Represents, IsReduced}
+use Rattle.definitions.specs.OrderedGraphs.{OrderedGraph}
+use Rattle.definitions.specs.Orders.{IsOrder}
+use Rattle.definitions.specs.Problems.{TruthTables, functions, outputs_of, table_at}
+use Rattle.definitions.specs.Products.{product_of, product_function, product_functions}
 use Rattle.pla_reader.specs.Covers.{NamedCover, functions_of}
 use Rattle.unique_table.specs.declared.plan.Plan.{Plan}
 use Rattle.unique_table.specs.declared.plan.PieceKind.{PieceKind}
@@ -19,7 +19,7 @@ use Rattle.unique_table.specs.Plans.{order_of, output_at, products_of, AreTermsO
 use Rattle.unique_table.proofs.Roots.{represents_same}
 use Rattle.dd_builder.specs.Building.{AreProductsOf, IsForCover, HasLevelCounts, IsDiagramOf, IsDiagramFor}
 use Rattle.truth_table.specs.OfCovers.{AreTablesOf}
-use Rattle.order_model.proofs.Functions.Tables.{same_sym}
+use Rattle.definitions.proofs.Functions.Tables.{same_sym}
 
 -- a reduced diagram has the level counts, and the functions of tables are those that the tables were made of
 abbrev pub CountsLevels : Type 0

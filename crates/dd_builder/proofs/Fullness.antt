@@ -1,8 +1,8 @@
 -- The only session of a store, if it made nodes of subfunctions alone, knows no full store.
 use Rattle.std.proofs.Common.{◌≡◌, ◌≢◌, ℕ, ◌+◌, ◌^◌, ◌<◌, ◌≤◌, length, get_or, sym, ap, ◌∙◌, subst, arith}
 use Rattle.std.proofs.lemmas.List.{length-map}
-use Rattle.order_model.specs.Functions.{SameFunction, from_table}
-use Rattle.order_model.specs.Problems.{functions}
+use Rattle.definitions.specs.Functions.{SameFunction, from_table}
+use Rattle.definitions.specs.Problems.{functions}
 use Rattle.node_words.specs.Nodes.{AreNodeWords, AreUnequal, level_of, low_of, high_of}
 use Rattle.node_words.specs.Meaning.{function_of}
 use Rattle.node_words.proofs.Making.{word_level, word_low, word_high, makes}

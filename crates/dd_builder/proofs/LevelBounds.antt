@@ -15,15 +15,15 @@ use Rattle.std.proofs.lemmas.List.{get_or-replicate, set-set, set-get_or, length
 use Rattle.std.proofs.lemmas.List.FromFn.{fill_by_all, length-range_with_len, map-range_with_len_more}
 use Rattle.std.proofs.lemmas.List.Sums.{sum_by-append}
 use Rattle.std.proofs.lemmas.Nat.{pow-add, pow_pos}
-use Rattle.order_model.specs.Functions.{Point, Function, bit, weight, restrict, SameFunction, table, depends, same_table}
-use Rattle.order_model.specs.Orders.{has, IsOrder}
-use Rattle.order_model.specs.Levels.{subfunctions, reach, dependents, level_count, level_counts, size_under}
-use Rattle.order_model.proofs.Functions.Tables.{restrict_same, table_same, same_from_table, same_table_decides, depends_false}
-use Rattle.order_model.proofs.Functions.Exchange.{mix, mix_is, bit-mix, length-mix, Below, below_from_has, subfunctions_fix}
-use Rattle.order_model.proofs.Lists.Orders.{has_append, has_range}
-use Rattle.order_model.proofs.Lists.Sets.{Among, count_le, nat_decides, among_from_map, among_from_filter, among_from_flat_map}
-use Rattle.order_model.proofs.Widths.ClassPairs.{count_alike}
-use Rattle.order_model.proofs.Widths.SizeBounds.{order_length, length-subfunctions}
+use Rattle.definitions.specs.Functions.{Point, Function, bit, weight, restrict, SameFunction, table, depends, same_table}
+use Rattle.definitions.specs.Orders.{has, IsOrder}
+use Rattle.definitions.specs.Levels.{subfunctions, reach, dependents, level_count, level_counts, size_under}
+use Rattle.definitions.proofs.Functions.Tables.{restrict_same, table_same, same_from_table, same_table_decides, depends_false}
+use Rattle.definitions.proofs.Functions.Exchange.{mix, mix_is, bit-mix, length-mix, Below, below_from_has, subfunctions_fix}
+use Rattle.definitions.proofs.Lists.Orders.{has_append, has_range}
+use Rattle.definitions.proofs.Lists.Sets.{Among, count_le, nat_decides, among_from_map, among_from_filter, among_from_flat_map}
+use Rattle.definitions.proofs.Widths.ClassPairs.{count_alike}
+use Rattle.definitions.proofs.Widths.SizeBounds.{order_length, length-subfunctions}
 use Rattle.node_words.proofs.Meaning.{choose_n, refuse_n}
 use Rattle.dd_builder.specs.Subfunctions.{dependent, most_on, most_above, SizesAreFew}
 use Rattle.dd_builder.proofs.Counting.{parts_same, parts_small, pair, pair_small, pair_same}

@@ -7,12 +7,12 @@ use Rattle.std.proofs.lemmas.Bool.{cases_eq, and_parts, false≢true}
 use Rattle.std.proofs.lemmas.List.{drop_all, drop_more}
 use Rattle.std.proofs.lemmas.List.FromFn.{get_or-map-range_with_len}
 use Rattle.std.proofs.lemmas.Nat.Bits.{bit_at-lt, shr_and_one}
-use Rattle.order_model.specs.declared.terms.Term.{Term}
-use Rattle.order_model.specs.Functions.{Point, Function, SameFunction, bit}
-use Rattle.order_model.specs.Orders.{has, IsOrder}
-use Rattle.order_model.specs.Problems.{outputs_of}
-use Rattle.order_model.specs.Products.{product_of, literal_holds, literal_in, matches, has_output}
-use Rattle.order_model.proofs.Lists.Orders.{same_bool}
+use Rattle.definitions.specs.declared.terms.Term.{Term}
+use Rattle.definitions.specs.Functions.{Point, Function, SameFunction, bit}
+use Rattle.definitions.specs.Orders.{has, IsOrder}
+use Rattle.definitions.specs.Problems.{outputs_of}
+use Rattle.definitions.specs.Products.{product_of, literal_holds, literal_in, matches, has_output}
+use Rattle.definitions.proofs.Lists.Orders.{same_bool}
 use Rattle.truth_table.proofs.Literals.{all_from, all_at}
 use Rattle.node_words.specs.declared.operation.Operation.TheVariants.{Or}
 use Rattle.node_words.specs.Entries.{combine}

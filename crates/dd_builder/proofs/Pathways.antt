@@ -3,8 +3,8 @@ use Rattle.std.proofs.Common.{◌≡◌, ◌≢◌, ℕ, zero, suc, ◌+◌, ◌
 use Rattle.std.specs.Int.{bit_at}
 use Rattle.std.proofs.lemmas.Nat.{or_disjoint, or_lt, pow_below, pow_pos, one_shl}
 use Rattle.std.proofs.lemmas.Nat.Bits.{and_pow, bit_at_above, bit_at-lt, bit_at-zero, bit_at_or, bit_at-pow_same, bit_at-pow_other, shr_and_one}
-use Rattle.order_model.specs.Orders.{IsOrder, place_in}
-use Rattle.order_model.proofs.Lists.Orders.{has_at, place_get}
+use Rattle.definitions.specs.Orders.{IsOrder, place_in}
+use Rattle.definitions.proofs.Lists.Orders.{has_at, place_get}
 use Rattle.dd_builder.specs.Paths.{IsPointAbove, IsPointOf}
 
 max_zero : (k : ℕ) → max 0 k ≡ k

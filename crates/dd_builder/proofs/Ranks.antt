@@ -7,15 +7,15 @@ use Rattle.std.specs.Set.{is_member, unique_keys, distinct_count}
 use Rattle.std.proofs.lemmas.Bool.{cases_lt, cases_Bool, false≢true, true≢false, false_from_ne_true}
 use Rattle.std.proofs.lemmas.List.{length-set, length-take, length-replicate, get_or-set_same, get_or-set_other, set-get_or}
 use Rattle.std.proofs.lemmas.List.FromFn.{get_or-map-range_with_len}
-use Rattle.order_model.specs.Functions.{Point, Function, bit, from_table, restrict, SameFunction, table, depends, same_table}
-use Rattle.order_model.specs.Orders.{has, place_in, IsOrder}
-use Rattle.order_model.specs.Levels.{subfunctions, reach, dependents, level_count, level_counts, size_under}
-use Rattle.order_model.specs.Problems.{TruthTables, functions, table_at}
-use Rattle.order_model.proofs.Functions.Tables.{table_same, same_from_table, same_table_decides, depends_same, depends_no}
-use Rattle.order_model.proofs.Functions.Exchange.{mix, mix_is, Below, below_from_has, fixing_reached}
-use Rattle.order_model.proofs.Lists.Orders.{has_append, has_at, place_at, place_small}
-use Rattle.order_model.proofs.Lists.Sets.{Among, among_filter, among_map, among_flat_map, among_from_member, count_mono, nat_decides}
-use Rattle.order_model.proofs.Widths.ClassPairs.{before, before_here, before_next, not_among_before, rank_apart}
+use Rattle.definitions.specs.Functions.{Point, Function, bit, from_table, restrict, SameFunction, table, depends, same_table}
+use Rattle.definitions.specs.Orders.{has, place_in, IsOrder}
+use Rattle.definitions.specs.Levels.{subfunctions, reach, dependents, level_count, level_counts, size_under}
+use Rattle.definitions.specs.Problems.{TruthTables, functions, table_at}
+use Rattle.definitions.proofs.Functions.Tables.{table_same, same_from_table, same_table_decides, depends_same, depends_no}
+use Rattle.definitions.proofs.Functions.Exchange.{mix, mix_is, Below, below_from_has, fixing_reached}
+use Rattle.definitions.proofs.Lists.Orders.{has_append, has_at, place_at, place_small}
+use Rattle.definitions.proofs.Lists.Sets.{Among, among_filter, among_map, among_flat_map, among_from_member, count_mono, nat_decides}
+use Rattle.definitions.proofs.Widths.ClassPairs.{before, before_here, before_next, not_among_before, rank_apart}
 use Rattle.node_words.specs.Nodes.{AreNodeWords, AreUnequal, IsKnown, level_of}
 use Rattle.node_words.specs.Meaning.{depth, function_of}
 use Rattle.node_words.proofs.Meaning.{depth_node, no_higher}

@@ -4,9 +4,9 @@ use mir.Val.{bool_byte}
 use Rattle.std.proofs.lemmas.List.{take_all}
 use Rattle.std.proofs.Math.Nat.{mul-le-mul_right}
 use Rattle.std.proofs.lemmas.Nat.{one_shl}
-use Rattle.order_model.specs.Functions.{Point, Function, SameFunction}
-use Rattle.order_model.specs.Orders.{IsOrder}
-use Rattle.order_model.specs.Problems.{TruthTables, outputs_of, value_at}
+use Rattle.definitions.specs.Functions.{Point, Function, SameFunction}
+use Rattle.definitions.specs.Orders.{IsOrder}
+use Rattle.definitions.specs.Problems.{TruthTables, outputs_of, value_at}
 use Rattle.node_words.specs.Meaning.{branch}
 use Rattle.unique_table.specs.declared.plan.Plan.{Plan}
 use Rattle.unique_table.specs.declared.plan.PieceKind.{PieceKind}

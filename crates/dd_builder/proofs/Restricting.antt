@@ -7,11 +7,11 @@ use Rattle.std.specs.Int.{bit_at}
 use Rattle.std.specs.List.{IsDistinct}
 use Rattle.std.proofs.lemmas.List.{set-get_or, length-set, get_or-set_same, get_or-set_other, take_more, length-take}
 use Rattle.std.proofs.lemmas.Nat.Bits.{bit_at-lt, bit_at-suc, bit_at_lowest, same_from_bits_below}
-use Rattle.order_model.specs.Functions.{Point, Function, bit, weight, number, from_table, restrict}
-use Rattle.order_model.specs.Orders.{place_in, IsOrder}
-use Rattle.order_model.proofs.Lists.Orders.{has_at, place_at, place_get}
-use Rattle.order_model.proofs.Bits.PointNumbers.{weight_bit, number-small, bit-number}
-use Rattle.order_model.proofs.Sifting.Placements.{own_place}
+use Rattle.definitions.specs.Functions.{Point, Function, bit, weight, number, from_table, restrict}
+use Rattle.definitions.specs.Orders.{place_in, IsOrder}
+use Rattle.definitions.proofs.Lists.Orders.{has_at, place_at, place_get}
+use Rattle.definitions.proofs.Bits.PointNumbers.{weight_bit, number-small, bit-number}
+use Rattle.definitions.proofs.Sifting.Placements.{own_place}
 use Rattle.node_words.specs.Meaning.{branch}
 use Rattle.unique_table.specs.Plans.{fixed}
 use Rattle.dd_builder.specs.Paths.{IsPointOf}

@@ -4,7 +4,7 @@
 --     makes_same, makes_node      a call makes the id of each function of the same values; a node that is made
 --     function_zero, function_one      the functions of the terminals
 use Rattle.std.proofs.Common.{◌≡◌, ℕ, ◌<◌, true, false, Result, Ok, Err, IfOk, IfErr, OnErr, length, refl, ◌∙◌, arith}
-use Rattle.order_model.specs.Functions.{Point, Function, SameFunction}
+use Rattle.definitions.specs.Functions.{Point, Function, SameFunction}
 use Rattle.node_words.specs.Nodes.{IsFullFor}
 use Rattle.node_words.specs.Meaning.{function_of}
 use Rattle.node_words.proofs.Meaning.{value_terminal, depth_terminal}

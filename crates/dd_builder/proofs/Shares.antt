@@ -4,10 +4,10 @@ use Rattle.std.specs.List.{list_any, enumerate_from}
 use Rattle.std.proofs.lemmas.List.{take_more, take_all, length-take, map-append, append-nil}
 use Rattle.std.proofs.lemmas.List.Elements.{filter-append}
 use Rattle.std.proofs.lemmas.List.Folds.{list_any-append}
-use Rattle.order_model.specs.declared.terms.Term.{Term}
-use Rattle.order_model.specs.Functions.{Point, Function}
-use Rattle.order_model.specs.Problems.{TruthTables}
-use Rattle.order_model.specs.Products.{Product, product_function, matches, has_output}
+use Rattle.definitions.specs.declared.terms.Term.{Term}
+use Rattle.definitions.specs.Functions.{Point, Function}
+use Rattle.definitions.specs.Problems.{TruthTables}
+use Rattle.definitions.specs.Products.{Product, product_function, matches, has_output}
 use Rattle.unique_table.specs.declared.plan.Plan.{Plan}
 use Rattle.unique_table.specs.declared.plan.PieceKind.{PieceKind}
 use Rattle.unique_table.specs.declared.plan.PieceKind.TheVariants.{Restrictions, Products}

@@ -1,9 +1,9 @@
 -- Sessions that make nodes of subfunctions alone.
 use Rattle.std.proofs.Common.{◌≡◌, ℕ, ◌+◌, ◌^◌, ◌<◌, ◌⊎◌, inl, inr, List, [], ◌∷◌, ◌++◌, length, take, sym, refl, ap, ◌∙◌, subst, ⊎_elim, arith}
 use Rattle.std.specs.List.{Contains}
-use Rattle.order_model.specs.Functions.{Point, SameFunction}
-use Rattle.order_model.specs.Orders.{IsOrder}
-use Rattle.order_model.specs.Problems.{outputs_of}
+use Rattle.definitions.specs.Functions.{Point, SameFunction}
+use Rattle.definitions.specs.Orders.{IsOrder}
+use Rattle.definitions.specs.Problems.{outputs_of}
 use Rattle.node_words.specs.Nodes.{node_word}
 use Rattle.node_words.specs.Meaning.{branch}
 use Rattle.unique_table.specs.Plans.{order_of, levels_of, variable_at, output_at, fixed}

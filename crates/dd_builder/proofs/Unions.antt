@@ -4,9 +4,9 @@ use Rattle.std.specs.List.{list_any, range_with_len}
 use Rattle.std.proofs.lemmas.List.{take_more, take_all, length-take}
 use Rattle.std.proofs.lemmas.List.Folds.{list_any-append}
 use Rattle.std.proofs.lemmas.Bool.{cases_eq}
-use Rattle.order_model.specs.Functions.{Point, SameFunction}
-use Rattle.order_model.specs.Problems.{TruthTables, outputs_of}
-use Rattle.order_model.specs.Products.{Product, product_function, matches, has_output}
+use Rattle.definitions.specs.Functions.{Point, SameFunction}
+use Rattle.definitions.specs.Problems.{TruthTables, outputs_of}
+use Rattle.definitions.specs.Products.{Product, product_function, matches, has_output}
 use Rattle.node_words.specs.declared.operation.Operation.TheVariants.{Or}
 use Rattle.node_words.specs.Entries.{combine}
 use Rattle.unique_table.specs.declared.plan.Plan.{Plan}
@@ -19,7 +19,7 @@ use Rattle.dd_builder.proofs.SessionSteps.{means_same, means_at}
 use Rattle.dd_builder.proofs.Restricted.{part_piece}
 use Rattle.dd_builder.proofs.Shares.{share_last, terms_part, none}
 use Rattle.std.proofs.Math.Bool.{or-false}
-use Rattle.order_model.proofs.Lists.Ranges.{range_append}
+use Rattle.definitions.proofs.Lists.Ranges.{range_append}
 
 -- one part
 pub part_union : (s : Knowledge) (b : Plan) (output first count id : ℕ) → count ≡ 1 → Means s id (piece_function b (output * 64 + first)) →

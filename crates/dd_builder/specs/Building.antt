@@ -4,9 +4,9 @@
 --     IsForTables b t, IsForCover b cover      what a store was made for
 --     IsDiagramFor b d      the reduced diagram of a store's functions
 use Rattle.std.specs.Prelude.{◌≡◌, ◌≢◌, ℕ, ◌<◌, map, slice_index}
-use Rattle.order_model.specs.OrderedGraphs.{OrderedGraph}
-use Rattle.order_model.specs.Problems.{TruthTables, functions, outputs_of}
-use Rattle.order_model.specs.Products.{product_of}
+use Rattle.definitions.specs.OrderedGraphs.{OrderedGraph}
+use Rattle.definitions.specs.Problems.{TruthTables, functions, outputs_of}
+use Rattle.definitions.specs.Products.{product_of}
 use Rattle.pla_reader.specs.Covers.{NamedCover}
 pub use Rattle.truth_table.specs.Reduced.{HasLevelCounts, IsDiagramOf}
 use Rattle.unique_table.specs.declared.plan.Plan.{Plan}

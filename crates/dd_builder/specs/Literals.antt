@@ -2,10 +2,10 @@
 --     with_literal term x f      a term's literal of a variable, and a function
 --     product_in b term, with_product product output f      the product of a term in a store; a function, or a product of an output
 use Rattle.std.specs.Prelude.{ℕ, ◌&&◌, ◌||◌}
-use Rattle.order_model.specs.declared.terms.Term.{Term}
-use Rattle.order_model.specs.Functions.{Function}
-use Rattle.order_model.specs.Problems.{outputs_of}
-use Rattle.order_model.specs.Products.{Product, product_of, literal_holds, literal_in, matches, has_output}
+use Rattle.definitions.specs.declared.terms.Term.{Term}
+use Rattle.definitions.specs.Functions.{Function}
+use Rattle.definitions.specs.Problems.{outputs_of}
+use Rattle.definitions.specs.Products.{Product, product_of, literal_holds, literal_in, matches, has_output}
 use Rattle.unique_table.specs.declared.plan.Plan.{Plan}
 
 -- 1 if a term's literal of a variable, if it has one, holds and a function is 1

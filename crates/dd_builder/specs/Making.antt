@@ -1,7 +1,7 @@
 -- Ids that a session makes.
 --     Makes s s' result f      a session goes on, and either makes the id of a function or meets a full store
 use Rattle.std.specs.Prelude.{ℕ, Result, IfOk, OnErr}
-use Rattle.order_model.specs.Functions.{Function}
+use Rattle.definitions.specs.Functions.{Function}
 use Rattle.unique_table.specs.declared.store.StoreFull.{StoreFull}
 use Rattle.unique_table.specs.Sessions.{Knowledge, Follows, Means}
 use Rattle.dd_builder.specs.Building.{KnowsFull}

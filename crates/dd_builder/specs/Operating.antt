@@ -7,7 +7,7 @@
 --     IsCombined s from operation a b id      the id of an operation, which lies at a level or below it
 --     AreCombined s s' operation a b id      the same for each level at which or below which both ids lay
 use Rattle.std.specs.Prelude.{◌≡◌, ℕ, ◌<◌, ◌≤◌, ◌⊎◌, Bool, true, false, Option, Some, None}
-use Rattle.order_model.specs.Functions.{Point}
+use Rattle.definitions.specs.Functions.{Point}
 use Rattle.node_words.specs.declared.operation.Operation.{Operation}
 use Rattle.node_words.specs.Entries.{combine_values}
 use Rattle.node_words.specs.Meaning.{branch}

@@ -13,9 +13,9 @@
 --     MayBeFull source from e      from tables the only session that made nodes of subfunctions alone meets no full store
 use Rattle.std.specs.Prelude.{◌≡◌, ◌≢◌, ℕ, ◌+◌, ◌*◌, ◌%◌, ◌<◌, ◌≤◌, nat_lt, if◌then◌else◌, Bool, MatchBool, Some, Result, Ok, Err, List, length, slice_index, slice_get}
 use Rattle.std.specs.List.{list_any, range_with_len}
-use Rattle.order_model.specs.declared.terms.Term.{Term}
-use Rattle.order_model.specs.Functions.{Function}
-use Rattle.order_model.specs.Problems.{TruthTables, outputs_of}
+use Rattle.definitions.specs.declared.terms.Term.{Term}
+use Rattle.definitions.specs.Functions.{Function}
+use Rattle.definitions.specs.Problems.{TruthTables, outputs_of}
 use Rattle.unique_table.specs.declared.plan.Plan.{Plan}
 use Rattle.unique_table.specs.declared.plan.PieceKind.{PieceKind}
 use Rattle.unique_table.specs.declared.plan.PieceKind.TheVariants.{Restrictions, Products}

@@ -4,7 +4,7 @@
 --     output_along b level path output      an output with the variables above a level fixed to the bits of a path
 use Rattle.std.specs.Prelude.{◌≡◌, ℕ, ◌^◌, ◌<◌, ◌≤◌, List, length, slice_index, take}
 use Rattle.std.specs.Int.{bit_at}
-use Rattle.order_model.specs.Functions.{Function}
+use Rattle.definitions.specs.Functions.{Function}
 use Rattle.unique_table.specs.declared.plan.Plan.{Plan}
 use Rattle.unique_table.specs.Plans.{order_of, output_at, fixed}
 

@@ -7,10 +7,10 @@
 --     IsFresh s      the first session of a store in which nothing was made
 use Rattle.std.specs.Prelude.{◌≡◌, ◌≢◌, ℕ, zero, suc, ◌+◌, ◌-◌, ◌*◌, ◌^◌, ◌<◌, ◌≤◌, nat_lt, if◌then◌else◌, List, [], length, slice_index, take}
 use Rattle.std.specs.List.{Contains}
-use Rattle.order_model.specs.Functions.{Function, SameFunction}
-use Rattle.order_model.specs.Levels.{size_under}
-use Rattle.order_model.specs.Orders.{IsOrder}
-use Rattle.order_model.specs.Problems.{TruthTables, functions, outputs_of}
+use Rattle.definitions.specs.Functions.{Function, SameFunction}
+use Rattle.definitions.specs.Levels.{size_under}
+use Rattle.definitions.specs.Orders.{IsOrder}
+use Rattle.definitions.specs.Problems.{TruthTables, functions, outputs_of}
 use Rattle.node_words.specs.Nodes.{AreNodeWords, AreUnequal, level_of, node_word}
 use Rattle.node_words.specs.Meaning.{function_of, branch}
 use Rattle.unique_table.specs.Plans.{order_of, levels_of, variable_at, output_at, fixed}

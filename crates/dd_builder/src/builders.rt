@@ -2,7 +2,7 @@
 
 ghost use Rattle.std.specs.Prelude.{◌≡◌, ◌-◌, ◌≤◌, length, vec_len, IfOk, IfErr};
 ghost use Rattle.std.specs.Thread.{IsSync};
-ghost use Rattle.order_model.specs.Problems.{functions};
+ghost use Rattle.definitions.specs.Problems.{functions};
 ghost use Rattle.unique_table.specs.Plans.{order_of};
 ghost use Rattle.dd_builder.specs.Building.{FailsToBuild, IsOutOfMemory, IsDiagramOf, IsDiagramFor, IsForTables, IsForCover};
 ghost use Rattle.truth_table.specs.OfCovers.{AreTablesOf};

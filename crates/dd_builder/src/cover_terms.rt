@@ -1,8 +1,8 @@
 //! Nodes of functions that are given by terms.
 
 ghost use Rattle.std.specs.Prelude.{◌≡◌, ◌<◌, ◌≤◌, IfOk, OnErr};
-ghost use Rattle.order_model.specs.Problems.{outputs_of};
-ghost use Rattle.order_model.specs.Products.{matches, product_function};
+ghost use Rattle.definitions.specs.Problems.{outputs_of};
+ghost use Rattle.definitions.specs.Products.{matches, product_function};
 ghost use Rattle.unique_table.specs.Plans.{levels_of, variable_at, share as share_of, products_of, piece_function};
 ghost use Rattle.unique_table.specs.Sessions.{Knows, Means, Follows, IsKnownBelow, function_in, depth_in};
 ghost use Rattle.dd_builder.specs.Making.{Makes};

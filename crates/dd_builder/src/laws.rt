@@ -1,7 +1,7 @@
 //! What holds of each store and order. Each law is the contract of a function.
 
 ghost use Rattle.std.specs.Prelude.{length};
-ghost use Rattle.order_model.specs.Orders.{IsOrder};
+ghost use Rattle.definitions.specs.Orders.{IsOrder};
 ghost use Rattle.unique_table.specs.Plans.{IsPlan};
 ghost use Rattle.dd_builder.specs.Subfunctions.{SizesAreFew, SubfunctionsAreFew, MostNodesFit};
 

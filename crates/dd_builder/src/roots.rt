@@ -1,7 +1,7 @@
 //! The outputs, made of their parts.
 
 ghost use Rattle.std.specs.Prelude.{◌≡◌, ◌+◌, ◌^◌, ◌<◌, ◌≤◌, length, take, IfOk, OnOk, OnErr};
-ghost use Rattle.order_model.specs.Problems.{outputs_of};
+ghost use Rattle.definitions.specs.Problems.{outputs_of};
 ghost use Rattle.unique_table.specs.Plans.{order_of, output_at, piece_function, fixed, top_variables as top_variables_of};
 ghost use Rattle.unique_table.specs.Sessions.{Means, Follows, depth_in};
 ghost use Rattle.dd_builder.specs.Building.{KnowsFull, AreRestrictions};

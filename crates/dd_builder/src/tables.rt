@@ -1,8 +1,8 @@
 //! Nodes of functions that are given by truth tables.
 
 ghost use Rattle.std.specs.Prelude.{◌≡◌, ◌^◌, ◌<◌, ◌≤◌, length, take, IfOk, OnErr};
-ghost use Rattle.order_model.specs.Orders.{IsOrder};
-ghost use Rattle.order_model.specs.Problems.{outputs_of};
+ghost use Rattle.definitions.specs.Orders.{IsOrder};
+ghost use Rattle.definitions.specs.Problems.{outputs_of};
 ghost use Rattle.unique_table.specs.Plans.{order_of, levels_of, output_at, fixed, piece_function, top_variables};
 ghost use Rattle.unique_table.specs.Sessions.{Means, Follows, depth_in};
 ghost use Rattle.dd_builder.specs.Building.{IsForTables};

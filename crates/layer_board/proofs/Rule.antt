@@ -10,7 +10,7 @@ use mathlib.Core.List.{map-append}
 use prog.Atomic.{either}
 use Rattle.atomic_table.specs.Table.{State, step, keeps, Allows, Splits, opening}
 use Rattle.atomic_table.proofs.Lists.{at_map, set_again}
-use Rattle.order_model.specs.Functions.{weight}
+use Rattle.definitions.specs.Functions.{weight}
 use Rattle.subset_layers.specs.Layers.{LayerOf, masks_of, blocks_of}
 use Rattle.layer_core.specs.Machine as machine
 use Rattle.layer_core.specs.Machine.{World, Worker, cell_at, claims_block, ends, learns, moved, claimed, knows, blank}

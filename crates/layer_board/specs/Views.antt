@@ -3,7 +3,7 @@
 --     BoardId, ClosedBoardOf, SeatOf, ClaimOf      a board, a closed one, a seat, a claim
 use Rattle.std.specs.Prelude.{ℕ, ◌+◌, Bool, false, List, [], length, slice_index, Option, Some, None, if◌then◌else◌}
 use Rattle.atomic_table.specs.Seated.{TableId}
-use Rattle.order_model.specs.declared.bounds_above.BoundAbove.TheVariants.{Variables}
+use Rattle.definitions.specs.declared.limits.BoundAbove.TheVariants.{Variables}
 use Rattle.subset_layers.specs.Layers.{LayerOf, BlockOf, masks_of, blocks_of}
 use Rattle.layer_core.specs.Machine.{Worker, unmarked, claimed, knows, place_of, ends, learns}
 use Rattle.layer_core.specs.Instances.{Instance, layout_of}

@@ -3,8 +3,8 @@ use Rattle.std.proofs.Common.{◌≡◌, ◌↔◌, IsNone, IsFalse, ℕ, zero, 
 use Rattle.std.specs.List.{filter, list_any, range_with_len}
 use Rattle.std.proofs.lemmas.List.FromFn.{length-range_with_len, get_or-range_with_len}
 use Rattle.std.proofs.lemmas.Option.{get_or_from_slice_get, slice_get_within}
-use Rattle.order_model.specs.Orders.{has, place_in, members}
-use Rattle.order_model.proofs.Lists.Orders.{has_filter, has_range, place_small}
+use Rattle.definitions.specs.Orders.{has, place_in, members}
+use Rattle.definitions.proofs.Lists.Orders.{has_filter, has_range, place_small}
 use Rattle.subset_layers.specs.Layers.{LayerOf, masks_of, low_byte, low_bytes, blocks_of, block_place}
 use Rattle.subset_layers.proofs.BlockLists.{blocks_length}
 use Rattle.subset_layers.proofs.CostLists.{distinct_masks}
@@ -12,7 +12,7 @@ use Rattle.layer_core.specs.Machine.{place_of}
 use Rattle.layer_core.specs.Rights.{IsLayout}
 use Rattle.layer_core.specs.Instances.{layout_of}
 use Rattle.layer_core.proofs.Positions.{found_at, not_found}
-use Rattle.order_model.proofs.Lists.Ranges.{filter_at_most}
+use Rattle.definitions.proofs.Lists.Ranges.{filter_at_most}
 
 pub length-map_lem : {A B : Type 0} (f : A → B) (xs : List A) → length (map f xs) ≡ length xs
 length-map_lem f [] = refl

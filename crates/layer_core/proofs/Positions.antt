@@ -1,8 +1,8 @@
 -- The place of a number in a list.
 use Rattle.std.proofs.Common.{◌≡◌, ℕ, ◌<◌, Bool, true, false, cond, nat_lt, nat_eq, List, get_or, length, Option, Some, None, position, sym, refl, ap, ◌∙◌, inl, inr, arith}
 use Rattle.std.specs.List.{IsDistinct}
-use Rattle.order_model.specs.Orders.{has, place_in}
-use Rattle.order_model.proofs.Lists.Orders.{has_at, place_at, place_get}
+use Rattle.definitions.specs.Orders.{has, place_in}
+use Rattle.definitions.proofs.Lists.Orders.{has_at, place_at, place_get}
 use Rattle.std.proofs.lemmas.Bool.{cases_Bool}
 
 abbrev pub found : List ℕ → ℕ → Option ℕ

@@ -1,15 +1,15 @@
 -- A cell fits its word: the cost is at most one more than the bound, and the variable is below the number of variables.
 use Rattle.std.proofs.Common.{◌≡◌, ℕ, ◌+◌, ◌<◌, ◌≤◌, ◌&&◌, ◌||◌, Bool, true, false, nat_le, nat_eq, List, [], ◌∷◌, refl, ap, arith}
-use Rattle.order_model.specs.Functions.{Function}
-use Rattle.order_model.specs.Pairs.{Pair}
-use Rattle.order_model.specs.Orders.{has, members}
-use Rattle.order_model.specs.Widths.{least}
-use Rattle.order_model.specs.BoundsAbove.{nodes_above}
-use Rattle.order_model.specs.declared.bounds_above.BoundAbove.{BoundAbove}
-use Rattle.order_model.specs.Cells.{cell_of, first_of, is_within, best_top}
-use Rattle.order_model.proofs.Lists.Orders.{has_filter}
-use Rattle.order_model.proofs.Bits.Masks.{members_small}
-use Rattle.order_model.proofs.Widths.Cells.{open_is, closed_cell}
+use Rattle.definitions.specs.Functions.{Function}
+use Rattle.definitions.specs.Pairs.{Pair}
+use Rattle.definitions.specs.Orders.{has, members}
+use Rattle.definitions.specs.Widths.{least}
+use Rattle.definitions.specs.BoundsAbove.{nodes_above}
+use Rattle.definitions.specs.declared.limits.BoundAbove.{BoundAbove}
+use Rattle.definitions.specs.Cells.{cell_of, first_of, is_within, best_top}
+use Rattle.definitions.proofs.Lists.Orders.{has_filter}
+use Rattle.definitions.proofs.Bits.Masks.{members_small}
+use Rattle.definitions.proofs.Widths.Cells.{open_is, closed_cell}
 
 and_left : (a b : Bool) → (a && b) ≡ true → a ≡ true
 and_left true b h = refl

@@ -1,6 +1,6 @@
 -- The opening is right, and one more worker keeps a state right.
 use Rattle.std.proofs.Common.{◌≡◌, ◌≢◌, ℕ, zero, suc, ◌+◌, ◌≤◌, true, false, List, [], ◌∷◌, ◌++◌, replicate, get_or, length, None, sym, refl, ap, ◌∙◌, arith}
-use Rattle.order_model.specs.Functions.{weight}
+use Rattle.definitions.specs.Functions.{weight}
 use Rattle.layer_core.specs.Machine.{Worker, Layout, blank, opening, claimed, knows}
 use Rattle.layer_core.specs.Rights.{Right, IsLayout, total}
 use Rattle.layer_core.proofs.Lists.{each_snoc, at_longer, length-same, all_same, found_same}

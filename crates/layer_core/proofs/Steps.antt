@@ -4,7 +4,7 @@ use mathlib.Core.Option.{some, some-injective}
 use mathlib.Core.Logic.{dite}
 use native.Mathlib.Decide.{ℕ_discrete}
 use lib.ListN.{get_elem?}
-use Rattle.order_model.specs.Functions.{weight}
+use Rattle.definitions.specs.Functions.{weight}
 use Rattle.layer_core.specs.Machine.{World, Worker, cell_at, claims_block, ends, learns, moved, claimed, knows}
 use Rattle.layer_core.specs.Rights.{Right, total}
 use Rattle.layer_core.proofs.Lists.{each_set, bounded, found_set, set_here, inside, marked_more, marked_less, marked_inside}

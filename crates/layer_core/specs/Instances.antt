@@ -4,11 +4,11 @@
 --     ResultOf      the cell of a mask
 use Rattle.std.specs.Prelude.{ℕ, map, length}
 use Rattle.std.specs.List.{range_with_len}
-use Rattle.order_model.specs.Cells.{cell_of}
-use Rattle.order_model.specs.Problems.{TruthTables, functions}
-use Rattle.order_model.specs.declared.bounds_above.Limit.{Limit}
-use Rattle.order_model.specs.declared.bounds_above.BoundAbove.{BoundAbove}
-use Rattle.order_model.specs.KeptPairs.{KeptPairs}
+use Rattle.definitions.specs.Cells.{cell_of}
+use Rattle.definitions.specs.Problems.{TruthTables, functions}
+use Rattle.definitions.specs.declared.limits.Limit.{Limit}
+use Rattle.definitions.specs.declared.limits.BoundAbove.{BoundAbove}
+use Rattle.definitions.specs.KeptPairs.{KeptPairs}
 use Rattle.subset_layers.specs.Layers.{LayerOf, masks_of, blocks_of, block_place}
 use Rattle.layer_core.specs.Machine.{Layout}
 

@@ -5,10 +5,10 @@
 use Rattle.std.specs.Prelude.{◌≡◌, ◌≢◌, ℕ, ◌+◌, ◌<◌, ◌≤◌, true, List, [], ◌∷◌, length, map, slice_index, Option, Some, None, IfSome}
 use mathlib.Core.Option.{some}
 use lib.ListN.{get_elem?}
-use Rattle.order_model.specs.Functions.{Function, weight}
-use Rattle.order_model.specs.Pairs.{Pair}
-use Rattle.order_model.specs.declared.bounds_above.BoundAbove.{BoundAbove}
-use Rattle.order_model.specs.Cells.{cell_of}
+use Rattle.definitions.specs.Functions.{Function, weight}
+use Rattle.definitions.specs.Pairs.{Pair}
+use Rattle.definitions.specs.declared.limits.BoundAbove.{BoundAbove}
+use Rattle.definitions.specs.Cells.{cell_of}
 use Rattle.layer_core.specs.Machine.{Layout, Worker, World, Event, Claim, Post, Read, cell_at, claimed, knows}
 
 -- the sum of f over the elements

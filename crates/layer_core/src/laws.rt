@@ -1,9 +1,9 @@
 //! What holds of the machine after every list of events, for any number of workers.
 
 ghost use Rattle.std.specs.Prelude.{◌≡◌, ℕ, ◌<◌, List, length, slice_index};
-ghost use Rattle.order_model.specs.Functions.{Function};
-ghost use Rattle.order_model.specs.Pairs.{Pair};
-ghost use Rattle.order_model.specs.declared.bounds_above.BoundAbove.{BoundAbove};
+ghost use Rattle.definitions.specs.Functions.{Function};
+ghost use Rattle.definitions.specs.Pairs.{Pair};
+ghost use Rattle.definitions.specs.declared.limits.BoundAbove.{BoundAbove};
 ghost use Rattle.layer_core.specs.Machine.{Layout, Event, opening, run};
 ghost use Rattle.layer_core.specs.Rights.{IsLayout, RightFor, ArePosted, IsFilled, claimants, all_cells};
 

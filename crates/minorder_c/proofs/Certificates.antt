@@ -1,11 +1,11 @@
 -- The text of a solution's certificate.
 --     solution_text      it is the certificate's of the first order of the fewest nodes, and good
 use Rattle.std.proofs.Common.{◌≡◌, ℕ, List, refl, subst}
-use Rattle.order_model.specs.Certificates.{IsCertOf, certificate_of}
-use Rattle.order_model.specs.Diagrams.{IsFirstKeeping}
-use Rattle.order_model.specs.Pairs.{Pair}
-use Rattle.order_model.specs.Problems.{TruthTables, functions}
-use Rattle.order_model.proofs.Certificates.Written.{cert_of_is_good}
+use Rattle.definitions.specs.Certificates.{IsCertOf, certificate_of}
+use Rattle.definitions.specs.Diagrams.{IsFirstKeeping}
+use Rattle.definitions.specs.Pairs.{Pair}
+use Rattle.definitions.specs.Problems.{TruthTables, functions}
+use Rattle.definitions.proofs.Certificates.Written.{cert_of_is_good}
 use Rattle.certificate.specs.Faults.{Spells}
 use Rattle.minorder_c.specs.Certified.{IsCertificateText}
 

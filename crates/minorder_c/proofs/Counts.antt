@@ -5,10 +5,10 @@ use Rattle.std.proofs.Common.{◌≡◌, ℕ, ◌<◌, List, length, map, slice_
 use Rattle.std.specs.List.{range_with_len}
 use Rattle.std.proofs.lemmas.List.{ext_get_or}
 use Rattle.std.proofs.lemmas.List.FromFn.{get_or-map-range_with_len, length-map-range_with_len}
-use Rattle.order_model.specs.Functions.{Function}
-use Rattle.order_model.specs.Orders.{IsOrder}
-use Rattle.order_model.specs.Levels.{level_count, level_counts}
-use Rattle.order_model.proofs.Widths.SizeBounds.{order_length}
+use Rattle.definitions.specs.Functions.{Function}
+use Rattle.definitions.specs.Orders.{IsOrder}
+use Rattle.definitions.specs.Levels.{level_count, level_counts}
+use Rattle.definitions.proofs.Widths.SizeBounds.{order_length}
 
 pub counts_long : (n : ℕ) (F : List Function) (order : List ℕ) → length (level_counts n F order) ≡ length order
 unfolding level_counts

@@ -4,8 +4,8 @@
 use Rattle.std.proofs.Common.{◌≡◌, ℕ, ◌+◌, ◌*◌, ◌<◌, ◌≤◌, List, [], ◌∷◌, ◌++◌, length, take, drop, slice_index, sym, ◌∙◌, ap, subst, arith, below_more}
 use Rattle.std.proofs.lemmas.List.{length-drop, length-append, drop-append-le, take-append-le, take_all, drop_at, get_or_append_left, get_or_at}
 use Rattle.std.proofs.lemmas.Nat.{row_fits}
-use Rattle.order_model.specs.Functions.{Function}
-use Rattle.order_model.specs.Problems.{words_of, words_per_table}
+use Rattle.definitions.specs.Functions.{Function}
+use Rattle.definitions.specs.Problems.{words_of, words_per_table}
 use Rattle.solutions.specs.Solutions.{IsFirstFewest}
 use Rattle.minorder_c.specs.Answers.{functions_in}
 use Rattle.minorder_c.specs.Many.{AreFirstFewest}

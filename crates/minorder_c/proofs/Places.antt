@@ -5,7 +5,7 @@ use Rattle.std.proofs.Common.{◌≡◌, ◌⊎◌, ℕ, ◌+◌, ◌<◌, ◌�
 use Rattle.std.proofs.lemmas.List.{length-map, take_all, drop_all, get_or-map}
 use Rattle.std.proofs.lemmas.List.Edits.{paste_more}
 use lib.Seq.{paste}
-use Rattle.order_model.specs.Pairs.{Pair}
+use Rattle.definitions.specs.Pairs.{Pair}
 use Rattle.minorder_c.specs.declared.above.AbovePair.{AbovePair}
 use Rattle.minorder_c.specs.Stated.{pair_for_c, AreFront}
 

@@ -6,11 +6,11 @@
 --     IsSiftedFrom n F P start order levels total      the order that one pass of sifting makes
 --     AllStay order order' levels levels' total total'      nothing is written
 use Rattle.std.specs.Prelude.{◌≡◌, ℕ, ◌*◌, ◌≤◌, List, length, map}
-use Rattle.order_model.specs.Functions.{Function}
-use Rattle.order_model.specs.Pairs.{Pair}
-use Rattle.order_model.specs.Levels.{level_counts, size_under}
-use Rattle.order_model.specs.Sifting.{sifted}
-use Rattle.order_model.specs.Problems.{functions, packed_tables, words_per_table}
+use Rattle.definitions.specs.Functions.{Function}
+use Rattle.definitions.specs.Pairs.{Pair}
+use Rattle.definitions.specs.Levels.{level_counts, size_under}
+use Rattle.definitions.specs.Sifting.{sifted}
+use Rattle.definitions.specs.Problems.{functions, packed_tables, words_per_table}
 use Rattle.minorder_c.specs.declared.above.AbovePair.{AbovePair}
 
 -- the truth tables of 1 to 16 functions of 1 to 16 variables, one behind the other

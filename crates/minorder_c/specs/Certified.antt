@@ -4,9 +4,9 @@
 --     IsShort Is place size      a text has this size, which is larger than the place
 --     IsCertifyStatus s      the numbers of the call
 use Rattle.std.specs.Prelude.{◌≡◌, ◌⊎◌, ℕ, ◌<◌, ◌++◌, List, drop, length}
-use Rattle.order_model.specs.Functions.{Function}
-use Rattle.order_model.specs.Pairs.{Pair}
-use Rattle.order_model.specs.Certificates.{Certificate, IsCertOf, IsGood}
+use Rattle.definitions.specs.Functions.{Function}
+use Rattle.definitions.specs.Pairs.{Pair}
+use Rattle.definitions.specs.Certificates.{Certificate, IsCertOf, IsGood}
 use Rattle.certificate.specs.Faults.{Spells}
 use Rattle.minorder_c.specs.Statuses.{IsPlainStatus}
 

@@ -3,8 +3,8 @@
 --     IsNoCertificate text, RefusesText shape text r      why a text is refused
 --     IsJudged n F text returned      the verdict on the certificate that a text spells
 use Rattle.std.specs.Prelude.{◌≡◌, ℕ, ◌<◌, ◌⊎◌, List, length}
-use Rattle.order_model.specs.Functions.{Function}
-use Rattle.order_model.specs.Certificates.{Certificate}
+use Rattle.definitions.specs.Functions.{Function}
+use Rattle.definitions.specs.Certificates.{Certificate}
 use Rattle.certificate.specs.Faults.{FirstCertFault}
 use Rattle.certificate.specs.declared.faults.LineFault.{LineFault}
 use Rattle.certificate.specs.Heads.{most_bytes}

@@ -2,7 +2,7 @@
 --     HasManyShape inputs outputs words places counts many      truth tables of so many problems, one behind the other, and places for their answers
 --     AreFirstFewest n m words many orders levels totals      of each problem the first order of the fewest nodes, its level counts and its size
 use Rattle.std.specs.Prelude.{◌≡◌, ℕ, ◌*◌, ◌<◌, ◌≤◌, List, [], length, slice_index}
-use Rattle.order_model.specs.Problems.{words_of, words_per_table}
+use Rattle.definitions.specs.Problems.{words_of, words_per_table}
 use Rattle.solutions.specs.Solutions.{IsFirstFewest}
 use Rattle.minorder_c.specs.Answers.{functions_in}
 

@@ -3,9 +3,9 @@
 --     AreFront pairs place place'      the first of the pairs stand in a place, as many as it has room for, and the rest stays
 --     IsStated n F text returned total place place' count      the verdict on a certificate, its total, and its pairs
 use Rattle.std.specs.Prelude.{◌≡◌, ℕ, ◌++◌, List, drop, length, map, take}
-use Rattle.order_model.specs.Functions.{Function}
-use Rattle.order_model.specs.Pairs.{Pair}
-use Rattle.order_model.specs.Certificates.{Certificate}
+use Rattle.definitions.specs.Functions.{Function}
+use Rattle.definitions.specs.Pairs.{Pair}
+use Rattle.definitions.specs.Certificates.{Certificate}
 use Rattle.certificate.specs.Spelling.{spelling}
 use Rattle.cert_check.specs.declared.verdict.Verdict.{Verdict}
 use Rattle.cert_check.specs.Verdicts.{IsVerdict}

@@ -1,8 +1,8 @@
 //! The pairs that an order has to keep.
 
 ghost use Rattle.std.specs.Prelude.{◌≡◌, ◌≤◌, IfOk, IfErr, OnOk};
-ghost use Rattle.order_model.specs.KeptPairs.{CanBeKept};
-ghost use Rattle.order_model.specs.Pairs.{sorted_pairs};
+ghost use Rattle.definitions.specs.KeptPairs.{CanBeKept};
+ghost use Rattle.definitions.specs.Pairs.{sorted_pairs};
 ghost use Rattle.minorder_c.specs.Answers.{pairs_given};
 ghost use Rattle.minorder_c.specs.Statuses.{RefusesPairs};
 

@@ -1,8 +1,8 @@
 //! What calls are given.
 
 ghost use Rattle.std.specs.Prelude.{◌≡◌, ◌≤◌, length, IfOk, IfErr, OnOk};
-ghost use Rattle.order_model.specs.Problems.{packed_tables};
-ghost use Rattle.order_model.specs.Orders.{IsOrder};
+ghost use Rattle.definitions.specs.Problems.{packed_tables};
+ghost use Rattle.definitions.specs.Orders.{IsOrder};
 ghost use Rattle.minorder_c.specs.Answers.{AreTables, HasCallShape};
 ghost use Rattle.minorder_c.specs.Statuses.{RefusesShape, RefusesOrder};
 

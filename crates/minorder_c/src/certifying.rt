@@ -1,9 +1,9 @@
 //! The certificate of the first order of the fewest nodes.
 
 ghost use Rattle.std.specs.Prelude.{◌≡◌, ◌≢◌, ◌⊎◌, ◌≤◌, ◌++◌, drop, length, string_bytes, IfOk, IfErr, OnOk};
-ghost use Rattle.order_model.specs.KeptPairs.{CanBeKept};
-ghost use Rattle.order_model.specs.Pairs.{sorted_pairs};
-ghost use Rattle.order_model.specs.Problems.{functions};
+ghost use Rattle.definitions.specs.KeptPairs.{CanBeKept};
+ghost use Rattle.definitions.specs.Pairs.{sorted_pairs};
+ghost use Rattle.definitions.specs.Problems.{functions};
 ghost use Rattle.solutions.specs.Solutions.{IsSolution};
 ghost use Rattle.minorder_c.specs.Answers.{AreTables, functions_in, pairs_given};
 ghost use Rattle.minorder_c.specs.Certified.{Holds, IsCertificateText, IsCertifyStatus, IsShort};

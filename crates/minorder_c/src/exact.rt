@@ -1,9 +1,9 @@
 //! The order of the fewest nodes.
 
 ghost use Rattle.std.specs.Prelude.{◌≡◌, ◌≢◌, ◌⊎◌, [], length, IfOk, IfErr, OnOk};
-ghost use Rattle.order_model.specs.Problems.{functions};
-ghost use Rattle.order_model.specs.KeptPairs.{CanBeKept};
-ghost use Rattle.order_model.specs.Pairs.{sorted_pairs};
+ghost use Rattle.definitions.specs.Problems.{functions};
+ghost use Rattle.definitions.specs.KeptPairs.{CanBeKept};
+ghost use Rattle.definitions.specs.Pairs.{sorted_pairs};
 ghost use Rattle.minorder_c.specs.Answers.{AllStay, HasCallShape, functions_in, pairs_given};
 ghost use Rattle.solutions.specs.Solutions.{IsFirstFewest, IsOptimumFor};
 ghost use Rattle.minorder_c.specs.Statuses.{IsPlainStatus, RefusesShape, RefusesPairs, TellsShape};

@@ -1,8 +1,8 @@
 //! Level counts under any order.
 
 ghost use Rattle.std.specs.Prelude.{◌≡◌, ◌≢◌, length, IfOk, IfErr, OnOk};
-ghost use Rattle.order_model.specs.Levels.{level_counts};
-ghost use Rattle.order_model.specs.Orders.{IsOrder};
+ghost use Rattle.definitions.specs.Levels.{level_counts};
+ghost use Rattle.definitions.specs.Orders.{IsOrder};
 ghost use Rattle.minorder_c.specs.Answers.{HasCallShape, functions_in};
 ghost use Rattle.minorder_c.specs.Statuses.{IsOrderStatus, RefusesOrder, TellsShape};
 

@@ -1,9 +1,9 @@
 //! One pass of sifting from any order.
 
 ghost use Rattle.std.specs.Prelude.{◌≡◌, ◌≢◌, ◌<◌, ℕ, [], length, slice_index, IfOk, IfErr, OnOk};
-ghost use Rattle.order_model.specs.Orders.{IsOrder};
-ghost use Rattle.order_model.specs.Problems.{functions};
-ghost use Rattle.order_model.specs.Levels.{level_count};
+ghost use Rattle.definitions.specs.Orders.{IsOrder};
+ghost use Rattle.definitions.specs.Problems.{functions};
+ghost use Rattle.definitions.specs.Levels.{level_count};
 ghost use Rattle.minorder_c.specs.Answers.{AllStay, HasCallShape, IsSiftedFrom, functions_in};
 ghost use Rattle.minorder_c.specs.Statuses.{IsOrderStatus, RefusesOrder, TellsShape};
 

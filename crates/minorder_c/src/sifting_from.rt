@@ -1,9 +1,9 @@
 //! Sifting from any order, by the calling thread.
 
 ghost use Rattle.std.specs.Prelude.{◌≡◌, length, IfOk};
-ghost use Rattle.order_model.specs.Pairs.{Keeps};
-ghost use Rattle.order_model.specs.Problems.{functions};
-ghost use Rattle.order_model.specs.Sifting.{sifted as sifted_order};
+ghost use Rattle.definitions.specs.Pairs.{Keeps};
+ghost use Rattle.definitions.specs.Problems.{functions};
+ghost use Rattle.definitions.specs.Sifting.{sifted as sifted_order};
 
 use order_model::{Order, Pairs};
 use sifting::laws::diagrams_have_their_problems_tables;

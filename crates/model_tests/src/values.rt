@@ -163,7 +163,7 @@ fn problems_have_the_values_that_were_set(rt: HostRuntime) {
     assert!(rt; is_made_of_words(&rt, rt.alloc(), &multiplexer));
     // variables past the first word
     let long = problem_of(&rt, rt.alloc(), 7, 1, &[(0, 64), (0, 127)]);
-    assert!(rt; long.essential() == 0b0111_1111);
+    assert!(rt; long.essential() == 0b0111_1111 && long.support(0) == 0b0111_1111);
 }
 
 /// The lower bound on the nodes above the variable 0 of three, if its width is 2.
@@ -175,8 +175,8 @@ fn above_the_first(problem: &Problem, bound_above: BoundAbove) -> u64
     BoundsAbove::new(problem, bound_above).above(1, &widths)
 }
 
-/// Whether the lower bounds above sets of three essential variables count two nodes by the variables that are
-/// left, and three by the widths.
+/// Whether the lower bounds above sets of three essential variables count two nodes by variables,
+/// and three by widths.
 fn counts_on_what_is_left(rt: &impl Abort, problem: &Problem) -> bool {
     assert!(rt; problem.inputs() == 3);
     let bounds_above = BoundsAbove::new(problem, BoundAbove::Widths);

@@ -1,6 +1,6 @@
 -- Cache words.
 use Rattle.std.proofs.Common.{◌≡◌, ℕ, ◌+◌, ◌-◌, ◌*◌, ◌/◌, ◌%◌, ◌^◌, ◌<◌, List, length, sym, refl, ◌∙◌, subst, arith}
-use Rattle.order_model.specs.Functions.{SameFunction}
+use Rattle.definitions.specs.Functions.{SameFunction}
 use Rattle.node_words.specs.declared.operation.Operation.{Operation}
 use Rattle.node_words.specs.declared.operation.Operation.TheVariants.{And, Or, Xor}
 use Rattle.node_words.specs.Nodes.{AreNodeWords, Grows, IsKnown}

@@ -5,9 +5,9 @@ use native.Mathlib.Decide.{ℕ_discrete}
 use Rattle.std.proofs.lemmas.List.{get_or_past}
 use Rattle.std.specs.List.{range_with_len}
 use Rattle.std.proofs.lemmas.List.FromFn.{get_or-map-range_with_len, length-map-range_with_len}
-use Rattle.order_model.specs.Functions.{Point, Function, bit, SameFunction}
-use Rattle.order_model.specs.Orders.{IsOrder, place_in}
-use Rattle.order_model.proofs.Lists.Orders.{has_at, place_get}
+use Rattle.definitions.specs.Functions.{Point, Function, bit, SameFunction}
+use Rattle.definitions.specs.Orders.{IsOrder, place_in}
+use Rattle.definitions.proofs.Lists.Orders.{has_at, place_get}
 use Rattle.node_words.specs.Nodes.{IsBelow, AreNodeWords, AreUnequal, Grows, level_of, low_of, high_of, node_word, IsKnown, IsIdOf}
 use Rattle.node_words.specs.Meaning.{value, IsSame, depth, along, function_of, Denotes, branch}
 use Rattle.node_words.specs.declared.operation.Operation.{Operation}

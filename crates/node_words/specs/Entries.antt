@@ -3,7 +3,7 @@
 --     entry_word, first_of, second_of, result_of      a cache word and its parts
 --     IsEntry order ws w      the result denotes the operation on the operands
 use Rattle.std.specs.Prelude.{◌≡◌, ℕ, ◌+◌, ◌*◌, ◌/◌, ◌%◌, ◌^◌, Bool, not, ◌&&◌, ◌||◌, if◌then◌else◌, List}
-use Rattle.order_model.specs.Functions.{Function}
+use Rattle.definitions.specs.Functions.{Function}
 use Rattle.node_words.specs.declared.operation.Operation.{Operation}
 use Rattle.node_words.specs.declared.operation.Operation.TheVariants.{And, Or, Xor}
 use Rattle.node_words.specs.Nodes.{IsKnown}

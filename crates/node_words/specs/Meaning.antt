@@ -4,7 +4,7 @@
 --     function_of order ws id      the function that an id denotes under an order
 --     Denotes order ws id f      the id is known, and denotes f
 use Rattle.std.specs.Prelude.{◌≡◌, ℕ, zero, suc, ◌-◌, ◌==◌, Bool, nat_lt, if◌then◌else◌, List, length, slice_index}
-use Rattle.order_model.specs.Functions.{Point, Function, bit, SameFunction}
+use Rattle.definitions.specs.Functions.{Point, Function, bit, SameFunction}
 use Rattle.node_words.specs.Nodes.{IsKnown, level_of, low_of, high_of}
 
 -- the value of an id, where t says of each level whether the high child is taken there; as many steps as there are levels are enough

@@ -1,8 +1,8 @@
 //! Laws of the functions that ids denote.
 
 ghost use Rattle.std.specs.Prelude.{◌≡◌, ℕ, List, length};
-ghost use Rattle.order_model.specs.Functions.{Function};
-ghost use Rattle.order_model.specs.Orders.{IsOrder};
+ghost use Rattle.definitions.specs.Functions.{Function};
+ghost use Rattle.definitions.specs.Orders.{IsOrder};
 ghost use Rattle.node_words.specs.Nodes.{AreNodeWords, AreUnequal, Grows};
 ghost use Rattle.node_words.specs.Meaning.{Denotes};
 

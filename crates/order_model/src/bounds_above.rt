@@ -3,32 +3,14 @@
 ghost use Rattle.std.specs.Prelude.{◌≡◌, ◌==◌, ◌+◌, ◌^◌, ◌<◌, ◌≤◌, ℕ, List, max, not, length, map, slice_index, take, bit_or};
 ghost use Rattle.std.specs.Int.{bit_at};
 ghost use Rattle.std.specs.List.{filter, fold};
-ghost use Rattle.order_model.specs.Functions.{Function};
-ghost use Rattle.order_model.specs.Orders.{members};
-ghost use Rattle.order_model.specs.Problems.{functions, outputs_of};
-ghost use Rattle.order_model.specs.Widths.{essential_mask, essentials_outside};
-ghost use Rattle.order_model.specs.BoundsAbove.{support};
+ghost use Rattle.definitions.specs.Functions.{Function};
+ghost use Rattle.definitions.specs.Orders.{members};
+ghost use Rattle.definitions.specs.Problems.{functions, outputs_of};
+ghost use Rattle.definitions.specs.Widths.{essential_mask, essentials_outside};
+ghost use Rattle.definitions.specs.BoundsAbove.{support};
 
-use crate::problem::Problem;
-use crate::variables::{Mask, VarIx, contains};
+use definitions::{BoundAbove, Mask, Problem, VarIx, contains};
 use std::marker::Model;
-
-/// The rule of the lower bound on the nodes above a set of variables, if the set is the bottom part
-/// of an order.
-#[derive(Clone, Copy, Debug, PartialEq, Eq)]
-pub enum BoundAbove {
-    /// One for each variable outside on which a function depends.
-    Variables,
-    /// These, or as many as the width of some member needs if that is more.
-    Widths,
-}
-
-/// What prunes the cells of a search: an upper bound, and the rule of the lower bound above a set.
-#[derive(Clone, Copy, Debug, PartialEq, Eq)]
-pub struct Limit {
-    pub bound: u32,
-    pub bound_above: BoundAbove,
-}
 
 /// Lower bounds on the nodes above the sets of a problem's variables.
 #[derive(Drop)]
@@ -43,7 +25,7 @@ pub struct BoundsAbove<'a> {
 }
 
 impl<'a> Model for BoundsAbove<'a> {
-    ghost use Rattle.order_model.specs.BoundsAbove.{BoundsAboveOf, bounds_above_with, HoldsBoundsAbove};
+    ghost use Rattle.definitions.specs.BoundsAbove.{BoundsAboveOf, bounds_above_with, HoldsBoundsAbove};
 
     ghost Value = { BoundsAboveOf };
 
@@ -103,11 +85,11 @@ fn count_outside(set: Mask, mask: Mask) -> u64
 }
 
 impl<'a> BoundsAbove<'a> {
-    ghost use Rattle.order_model.specs.Orders.{without};
-    ghost use Rattle.order_model.specs.Widths.{width as width_of};
-    ghost use Rattle.order_model.specs.BoundsAbove.{bounds_above_with, nodes_above, asked_by};
-    ghost use Rattle.order_model.specs.BoundsAbove.{AreMembersWidths};
-    ghost use Rattle.order_model.specs.declared.bounds_above.BoundAbove.TheVariants.{Widths};
+    ghost use Rattle.definitions.specs.Orders.{without};
+    ghost use Rattle.definitions.specs.Widths.{width as width_of};
+    ghost use Rattle.definitions.specs.BoundsAbove.{bounds_above_with, nodes_above, asked_by};
+    ghost use Rattle.definitions.specs.BoundsAbove.{AreMembersWidths};
+    ghost use Rattle.definitions.specs.declared.limits.BoundAbove.TheVariants.{Widths};
 
     /// Lower bounds on the nodes above the sets of a problem's variables, by one of the two rules.
     pub fn new(problem: &'a Problem, bound_above: BoundAbove) -> BoundsAbove<'a>

@@ -2,7 +2,7 @@
 
 ghost use Rattle.std.specs.Prelude.{◌≡◌};
 
-use crate::variables::Workers;
+use definitions::Workers;
 
 /// The workers of a run: who starts their threads, how many they are, and what each of them calls
 /// between the claim of an item and its result.

@@ -1,30 +1,15 @@
 //! Ordered decision diagrams with several roots.
 
 ghost use Rattle.std.specs.Prelude.{◌≡◌, ◌<◌, ◌≤◌, ◌^◌, ℕ, length, slice_index, sum};
-ghost use Rattle.order_model.specs.Functions.{point_of};
-ghost use Rattle.order_model.specs.Diagrams.{AreNodes, IsBefore, child_at, value, nodes_at, variable_count};
-ghost use Rattle.order_model.specs.declared.diagrams.Node.{Node};
+ghost use Rattle.definitions.specs.Functions.{point_of};
+ghost use Rattle.definitions.specs.Diagrams.{AreNodes, IsBefore, child_at, value, nodes_at, variable_count};
+ghost use Rattle.definitions.specs.declared.nodes.Node.{Node};
 ghost use Rattle.std.specs.List.{All};
-ghost use Rattle.order_model.specs.OrderedGraphs.{IsOrderedGraph, IsDiagramUnder, root_value};
+ghost use Rattle.definitions.specs.OrderedGraphs.{IsOrderedGraph, IsDiagramUnder, root_value};
 
 use crate::orders::Order;
-use crate::variables::VarIx;
+use definitions::{Node, Ref, VarIx};
 use std::marker::Model;
-
-/// A terminal, or the place of a node in its diagram's list.
-#[derive(Clone, Copy, Debug, PartialEq, Eq)]
-pub enum Ref {
-    Terminal(bool),
-    Place(usize),
-}
-
-/// A decision node: the low child is taken if the variable is 0, the high child if it is 1.
-#[derive(Clone, Copy, Debug, PartialEq, Eq)]
-pub struct Node {
-    pub variable: u8,
-    pub low: Ref,
-    pub high: Ref,
-}
 
 /// The child of a node that the point with a number takes.
 fn child(variables: u8, node: Node, point: u32) -> Ref
@@ -94,7 +79,7 @@ pub struct Diagram {
 }
 
 impl Model for Diagram {
-    ghost use Rattle.order_model.specs.OrderedGraphs.{OrderedGraph, IsOrderedGraph as HoldsGraph};
+    ghost use Rattle.definitions.specs.OrderedGraphs.{OrderedGraph, IsOrderedGraph as HoldsGraph};
 
     ghost Value = { OrderedGraph };
 

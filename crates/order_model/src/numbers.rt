@@ -1,7 +1,7 @@
 //! Decimal numbers in texts.
 
 ghost use Rattle.std.specs.Prelude.{◌≡◌, IsTrue, IfSome, IfNone, false};
-ghost use Rattle.order_model.specs.Texts.{is_number, number_of};
+ghost use Rattle.definitions.specs.Texts.{is_number, number_of};
 
 /// The value of a word of one to nine decimal digits, or None for any other word.
 #[tactic(auto, using(crate::proofs::Lists::Digits::digit_is, crate::proofs::Lists::Digits::pow_small))]

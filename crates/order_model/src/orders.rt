@@ -3,27 +3,12 @@
 ghost use Rattle.std.specs.Prelude.{◌≡◌, ◌↔◌, ◌+◌, ◌<◌, ◌≤◌, ℕ, length, swap, IfOk, IfErr, OnOk, IsTrue, IsFalse, List, nat_eq};
 ghost use Rattle.std.specs.Bool.{OnTrue};
 ghost use Rattle.std.specs.List.{All, IsDistinct};
-ghost use Rattle.order_model.specs.Orders.{IsOrder, has, place_in, variables as all_variables};
-ghost use Rattle.order_model.specs.OrderFaults.{Accepts, IsInRange, IsNoOrder};
+ghost use Rattle.definitions.specs.Orders.{IsOrder, has, place_in, variables as all_variables};
+ghost use Rattle.definitions.specs.OrderFaults.{Accepts, IsInRange, IsNoOrder};
 
-use crate::variables::{Mask, VarIx, contains};
+use definitions::{BadOrder, Mask, VarIx, contains};
 use std::alloc::{AllocError, Global};
 use std::marker::Model;
-use thiserror::Error;
-
-/// Why a list of variables is no order.
-#[derive(Clone, Copy, Debug, PartialEq, Eq, Error)]
-pub enum BadOrder {
-    /// Each variable is in range, and some variable is missing.
-    #[error("NotEach")]
-    NotEach,
-    /// The list has not 1 to 16 variables, or one is not below its length.
-    #[error("OutOfRange")]
-    OutOfRange,
-    /// An allocation was refused.
-    #[error("OutOfMemory")]
-    OutOfMemory,
-}
 
 /// A variable order, top first: each variable of 0 to n-1 once, n being 1 to 16.
 #[derive(Debug, Drop)]

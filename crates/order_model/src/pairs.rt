@@ -2,31 +2,15 @@
 
 ghost use Rattle.std.specs.Prelude.{◌≡◌, ◌==◌, ◌↔◌, ◌^◌, ◌<◌, ◌≤◌, ℕ, List, Option, Some, [], length, position, IsTrue, IfSome, IfNone, IfOk};
 ghost use Rattle.std.specs.Int.{bit_at};
-ghost use Rattle.order_model.specs.Orders.{has, members};
-ghost use Rattle.order_model.specs.Pairs.{AreBelow, Pair, has_pair, keeps, is_lawful, tops, sorted_pairs, IsFirstOrder, IsPairCycle};
-ghost use Rattle.order_model.specs.KeptPairs.{pairs_in, AreWithin, IsJoined, CanBeKept, HasNoCycle};
-ghost use Rattle.order_model.specs.PairTexts.{variable_of, pair_of, listed, AreMasksOf, ParsesAs};
+ghost use Rattle.definitions.specs.Orders.{has, members};
+ghost use Rattle.definitions.specs.Pairs.{AreBelow, Pair, has_pair, keeps, is_lawful, tops, sorted_pairs, IsFirstOrder, IsPairCycle};
+ghost use Rattle.definitions.specs.KeptPairs.{pairs_in, AreWithin, IsJoined, CanBeKept, HasNoCycle};
+ghost use Rattle.definitions.specs.PairTexts.{variable_of, pair_of, listed, AreMasksOf, ParsesAs};
 
 use crate::orders::Order;
-use crate::variables::{Mask, VarIx, contains};
+use definitions::{Mask, PairsFault, VarIx, contains};
 use std::alloc::{AllocError, Global};
 use std::marker::Model;
-use thiserror::Error;
-
-/// Why a text lists no pairs that an order can keep. Each is decided over the whole text, the first
-/// of them first.
-#[derive(Clone, Copy, Debug, PartialEq, Eq, Error)]
-pub enum PairsFault {
-    /// A part between colons isn't two decimals from 0 to 15 with a comma between them.
-    #[error("BadPair")]
-    BadPair,
-    /// A number isn't below the number of variables.
-    #[error("PairOutOfRange")]
-    PairOutOfRange,
-    /// Pairs lead from this variable back to itself, and from no smaller one.
-    #[error("PairCycle {0}")]
-    PairCycle(VarIx),
-}
 
 /// Pairs (a, b) of variables, of each of which an order must have a above b. They lead from no
 /// variable back to itself.
@@ -38,7 +22,7 @@ pub struct Pairs {
 }
 
 impl Model for Pairs {
-    ghost use Rattle.order_model.specs.KeptPairs.{KeptPairs, pairs_in, HoldsKept};
+    ghost use Rattle.definitions.specs.KeptPairs.{KeptPairs, pairs_in, HoldsKept};
 
     ghost Value = { KeptPairs };
 

@@ -6,14 +6,14 @@ use Rattle.std.proofs.Common.{◌≡◌, ℕ, ◌+◌, true, cond, List, [], map
 use Rattle.std.specs.Int.{bit_at}
 use Rattle.std.proofs.lemmas.List.{get_or-map}
 use Rattle.std.proofs.lemmas.Option.{slice_get_within, get_or_from_slice_get}
-use Rattle.order_model.specs.Functions.{Function}
-use Rattle.order_model.specs.Orders.{has, members, without}
-use Rattle.order_model.specs.Pairs.{is_lawful}
-use Rattle.order_model.specs.Problems.{TruthTables, functions}
-use Rattle.order_model.specs.Widths.{width}
-use Rattle.order_model.specs.BoundsAbove.{BoundsAboveOf}
-use Rattle.order_model.specs.Cells.{asked, wanted, cell_of}
-use Rattle.order_model.proofs.Bits.Masks.{members_small}
+use Rattle.definitions.specs.Functions.{Function}
+use Rattle.definitions.specs.Orders.{has, members, without}
+use Rattle.definitions.specs.Pairs.{is_lawful}
+use Rattle.definitions.specs.Problems.{TruthTables, functions}
+use Rattle.definitions.specs.Widths.{width}
+use Rattle.definitions.specs.BoundsAbove.{BoundsAboveOf}
+use Rattle.definitions.specs.Cells.{asked, wanted, cell_of}
+use Rattle.definitions.proofs.Bits.Masks.{members_small}
 use Rattle.subset_layers.specs.Layers.{LayerOf, BlockOf, layer_of, layer_with, masks_of, block_masks}
 use Rattle.subset_layers.specs.Costs.{CostsOf, cost_without, AreTrueCosts, AreWidthsFor, IsCellOnce}
 use Rattle.layer_core.specs.Instances.{Instance, cell_for}

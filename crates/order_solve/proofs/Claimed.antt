@@ -8,8 +8,8 @@ use Rattle.std.specs.List.{filter, sum_by}
 use Rattle.std.proofs.lemmas.Bool.{false≢true, true≢false, cases_Bool, and_from, and_left, or_right, false_from_ne_true}
 use Rattle.std.proofs.lemmas.List.Sums.{sum_by-cons, sum-map}
 use Rattle.std.proofs.lemmas.Option.{slice_get-get_or}
-use Rattle.order_model.specs.Orders.{has, place_in}
-use Rattle.order_model.proofs.Lists.Orders.{place_at, has_at, place_small}
+use Rattle.definitions.specs.Orders.{has, place_in}
+use Rattle.definitions.proofs.Lists.Orders.{place_at, has_at, place_small}
 use Rattle.subset_layers.specs.Layers.{LayerOf, BlockOf, layer_of, masks_of, block_masks, blocks_of, low_bytes, low_byte, block_place}
 use Rattle.layer_core.specs.Machine.{claimed, claims_block}
 use Rattle.layer_core.specs.Instances.{Instance}

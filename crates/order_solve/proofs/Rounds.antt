@@ -6,8 +6,8 @@ use Rattle.std.proofs.Common.{◌≡◌, ℕ, ◌<◌, ◌≤◌, ◌*◌, ◌^�
 use Rattle.std.specs.List.{filter}
 use Rattle.std.proofs.lemmas.Bool.{false≢true, cases_Bool, and_parts, and_from}
 use Rattle.std.proofs.lemmas.Option.{slice_get_within}
-use Rattle.order_model.specs.Orders.{has}
-use Rattle.order_model.proofs.Lists.Orders.{has_filter}
+use Rattle.definitions.specs.Orders.{has}
+use Rattle.definitions.proofs.Lists.Orders.{has_filter}
 use Rattle.subset_layers.specs.Layers.{LayerOf, BlockOf, masks_of, blocks_of, block_masks, layer_of, low_byte}
 use Rattle.layer_core.specs.Machine.{claimed, claims_block}
 use Rattle.layer_core.specs.Instances.{Instance}

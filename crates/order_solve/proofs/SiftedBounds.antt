@@ -2,11 +2,11 @@
 --     sifted_bounds      some order that keeps them has it as its size
 --     sifted_room      there is room for one more
 use Rattle.std.proofs.Common.{◌≡◌, ℕ, ◌+◌, ◌^◌, ◌<◌, ◌≤◌, List, length, sym, ap, ◌∙◌, subst, arith}
-use Rattle.order_model.specs.Levels.{size_under}
-use Rattle.order_model.specs.Orders.{IsOrder}
-use Rattle.order_model.specs.Pairs.{Keeps}
-use Rattle.order_model.specs.Problems.{TruthTables, functions}
-use Rattle.order_model.proofs.Widths.SizeBounds.{size_bound}
+use Rattle.definitions.specs.Levels.{size_under}
+use Rattle.definitions.specs.Orders.{IsOrder}
+use Rattle.definitions.specs.Pairs.{Keeps}
+use Rattle.definitions.specs.Problems.{TruthTables, functions}
+use Rattle.definitions.proofs.Widths.SizeBounds.{size_bound}
 use Rattle.symmetries.specs.SymmetricPairs.{IsHarmless}
 use Rattle.sifting.specs.Managed.{SiftedOrder, IsSiftedOrder}
 use Rattle.layer_core.specs.Instances.{Instance}

@@ -1,9 +1,9 @@
 //! The solver.
 
 ghost use Rattle.std.specs.Prelude.{◌≡◌, IfOk};
-ghost use Rattle.order_model.specs.Problems.{functions};
-ghost use Rattle.order_model.specs.declared.bounds_above.BoundAbove.TheVariants.{Variables};
-ghost use Rattle.order_model.specs.Cells.{widths_taken};
+ghost use Rattle.definitions.specs.Problems.{functions};
+ghost use Rattle.definitions.specs.declared.limits.BoundAbove.TheVariants.{Variables};
+ghost use Rattle.definitions.specs.Cells.{widths_taken};
 ghost use Rattle.symmetries.specs.SymmetricPairs.{IsHarmless};
 ghost use Rattle.solutions.specs.Bounded.{IsBounded};
 ghost use Rattle.solutions.specs.Solutions.{IsOptimumFor, IsSolution};

@@ -1,7 +1,7 @@
 //! A worker at the board of a layer.
 
 ghost use Rattle.std.specs.Prelude.{◌≡◌, ℕ, false, [], Some, IfOk, IsTrue};
-ghost use Rattle.order_model.specs.Orders.{has};
+ghost use Rattle.definitions.specs.Orders.{has};
 ghost use Rattle.subset_layers.specs.Layers.{block_masks};
 ghost use Rattle.compaction.specs.Ahead.{widths_ahead};
 ghost use Rattle.layer_core.specs.Instances.{cell_for};

@@ -1,6 +1,6 @@
 -- What texts within the limits say.
 use Rattle.std.specs.Prelude.{ℕ, ◌≤◌, List, length}
-use Rattle.order_model.specs.Certificates.{Certificate}
+use Rattle.definitions.specs.Certificates.{Certificate}
 use Rattle.certificate.specs.Faults.{Spells}
 use Rattle.certificate.specs.Heads.{most_bytes}
 use Rattle.pla_reader.specs.Answering.{longest}

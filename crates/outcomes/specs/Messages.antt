@@ -4,8 +4,8 @@
 --     IsTold program MayEnd status before after      what it gets at a status that stands for faults
 use Rattle.std.specs.Prelude.{◌≡◌, ◌⊎◌, ℕ, ◌+◌, List, ◌++◌, take, codes, decimal, Option}
 use Rattle.std.specs.Io.KnownBytes.{Appends}
-use Rattle.order_model.specs.declared.pairs.PairsFault.{PairsFault}
-use Rattle.order_model.specs.declared.pairs.PairsFault.TheVariants as pairs
+use Rattle.definitions.specs.declared.faults.PairsFault.{PairsFault}
+use Rattle.definitions.specs.declared.faults.PairsFault.TheVariants as pairs
 use Rattle.pla_reader.specs.declared.errors.LineFault.{LineFault as FileFault}
 use Rattle.pla_reader.specs.declared.errors.LineFault.TheVariants as file
 use Rattle.certificate.specs.declared.faults.LineFault.{LineFault as CertificateFault}

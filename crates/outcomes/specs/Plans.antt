@@ -2,9 +2,9 @@
 --     PairsAre above n r      what the list of pairs says: none if there is no list
 use Rattle.std.specs.Prelude.{◌≡◌, ℕ, List, [], Option, Some, None, Result, Ok, Err}
 use Rattle.std.specs.Borrow.{Bor}
-use Rattle.order_model.specs.KeptPairs.{KeptPairs}
-use Rattle.order_model.specs.PairTexts.{ParsesAs, listed}
-use Rattle.order_model.specs.declared.pairs.PairsFault.{PairsFault}
+use Rattle.definitions.specs.KeptPairs.{KeptPairs}
+use Rattle.definitions.specs.PairTexts.{ParsesAs, listed}
+use Rattle.definitions.specs.declared.faults.PairsFault.{PairsFault}
 
 -- the pairs of a list for n variables, or its fault; none if there is no list
 abbrev pub PairsAre : Option (Bor (List ℕ)) → ℕ → Result KeptPairs PairsFault → Type 0

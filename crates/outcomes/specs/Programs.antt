@@ -3,7 +3,7 @@
 --     ProgramEnds program MayEnd words status before after      its statuses, the words that it refuses, and standard error
 --     UsageEnds program usage status before after      how it ends at words that give no plan
 use Rattle.std.specs.Prelude.{◌≡◌, ◌≢◌, ℕ, ◌≤◌, List, Option, IsTrue}
-use Rattle.order_model.specs.Orders.{has}
+use Rattle.definitions.specs.Orders.{has}
 use Rattle.command_line.specs.Lines.{LacksArguments, LacksPaths, minorder, ordercheck}
 use Rattle.command_line.specs.Usages.{AreFaulty, TurnsAway}
 use Rattle.command_line.specs.declared.usage.Usage.{Usage}

@@ -11,7 +11,7 @@ use Rattle.std.proofs.Math.Nat.{div-lt_iff_lt-mul, mul-le-mul_right}
 use Rattle.std.proofs.lemmas.Bool.{cases_eq}
 use Rattle.std.proofs.lemmas.Nat.{pow_pos, or_disjoint, mod-pow-add, mod-mul-add, div-add-mod', pow-add}
 use Rattle.std.proofs.lemmas.Nat.Bits.{shr_and_one, and_pow, bit_at-lt}
-use Rattle.order_model.specs.Orders.{has, members}
+use Rattle.definitions.specs.Orders.{has, members}
 use Rattle.subfunction_classes.specs.Table.{free_below}
 use Rattle.subfunction_classes.proofs.Extended.{free_none, free_more}
 use Rattle.subfunction_classes.proofs.LowSets.{bit_unset}

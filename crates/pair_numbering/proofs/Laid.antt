@@ -9,8 +9,9 @@ use Rattle.std.proofs.Common.{◌≡◌, ℕ, suc, ◌+◌, ◌*◌, ◌/◌, �
 use Rattle.std.proofs.Math.Nat.{div-lt_iff_lt-mul, mul-le-mul_right}
 use Rattle.std.proofs.lemmas.Nat.{div-mul-add, pow_pos}
 use Rattle.subfunction_classes.specs.PairTables.{AllBelow, IsPaired, IsPairTable}
-use Rattle.pair_numbering.specs.Strips.{AreNamed, IsLaid, laid_out, names_of, strips_at, unrolled}
-use Rattle.pair_numbering.proofs.Unrolled.{length_named, length_names_of, name_low, name_high, named_at, named_inside, unrolled_below}
+use Rattle.subfunction_classes.specs.Strips.{AreNamed, names_of, unrolled}
+use Rattle.pair_numbering.specs.Strips.{IsLaid, laid_out, strips_at}
+use Rattle.subfunction_classes.proofs.Unrolled.{length_named, length_names_of, name_low, name_high, named_at, named_inside, unrolled_below}
 
 -- a pair of strips has 2 * len entries
 two_strips : (n len : ℕ) → n * 2 * len ≡ n * (2 * len)

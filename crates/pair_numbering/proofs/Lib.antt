@@ -4,4 +4,3 @@ pub mod InBlocks
 pub mod Laid
 pub mod Names
 pub mod SlotSteps
-pub mod Unrolled

@@ -9,9 +9,9 @@ use Rattle.std.proofs.Math.Nat.{mul-le-mul_left, mul-le-mul_right, add-mul-mod_s
 use Rattle.std.proofs.lemmas.List.{length-map, get_or-map, map-id}
 use Rattle.std.proofs.lemmas.List.FromFn.{get_or-map-range_with_len, length-map-range_with_len}
 use Rattle.std.proofs.lemmas.Map.Made.{distinct_count-le}
-use Rattle.order_model.specs.Widths.{same_pair}
-use Rattle.order_model.proofs.Lists.Sets.{Among, among_map, member_from_among, nat_decides}
-use Rattle.order_model.proofs.Widths.ClassPairs.{pair_decides, rank_apart}
+use Rattle.definitions.specs.Widths.{same_pair}
+use Rattle.definitions.proofs.Lists.Sets.{Among, among_map, member_from_among, nat_decides}
+use Rattle.definitions.proofs.Widths.ClassPairs.{pair_decides, rank_apart}
 use Rattle.subfunction_classes.specs.Dependence.{joined_mask}
 use Rattle.subfunction_classes.specs.Numbering.{rank, ranks}
 use Rattle.subfunction_classes.specs.PairTables.{IsPairTable, NumbersPairs}
@@ -20,9 +20,9 @@ use Rattle.pair_numbering.specs.Keys.{AreUsed, TellsPairs, joined_key, joined_ke
 use Rattle.subfunction_classes.proofs.RankLaws.{ranks_alike, rank_below, rank_reached}
 use Rattle.subfunction_classes.proofs.Index.{length-pairs, pair_listed}
 use Rattle.subfunction_classes.proofs.Joined.{pair_classes}
-use Rattle.order_model.proofs.Lists.Maps.{map_same}
+use Rattle.definitions.proofs.Lists.Maps.{map_same}
 use Rattle.subfunction_classes.proofs.Lists.{place_of}
-use Rattle.order_model.proofs.Precedence.Masks.{among_at}
+use Rattle.definitions.proofs.Precedence.Masks.{among_at}
 use mathlib.Core.List.{map-map}
 
 module _ (masks : List ℕ) (x : ℕ) (ps : List (ℕ × ℕ)) (numbers joined : List ℕ) (t : TellsPairs masks x ps numbers joined) where

@@ -3,7 +3,7 @@
 --     TellsPairs masks x ps numbers joined      numbers by which pairs are told apart, and the mask of each
 --     AreUsed numbers masks      each mask is that of a number that occurs
 use Rattle.std.specs.Prelude.{◌≡◌, ℕ, ◌+◌, ◌*◌, ◌/◌, ◌%◌, ◌^◌, ◌<◌, ◌≤◌, IsTrue, List, map, length, slice_index, get_or}
-use Rattle.order_model.specs.Orders.{has}
+use Rattle.definitions.specs.Orders.{has}
 use Rattle.subfunction_classes.specs.Dependence.{joined_mask}
 
 -- the number of a pair of numbers below base

@@ -3,7 +3,7 @@
 --     ArePairsNumbered numbers rank numbered pairs      the pairs of a table's entries have numbers by first occurrence, and each number its pair
 use Rattle.std.specs.Prelude.{◌≡◌, ℕ, ◌^◌, ◌<◌, List, map, length, get_or}
 use Rattle.std.specs.Set.{distinct_count}
-use Rattle.order_model.specs.Widths.{same_pair}
+use Rattle.definitions.specs.Widths.{same_pair}
 use Rattle.subfunction_classes.specs.Numbering.{ranks}
 use Rattle.subfunction_classes.specs.Places as places
 

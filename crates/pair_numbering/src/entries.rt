@@ -3,7 +3,8 @@
 ghost use Rattle.std.specs.Prelude.{◌≡◌, ℕ, ◌+◌, ◌*◌, ◌/◌, ◌^◌, ◌<◌, ◌≤◌, length, slice_index, get_or, IfSome};
 ghost use Rattle.subfunction_classes.specs.Places as places;
 ghost use Rattle.subfunction_classes.specs.PairTables.{IsPaired};
-ghost use Rattle.pair_numbering.specs.Strips.{AreNamed, names_of, strips_at, unrolled};
+ghost use Rattle.subfunction_classes.specs.Strips.{AreNamed, names_of, unrolled};
+ghost use Rattle.pair_numbering.specs.Strips.{strips_at};
 
 use std::marker::Model;
 

@@ -6,7 +6,7 @@ ghost use Rattle.std.specs.List.{range_with_len};
 ghost use Rattle.subfunction_classes.specs.Places as places;
 ghost use Rattle.pair_numbering.specs.Keys.{AreUsed, TellsPairs, joined_key, joined_key_mask};
 ghost use Rattle.subfunction_classes.specs.PairTables.{AllBelow, IsPaired, IsPairTable};
-ghost use Rattle.pair_numbering.specs.Strips.{AreNamed, names_of, unrolled};
+ghost use Rattle.subfunction_classes.specs.Strips.{AreNamed, names_of, unrolled};
 
 use crate::entries::{Block, EntryPairs};
 use crate::numbering::number_with_masks;

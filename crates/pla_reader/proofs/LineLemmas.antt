@@ -6,7 +6,7 @@ use Rattle.std.proofs.lemmas.List.Elements.{filter_map-append, All-nil, All-appe
 use mathlib.Core.List.{append-nil, map-append}
 use Rattle.pla_reader.specs.declared.errors.LineFault.{LineFault}
 use Rattle.pla_reader.specs.declared.errors.LineFault.TheVariants.{MissingHead, InputCount, OutputCount, BadNumber, UnknownDirective}
-use Rattle.order_model.specs.declared.Term.{Term}
+use Rattle.definitions.specs.declared.Term.{Term}
 use Rattle.pla_reader.specs.declared.progress.LineError.{LineError}
 use Rattle.pla_reader.specs.declared.progress.LineError.TheVariants as errors
 use Rattle.pla_reader.specs.declared.progress.LogicalType.{LogicalType}
@@ -14,7 +14,7 @@ use Rattle.pla_reader.specs.declared.progress.LogicalType.TheVariants as types
 use Rattle.pla_reader.specs.Text.{is_filled}
 use Rattle.pla_reader.specs.Lines.{Line}
 use Rattle.pla_reader.specs.Lines.Line.{Empty, Inputs, Outputs, InputNames, OutputNames, Products, LogicalType as TypeLine, End, UnknownWord, Row}
-use Rattle.order_model.specs.Products.{product_of}
+use Rattle.definitions.specs.Products.{product_of}
 use Rattle.pla_reader.specs.Covers.{input_count, output_count, input_naming, output_naming, type_words, row_bytes, term_of, first_number, inputs_of, outputs_of}
 use Rattle.pla_reader.specs.Faults.{comes, head_fault, fault_of, term_fault, naming_fault, type_fault, takes_dont_cares, is_one_number}
 use Rattle.pla_reader.specs.Masks.{Fits}

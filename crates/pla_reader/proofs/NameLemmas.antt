@@ -9,7 +9,7 @@ use Rattle.std.proofs.lemmas.Bool.Decides.{nat_tests}
 use mathlib.Core.List.{map-append}
 use Rattle.pla_reader.specs.Text.{is_name}
 use Rattle.pla_reader.specs.Covers.{numbered_names}
-use Rattle.order_model.proofs.Lists.Ranges.{range_append}
+use Rattle.definitions.proofs.Lists.Ranges.{range_append}
 
 -- a word that may be a name is ASCII
 pub ascii_name : (word : List ℕ) → is_name word ≡ true → IsAscii word

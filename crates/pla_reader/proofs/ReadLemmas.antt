@@ -23,7 +23,7 @@ use Rattle.pla_reader.specs.Progress.{State, Agrees, IsCoverOf, IsEndError}
 use Rattle.pla_reader.specs.Answering.{Answers}
 use Rattle.pla_reader.proofs.TextLemmas.{one_more}
 use Rattle.pla_reader.proofs.LineLemmas.{comes_known, inputs_known, outputs_known}
-use Rattle.order_model.proofs.Lists.Ranges.{range_append}
+use Rattle.definitions.proofs.Lists.Ranges.{range_append}
 
 abbrev goes_on : Line → Bool
 goes_on line = not (is_end line)

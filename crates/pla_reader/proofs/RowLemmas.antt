@@ -7,12 +7,12 @@ use Rattle.std.proofs.lemmas.List.FromFn.{fill_by_all}
 use Rattle.std.proofs.lemmas.List.{get_or-map, get_or-take, get_or-drop, length-map, length-take-le, length-drop}
 use Rattle.pla_reader.specs.declared.errors.LineFault.{LineFault}
 use Rattle.pla_reader.specs.declared.errors.LineFault.TheVariants.{ShortTerm, LongTerm}
-use Rattle.order_model.specs.declared.Term.{Term}
+use Rattle.definitions.specs.declared.Term.{Term}
 use Rattle.pla_reader.specs.declared.terms.Masks.{Masks}
 use Rattle.pla_reader.specs.Text.{is_blank, bar, positions}
 use Rattle.pla_reader.specs.Covers.{literal_of, in_on_set, term_of}
 use Rattle.pla_reader.specs.Faults.{first_some, input_fault, output_fault, length_fault, term_fault}
-use Rattle.order_model.specs.Products.{literal_in, output_in, product_of}
+use Rattle.definitions.specs.Products.{literal_in, output_in, product_of}
 use Rattle.pla_reader.specs.Masks.{literal_at, output_at, Fits, ReadsInput, ReadsOutput}
 use Rattle.pla_reader.proofs.TermLemmas.{or_else, rest_fault, HoldsFirst, holds_input, holds_output, holds_none}
 

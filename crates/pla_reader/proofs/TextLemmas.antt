@@ -5,7 +5,7 @@ use Rattle.std.proofs.lemmas.Bool.{false_from_ne_true}
 use Rattle.std.proofs.lemmas.List.Sums.{position_or_len_is}
 use Rattle.memchr.specs.Find.{IsFirstByte}
 use Rattle.pla_reader.specs.Text.{is_filled, lines_of, is_blank, words}
-use Rattle.order_model.proofs.Lists.Digits.{behind_first}
+use Rattle.definitions.proofs.Lists.Digits.{behind_first}
 
 abbrev is_feed : ℕ → Bool
 is_feed b = b == 10

@@ -10,7 +10,7 @@ use Rattle.pla_reader.specs.declared.errors.LineFault.{LineFault}
 use Rattle.pla_reader.specs.declared.errors.LineFault.TheVariants.{InputCount, OutputCount, MissingHead}
 use Rattle.std.proofs.lemmas.Bool.{cases_eq}
 use Rattle.std.proofs.Math.Seq.{take-suc}
-use Rattle.order_model.specs.Texts.{number_of, is_number}
+use Rattle.definitions.specs.Texts.{number_of, is_number}
 use Rattle.pla_reader.specs.Lines.{Line, description}
 use Rattle.pla_reader.specs.Lines.Line.{Empty, Inputs, Outputs, InputNames, OutputNames, Products, LogicalType, End, UnknownWord, Row}
 use Rattle.pla_reader.specs.Covers.{NamedCover, input_count, output_count, input_naming, output_naming, row_bytes, IsProductOf, IsCover, first_number, first_or, inputs_of, outputs_of, numbered_names, term_of, literal_of, in_on_set, cover_of}

@@ -2,8 +2,8 @@
 use Rattle.std.proofs.Common.{◌≡◌, ℕ, refl, true, false, List, [], ◌∷◌, ◌++◌, codes, Option, Some, None, take, map, slice_get}
 use Rattle.std.specs.Fmt.{digits}
 use Rattle.std.specs.List.{flat_map, range_with_len}
-use Rattle.order_model.specs.Functions.{points, table}
-use Rattle.order_model.specs.Products.{matches, product_function, product_functions}
+use Rattle.definitions.specs.Functions.{points, table}
+use Rattle.definitions.specs.Products.{matches, product_function, product_functions}
 use Rattle.pla_reader.specs.declared.errors.LineFault.{LineFault}
 use Rattle.pla_reader.specs.declared.errors.LineFault.TheVariants.{MissingHead, RepeatedHead, InputCount, OutputCount, BadNumber, NameCount, BadName, UnknownDirective, UnsupportedType, DontCare, BadInputChar, BadOutputChar, ShortTerm, LongTerm}
 use Rattle.pla_reader.specs.Text.{lines_of, words, positions}

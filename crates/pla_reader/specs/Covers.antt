@@ -7,9 +7,9 @@
 --     functions_of cover      its functions (espresso(5), logical type f)
 use Rattle.std.specs.Prelude.{◌≡◌, ℕ, ◌≤◌, Bool, true, false, if◌then◌else◌, ◌==◌, List, [], ◌∷◌, ◌++◌, map, take, drop, Option, Some, None, decimal, filter_map, codes, length}
 use Rattle.std.specs.List.{All, range_with_len}
-use Rattle.order_model.specs.Functions.{Function}
-use Rattle.order_model.specs.Products.{Product, product_functions}
-use Rattle.order_model.specs.Texts.{number_of}
+use Rattle.definitions.specs.Functions.{Function}
+use Rattle.definitions.specs.Products.{Product, product_functions}
+use Rattle.definitions.specs.Texts.{number_of}
 use Rattle.pla_reader.specs.Lines.{Line}
 use Rattle.pla_reader.specs.Lines.Line.{Inputs, Outputs, InputNames, OutputNames, LogicalType, Row}
 

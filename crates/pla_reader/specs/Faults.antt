@@ -3,7 +3,7 @@
 use Rattle.std.specs.Prelude.{ℕ, Bool, false, not, if◌then◌else◌, ◌+◌, ◌&&◌, ◌||◌, ◌==◌, List, [], ◌∷◌, ◌++◌, length, map, take, drop, Option, Some, None, codes, filter_map, nat_lt, nat_le}
 use Rattle.std.specs.Option.{option_map_or}
 use Rattle.std.specs.List.{list_all}
-use Rattle.order_model.specs.Texts.{same, number_of, is_number, first_fault}
+use Rattle.definitions.specs.Texts.{same, number_of, is_number, first_fault}
 use Rattle.pla_reader.specs.declared.errors.LineFault.{LineFault}
 use Rattle.pla_reader.specs.declared.errors.LineFault.TheVariants.{MissingHead, RepeatedHead, InputCount, OutputCount, BadNumber, NameCount, BadName, UnknownDirective, UnsupportedType, DontCare, BadInputChar, BadOutputChar, ShortTerm, LongTerm}
 use Rattle.pla_reader.specs.Text.{is_filled, only_word, is_name}

@@ -3,7 +3,7 @@
 --     said bytes      the lines of an input
 --     description lines      those before the one that ends the description
 use Rattle.std.specs.Prelude.{ℕ, Bool, true, false, not, if◌then◌else◌, ◌==◌, List, [], ◌∷◌, map, codes, slice_index, take_while}
-use Rattle.order_model.specs.Texts.{same}
+use Rattle.definitions.specs.Texts.{same}
 use Rattle.pla_reader.specs.Text.{lines_of, content, words, positions}
 
 -- a directive with the words after it, or a term with its positions

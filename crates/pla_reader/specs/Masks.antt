@@ -4,7 +4,7 @@
 --     ReadsInput old i c new, ReadsOutput old j c new      new is old with what a character says at input i, or at output j
 use Rattle.std.specs.Prelude.{◌≡◌, ◌≢◌, ℕ, ◌<◌, ◌^◌, ◌==◌, Bool, if◌then◌else◌, Option, Some, None, bit_and}
 use Rattle.std.specs.Int.{bit_at}
-use Rattle.order_model.specs.declared.Term.{Term}
+use Rattle.definitions.specs.declared.Term.{Term}
 use Rattle.pla_reader.specs.declared.terms.Masks.{Masks}
 use Rattle.pla_reader.specs.Covers.{literal_of, in_on_set}
 

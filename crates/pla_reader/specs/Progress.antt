@@ -7,7 +7,7 @@ use Rattle.std.specs.Prelude.{◌≡◌, ℕ, ◌≤◌, Bool, true, false, List
 use Rattle.std.specs.Option.{option_to_list, option_map}
 use Rattle.std.specs.List.{All}
 use Rattle.std.specs.String.{string_bytes}
-use Rattle.order_model.specs.declared.Term.{Term}
+use Rattle.definitions.specs.declared.Term.{Term}
 use Rattle.pla_reader.specs.declared.errors.LineFault.TheVariants.{MissingHead}
 use Rattle.pla_reader.specs.declared.errors.PlaError.{PlaError}
 use Rattle.pla_reader.specs.declared.errors.PlaError.TheVariants as pla_errors
@@ -16,7 +16,7 @@ use Rattle.pla_reader.specs.declared.progress.LogicalType.{LogicalType}
 use Rattle.pla_reader.specs.declared.progress.LogicalType.TheVariants as types
 use Rattle.pla_reader.specs.declared.progress.LineError.{LineError}
 use Rattle.pla_reader.specs.declared.progress.LineError.TheVariants as line_errors
-use Rattle.order_model.specs.Products.{product_of}
+use Rattle.definitions.specs.Products.{product_of}
 use Rattle.pla_reader.specs.Lines.{Line}
 use Rattle.pla_reader.specs.Covers.{NamedCover, input_count, output_count, input_naming, output_naming, type_words, row_bytes, term_of, numbered_names}
 use Rattle.pla_reader.specs.Faults.{fault_of}

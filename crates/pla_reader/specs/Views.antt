@@ -5,7 +5,7 @@ use Rattle.std.specs.Prelude.{◌≡◌, ◌≤◌, length, map}
 use Rattle.std.specs.List.{All}
 use Rattle.std.specs.String.{string_bytes}
 use Rattle.pla_reader.specs.declared.cover.Cover.TheInside.{Inside}
-use Rattle.order_model.specs.Products.{product_of}
+use Rattle.definitions.specs.Products.{product_of}
 use Rattle.pla_reader.specs.Covers.{NamedCover}
 use Rattle.pla_reader.specs.Masks.{Fits}
 

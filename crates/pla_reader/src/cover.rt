@@ -3,7 +3,7 @@
 ghost use Rattle.std.specs.Prelude.{◌≡◌, ◌≤◌, length, map};
 ghost use Rattle.std.specs.List.{All};
 ghost use Rattle.std.specs.String.{string_bytes};
-ghost use Rattle.order_model.specs.Products.{product_of};
+ghost use Rattle.definitions.specs.Products.{product_of};
 ghost use Rattle.pla_reader.specs.Masks.{Fits};
 
 use order_model::Term;

@@ -2,7 +2,7 @@
 
 ghost use Rattle.std.specs.Prelude.{◌≡◌, ◌==◌, slice_index};
 ghost use Rattle.pla_reader.specs.Text.{words};
-ghost use Rattle.order_model.specs.Texts.{same};
+ghost use Rattle.definitions.specs.Texts.{same};
 ghost use Rattle.pla_reader.specs.Lines.{directive as directive_of, line_said, is_end as ends};
 ghost use Rattle.pla_reader.specs.Statements.{line_of};
 

@@ -5,7 +5,7 @@ ghost use Rattle.std.specs.Int.{bit_at};
 ghost use Rattle.pla_reader.specs.Text.{positions};
 ghost use Rattle.pla_reader.specs.Covers.{term_of};
 ghost use Rattle.pla_reader.specs.Faults.{input_fault, output_fault, term_fault};
-ghost use Rattle.order_model.specs.Products.{product_of};
+ghost use Rattle.definitions.specs.Products.{product_of};
 ghost use Rattle.pla_reader.specs.Masks.{Fits, ReadsInput, ReadsOutput};
 
 use crate::errors::LineFault;

@@ -4,11 +4,11 @@ use mathlib.Core.Logic.{dite}
 use native.Mathlib.Decide.{ℕ_discrete}
 use Rattle.std.proofs.lemmas.List.{get_or_past, get_or_read, length-replicate}
 use Rattle.std.proofs.lemmas.Option.{slice_get_within}
-use Rattle.order_model.specs.declared.diagrams.Ref.{Ref}
-use Rattle.order_model.specs.declared.diagrams.Ref.TheVariants.{Terminal, Place}
-use Rattle.order_model.specs.declared.diagrams.Node.{Node}
-use Rattle.order_model.specs.Diagrams.{IsBefore}
-use Rattle.order_model.proofs.Nodes.Appended.{get_left, get_right}
+use Rattle.definitions.specs.declared.nodes.Ref.{Ref}
+use Rattle.definitions.specs.declared.nodes.Ref.TheVariants.{Terminal, Place}
+use Rattle.definitions.specs.declared.nodes.Node.{Node}
+use Rattle.definitions.specs.Diagrams.{IsBefore}
+use Rattle.definitions.proofs.Nodes.Appended.{get_left, get_right}
 use Rattle.node_words.specs.Nodes.{IsKnown, Grows, AreNodeWords, level_of, low_of, high_of}
 use Rattle.node_words.specs.Meaning.{depth}
 use Rattle.node_words.proofs.Growing.{grows_trans, grows_full}

@@ -3,15 +3,15 @@ use Rattle.std.proofs.Common.{◌≡◌, ◌≢◌, ℕ, zero, suc, ◌+◌, ◌
 use Rattle.std.specs.List.{All, AllZip}
 use Rattle.std.proofs.lemmas.Option.{slice_get_within, get_or_from_slice_get}
 use Rattle.std.proofs.lemmas.List.Elements.{Contains-append_left, Contains-push, All-from_get_or}
-use Rattle.order_model.specs.declared.diagrams.Ref.{Ref}
-use Rattle.order_model.specs.declared.diagrams.Ref.TheVariants.{Terminal, Place}
-use Rattle.order_model.specs.declared.diagrams.Node.{Node}
-use Rattle.order_model.specs.Functions.{Point, bit, SameFunction}
-use Rattle.order_model.specs.Orders.{IsOrder, place_in}
-use Rattle.order_model.specs.Diagrams.{Graph, IsBefore, IsNodeAt, AreNodes, IsOrdered, IsOf, Reached, from_root, from_parent, value}
-use Rattle.order_model.proofs.Lists.Orders.{has_at, place_get}
-use Rattle.order_model.proofs.Nodes.Paths.{value_place, value_terminal}
-use Rattle.order_model.proofs.Nodes.Appended.{graph_of, diagram_of, get_left}
+use Rattle.definitions.specs.declared.nodes.Ref.{Ref}
+use Rattle.definitions.specs.declared.nodes.Ref.TheVariants.{Terminal, Place}
+use Rattle.definitions.specs.declared.nodes.Node.{Node}
+use Rattle.definitions.specs.Functions.{Point, bit, SameFunction}
+use Rattle.definitions.specs.Orders.{IsOrder, place_in}
+use Rattle.definitions.specs.Diagrams.{Graph, IsBefore, IsNodeAt, AreNodes, IsOrdered, IsOf, Reached, from_root, from_parent, value}
+use Rattle.definitions.proofs.Lists.Orders.{has_at, place_get}
+use Rattle.definitions.proofs.Nodes.Paths.{value_place, value_terminal}
+use Rattle.definitions.proofs.Nodes.Appended.{graph_of, diagram_of, get_left}
 use Rattle.node_words.specs.Nodes.{IsKnown, Grows, AreNodeWords, AreUnequal, IsBelow, node_word, level_of, low_of, high_of}
 use Rattle.node_words.specs.Meaning.{depth, function_of, branch}
 use Rattle.node_words.proofs.Meaning.{below_low, below_high, shallow, le_or_lt}

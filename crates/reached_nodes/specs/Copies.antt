@@ -7,11 +7,11 @@ use Rattle.std.specs.Prelude.{◌≡◌, ◌≢◌, ℕ, zero, suc, ◌+◌, ◌
 use Rattle.std.specs.Slots.{slots_items}
 use Rattle.std.proofs.Common.{Global}
 use Rattle.atomic_table.specs.declared.owned.Closed.{Closed}
-use Rattle.order_model.specs.declared.diagrams.Ref.{Ref}
-use Rattle.order_model.specs.declared.diagrams.Ref.TheVariants.{Terminal, Place}
-use Rattle.order_model.specs.declared.diagrams.Node.{Node}
-use Rattle.order_model.specs.Functions.{Function}
-use Rattle.order_model.specs.Diagrams.{IsChild, Reached, Represents, IsReduced}
+use Rattle.definitions.specs.declared.nodes.Ref.{Ref}
+use Rattle.definitions.specs.declared.nodes.Ref.TheVariants.{Terminal, Place}
+use Rattle.definitions.specs.declared.nodes.Node.{Node}
+use Rattle.definitions.specs.Functions.{Function}
+use Rattle.definitions.specs.Diagrams.{IsChild, Reached, Represents, IsReduced}
 use Rattle.node_words.specs.Nodes.{IsKnown, Grows, level_of, low_of, high_of}
 use Rattle.node_words.specs.Meaning.{depth}
 

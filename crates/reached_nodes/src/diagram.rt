@@ -3,7 +3,7 @@
 ghost use Rattle.std.specs.Prelude.{◌^◌, ◌<◌, ◌≤◌, IfOk, length, map};
 ghost use Rattle.std.specs.List.{All};
 ghost use Rattle.std.specs.Slots.{slots_len, IsFull};
-ghost use Rattle.order_model.specs.Orders.{IsOrder};
+ghost use Rattle.definitions.specs.Orders.{IsOrder};
 ghost use Rattle.node_words.specs.Nodes.{AreNodeWords, AreUnequal, IsKnown};
 ghost use Rattle.node_words.specs.Meaning.{function_of};
 ghost use Rattle.reached_nodes.specs.Copies.{words_in, IsReducedOf};

@@ -4,11 +4,11 @@ use Rattle.std.specs.List.{range_with_len}
 use Rattle.std.proofs.lemmas.Bool.{cases_lt}
 use Rattle.std.proofs.lemmas.List.{ext_get_or}
 use Rattle.std.proofs.lemmas.List.FromFn.{get_or-map-range_with_len, length-map-range_with_len}
-use Rattle.order_model.specs.Functions.{Function}
-use Rattle.order_model.specs.Orders.{IsOrder}
-use Rattle.order_model.specs.Levels.{level_count, level_counts}
-use Rattle.order_model.specs.Diagrams.{Graph, nodes_at}
-use Rattle.order_model.specs.Products.{product_functions}
+use Rattle.definitions.specs.Functions.{Function}
+use Rattle.definitions.specs.Orders.{IsOrder}
+use Rattle.definitions.specs.Levels.{level_count, level_counts}
+use Rattle.definitions.specs.Diagrams.{Graph, nodes_at}
+use Rattle.definitions.specs.Products.{product_functions}
 use Rattle.pla_reader.specs.Covers.{NamedCover, functions_of}
 use Rattle.dd_builder.specs.Building.{HasLevelCounts}
 

@@ -1,10 +1,10 @@
 -- What a search finds.
 --     IsBestFor problem P certify b      the first order of the fewest nodes among those that keep the pairs, and its certificate's cells if asked for
 use Rattle.std.specs.Prelude.{◌≡◌, Bool, IfSome, is_some, map, List}
-use Rattle.order_model.specs.Pairs.{Pair}
-use Rattle.order_model.specs.Problems.{TruthTables, functions}
-use Rattle.order_model.specs.Certificates.{certificate_of}
-use Rattle.order_model.specs.Listed.{listed}
+use Rattle.definitions.specs.Pairs.{Pair}
+use Rattle.definitions.specs.Problems.{TruthTables, functions}
+use Rattle.definitions.specs.Certificates.{certificate_of}
+use Rattle.definitions.specs.Listed.{listed}
 use Rattle.solutions.specs.Solutions.{IsOptimumFor}
 use Rattle.report.specs.declared.best.Best.{Best}
 

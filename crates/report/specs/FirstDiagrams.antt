@@ -1,9 +1,9 @@
 -- The diagram that the answer begins with.
 --     IsFirstDiagram cover P d      the reduced diagram of a cover's functions under the first order that keeps the pairs
 use Rattle.std.specs.Prelude.{◌≡◌, List, length}
-use Rattle.order_model.specs.Diagrams.{Represents, IsReduced}
-use Rattle.order_model.specs.OrderedGraphs.{OrderedGraph}
-use Rattle.order_model.specs.Pairs.{Pair, IsFirstOrder}
+use Rattle.definitions.specs.Diagrams.{Represents, IsReduced}
+use Rattle.definitions.specs.OrderedGraphs.{OrderedGraph}
+use Rattle.definitions.specs.Pairs.{Pair, IsFirstOrder}
 use Rattle.pla_reader.specs.Covers.{NamedCover, functions_of}
 use Rattle.dd_builder.specs.Building.{HasLevelCounts}
 

@@ -4,10 +4,10 @@
 --     IsSiftingOf m s, IsSiftingFor instance s      the sifted order, and one of the same functions to bound the search
 --     IsFound instance f      the best order, the sifted one with its size, and the size under the file order
 use Rattle.std.specs.Prelude.{◌≡◌, ℕ, List, sum}
-use Rattle.order_model.specs.Levels.{size_under}
-use Rattle.order_model.specs.Pairs.{Pair, IsFirstOrder}
-use Rattle.order_model.specs.Problems.{TruthTables, functions}
-use Rattle.order_model.specs.Sifting.{sifted}
+use Rattle.definitions.specs.Levels.{size_under}
+use Rattle.definitions.specs.Pairs.{Pair, IsFirstOrder}
+use Rattle.definitions.specs.Problems.{TruthTables, functions}
+use Rattle.definitions.specs.Sifting.{sifted}
 use Rattle.pla_reader.specs.Covers.{NamedCover}
 use Rattle.run_texts.specs.Texts.{file_order_levels}
 use Rattle.sifting.specs.Managed.{Managed}

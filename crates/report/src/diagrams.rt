@@ -1,8 +1,8 @@
 //! The diagrams that an answer is read off.
 
 ghost use Rattle.std.specs.Prelude.{◌≡◌, ◌≤◌, ◌<◌, ℕ, IfOk, length, slice_index};
-ghost use Rattle.order_model.specs.Diagrams.{nodes_at};
-ghost use Rattle.order_model.specs.Orders.{IsOrder};
+ghost use Rattle.definitions.specs.Diagrams.{nodes_at};
+ghost use Rattle.definitions.specs.Orders.{IsOrder};
 ghost use Rattle.dd_builder.specs.Building.{HasLevelCounts, IsDiagramOf};
 ghost use Rattle.pla_reader.specs.Covers.{functions_of};
 ghost use Rattle.report.specs.FirstDiagrams.{IsFirstDiagram};

@@ -5,14 +5,14 @@
 use Rattle.std.proofs.Common.{◌≡◌, ℕ, ◌≤◌, Bool, true, false, List, [], length, Option, Some, refl, sym, ap, subst}
 use Rattle.std.specs.Borrow.{Bor}
 use Rattle.std.specs.Io.KnownBytes.{Appends}
-use Rattle.order_model.specs.Certificates.{Certificate, certificate_of, IsCertOf}
-use Rattle.order_model.specs.KeptPairs.{KeptPairs}
-use Rattle.order_model.specs.Levels.{size_under}
-use Rattle.order_model.specs.Orders.{variables}
-use Rattle.order_model.specs.Pairs.{Pair}
-use Rattle.order_model.specs.Sifting.{sifted}
-use Rattle.order_model.proofs.Certificates.Written.{cert_of_is_good}
-use Rattle.order_model.proofs.Lists.Firsts.{first_keeping_unique}
+use Rattle.definitions.specs.Certificates.{Certificate, certificate_of, IsCertOf}
+use Rattle.definitions.specs.KeptPairs.{KeptPairs}
+use Rattle.definitions.specs.Levels.{size_under}
+use Rattle.definitions.specs.Orders.{variables}
+use Rattle.definitions.specs.Pairs.{Pair}
+use Rattle.definitions.specs.Sifting.{sifted}
+use Rattle.definitions.proofs.Certificates.Written.{cert_of_is_good}
+use Rattle.definitions.proofs.Lists.Firsts.{first_keeping_unique}
 use Rattle.certificate.specs.Faults.{Spells}
 use Rattle.certificate.proofs.Lengths.{text_readable}
 use Rattle.pla_reader.specs.Answering.{longest}

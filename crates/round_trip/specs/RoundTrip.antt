@@ -4,8 +4,8 @@
 --     AcceptsWritten text report before after outcome      a check accepted the certificate that a text spells, whose order and nodes a report prints
 use Rattle.std.specs.Prelude.{◌≡◌, ℕ, false, List, [], ◌∷◌, Option, Some, IsTrue}
 use Rattle.std.specs.Io.KnownBytes.{Appends}
-use Rattle.order_model.specs.Orders.{has}
-use Rattle.order_model.specs.Certificates.{Certificate}
+use Rattle.definitions.specs.Orders.{has}
+use Rattle.definitions.specs.Certificates.{Certificate}
 use Rattle.certificate.specs.Faults.{Spells}
 use Rattle.command_line.specs.declared.line.RunPlan.{RunPlan}
 use Rattle.pla_reader.specs.Reading.{Reads}

@@ -2,11 +2,11 @@
 --     certified, certified_if_asked      what is a certificate by the truth tables of a cover is one of the cover
 use Rattle.std.proofs.Common.{ℕ, Bool, true, false, List, Option, Some, None, String, string_bytes, refl, subst}
 use Rattle.std.specs.Global.{Global}
-use Rattle.order_model.specs.Pairs.{Pair}
-use Rattle.order_model.specs.Certificates.{certificate_of}
-use Rattle.order_model.specs.Diagrams.{IsFirstKeeping}
-use Rattle.order_model.specs.Problems.{TruthTables, functions}
-use Rattle.order_model.proofs.Certificates.Same.{certificate_same}
+use Rattle.definitions.specs.Pairs.{Pair}
+use Rattle.definitions.specs.Certificates.{certificate_of}
+use Rattle.definitions.specs.Diagrams.{IsFirstKeeping}
+use Rattle.definitions.specs.Problems.{TruthTables, functions}
+use Rattle.definitions.proofs.Certificates.Same.{certificate_same}
 use Rattle.certificate.specs.Faults.{Spells}
 use Rattle.pla_reader.specs.Covers.{NamedCover, functions_of}
 use Rattle.truth_table.specs.OfCovers.{AreTablesOf}

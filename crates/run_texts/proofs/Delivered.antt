@@ -4,7 +4,7 @@
 use Rattle.std.proofs.Common.{◌≡◌, ℕ, Bool, true, false, List, Option, Some, None, String, is_some, option_map, string_bytes, sym, ◌∙◌}
 use Rattle.std.specs.Borrow.{Bor}
 use Rattle.std.specs.Global.{Global}
-use Rattle.order_model.proofs.Certificates.Written.{cert_of_is_good}
+use Rattle.definitions.proofs.Certificates.Written.{cert_of_is_good}
 use Rattle.certificate.proofs.Lengths.{text_readable}
 use Rattle.certificate.proofs.Spelled.{one_form}
 use Rattle.pla_reader.specs.Covers.{NamedCover, functions_of}

@@ -4,11 +4,11 @@
 --     printed_unique, certified_unique      so runs that are done leave the same
 use Rattle.std.proofs.Common.{◌≡◌, ℕ, Bool, true, false, List, ◌++◌, Option, Some, None, Ok, sym, ap, ◌∙◌, subst}
 use Rattle.std.specs.Borrow.{Bor}
-use Rattle.order_model.specs.Pairs.{Pair}
-use Rattle.order_model.specs.KeptPairs.{KeptPairs}
-use Rattle.order_model.specs.PairTexts.{ParsesAs, listed}
-use Rattle.order_model.specs.Sifting.{sifted}
-use Rattle.order_model.proofs.Lists.Firsts.{first_order_unique, first_keeping_unique, cert_unique}
+use Rattle.definitions.specs.Pairs.{Pair}
+use Rattle.definitions.specs.KeptPairs.{KeptPairs}
+use Rattle.definitions.specs.PairTexts.{ParsesAs, listed}
+use Rattle.definitions.specs.Sifting.{sifted}
+use Rattle.definitions.proofs.Lists.Firsts.{first_order_unique, first_keeping_unique, cert_unique}
 use Rattle.certificate.specs.Spelling.{spelling}
 use Rattle.pla_reader.specs.Covers.{NamedCover, functions_of}
 use Rattle.pla_reader.specs.Lines.{said}

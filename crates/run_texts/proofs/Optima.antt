@@ -3,14 +3,14 @@
 --     printed      what the text of an answer says
 use Rattle.std.proofs.Common.{◌≡◌, ℕ, Bool, true, false, List, Option, refl, arith}
 use Rattle.std.specs.Borrow.{Bor}
-use Rattle.order_model.specs.Functions.{Function}
-use Rattle.order_model.specs.Pairs.{Pair}
-use Rattle.order_model.specs.Levels.{size_under}
-use Rattle.order_model.specs.Diagrams.{HasFewestKeeping}
-use Rattle.order_model.specs.Orders.{variables}
-use Rattle.order_model.specs.Sifting.{sifted}
-use Rattle.order_model.proofs.Nodes.Construction.{exact_diagram}
-use Rattle.order_model.proofs.Nodes.LevelBound.{size_bound}
+use Rattle.definitions.specs.Functions.{Function}
+use Rattle.definitions.specs.Pairs.{Pair}
+use Rattle.definitions.specs.Levels.{size_under}
+use Rattle.definitions.specs.Diagrams.{HasFewestKeeping}
+use Rattle.definitions.specs.Orders.{variables}
+use Rattle.definitions.specs.Sifting.{sifted}
+use Rattle.definitions.proofs.Nodes.Construction.{exact_diagram}
+use Rattle.definitions.proofs.Nodes.LevelBound.{size_bound}
 use Rattle.pla_reader.specs.Covers.{NamedCover, functions_of}
 use Rattle.pla_reader.specs.Reading.{Reads}
 use Rattle.run_texts.specs.Answers.{IsText}

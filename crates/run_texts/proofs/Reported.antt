@@ -1,12 +1,12 @@
 -- The parts of a report make the answer's text.
 use Rattle.std.proofs.Common.{◌≡◌, ℕ, List, ◌++◌, sum, ap, ◌∙◌, subst}
-use Rattle.order_model.specs.Levels.{level_counts, size_under}
-use Rattle.order_model.specs.Orders.{variables}
-use Rattle.order_model.specs.Pairs.{Pair, IsFirstOrder}
-use Rattle.order_model.specs.Diagrams.{IsFirstKeeping}
-use Rattle.order_model.specs.Problems.{TruthTables, functions}
-use Rattle.order_model.specs.Sifting.{sifted}
-use Rattle.order_model.proofs.Functions.Same.{level_counts_same, size_same}
+use Rattle.definitions.specs.Levels.{level_counts, size_under}
+use Rattle.definitions.specs.Orders.{variables}
+use Rattle.definitions.specs.Pairs.{Pair, IsFirstOrder}
+use Rattle.definitions.specs.Diagrams.{IsFirstKeeping}
+use Rattle.definitions.specs.Problems.{TruthTables, functions}
+use Rattle.definitions.specs.Sifting.{sifted}
+use Rattle.definitions.proofs.Functions.Same.{level_counts_same, size_same}
 use Rattle.pla_reader.specs.Covers.{NamedCover, functions_of}
 use Rattle.truth_table.specs.OfCovers.{AreTablesOf}
 use Rattle.run_texts.specs.Answers.{IsAnswer}

@@ -2,13 +2,13 @@
 --     first_same, sifted_same      the first order of the fewest nodes; the sifted order
 use Rattle.std.proofs.Common.{◌≡◌, ℕ, List, [], ◌∷◌, ◌∙◌, length, nat_lt, cond, refl}
 use Rattle.std.specs.List.{AllZip, filter, fold}
-use Rattle.order_model.specs.declared.diagrams.Ref.{Ref}
-use Rattle.order_model.specs.Functions.{Function, SameFunction}
-use Rattle.order_model.specs.Orders.{variables, place_in}
-use Rattle.order_model.specs.Pairs.{Pair, keeps}
-use Rattle.order_model.specs.Diagrams.{Graph, IsOf, Represents, FewestKeeping, HasFewestKeeping, IsFirstKeeping, value}
-use Rattle.order_model.specs.Sifting.{best, insert_by_count, placements, sifted, sifting_order, smallest_of, smallest_order}
-use Rattle.order_model.proofs.Functions.Same.{AllSame, turned, level_count_same, size_same}
+use Rattle.definitions.specs.declared.nodes.Ref.{Ref}
+use Rattle.definitions.specs.Functions.{Function, SameFunction}
+use Rattle.definitions.specs.Orders.{variables, place_in}
+use Rattle.definitions.specs.Pairs.{Pair, keeps}
+use Rattle.definitions.specs.Diagrams.{Graph, IsOf, Represents, FewestKeeping, HasFewestKeeping, IsFirstKeeping, value}
+use Rattle.definitions.specs.Sifting.{best, insert_by_count, placements, sifted, sifting_order, smallest_of, smallest_order}
+use Rattle.definitions.proofs.Functions.Same.{AllSame, turned, level_count_same, size_same}
 
 of_same : (n : ℕ) (d : Graph) (rs : List Ref) (F G : List Function) → AllSame n F G →
     AllZip (λ r f. SameFunction n (value d.nodes r) f) rs F → AllZip (λ r f. SameFunction n (value d.nodes r) f) rs G

@@ -6,12 +6,12 @@
 use Rattle.std.specs.Prelude.{◌≡◌, ℕ, Bool, true, false, List, Option, Some, None, Ok, Err, String, option_map, string_bytes}
 use Rattle.std.specs.Borrow.{Bor}
 use Rattle.std.specs.Global.{Global}
-use Rattle.order_model.specs.Pairs.{Pair, IsFirstOrder}
-use Rattle.order_model.specs.KeptPairs.{KeptPairs}
-use Rattle.order_model.specs.Diagrams.{IsFirstKeeping}
-use Rattle.order_model.specs.Sifting.{sifted}
-use Rattle.order_model.specs.Certificates.{Certificate, IsCertOf, certificate_of}
-use Rattle.order_model.specs.Problems.{TruthTables, functions}
+use Rattle.definitions.specs.Pairs.{Pair, IsFirstOrder}
+use Rattle.definitions.specs.KeptPairs.{KeptPairs}
+use Rattle.definitions.specs.Diagrams.{IsFirstKeeping}
+use Rattle.definitions.specs.Sifting.{sifted}
+use Rattle.definitions.specs.Certificates.{Certificate, IsCertOf, certificate_of}
+use Rattle.definitions.specs.Problems.{TruthTables, functions}
 use Rattle.certificate.specs.Faults.{Spells}
 use Rattle.pla_reader.specs.Covers.{NamedCover, functions_of}
 use Rattle.command_line.specs.declared.line.RunPlan.{RunPlan}

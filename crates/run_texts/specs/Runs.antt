@@ -13,8 +13,8 @@ use Rattle.std.specs.Prelude.{◌≡◌, ◌≢◌, ◌⊎◌, ℕ, ◌+◌, ◌
 use Rattle.std.specs.Borrow.{Bor}
 use Rattle.std.specs.Global.{Global}
 use Rattle.std.specs.Io.KnownBytes.{Appends}
-use Rattle.order_model.specs.Certificates.{Certificate, IsGood}
-use Rattle.order_model.specs.declared.pairs.PairsFault.{PairsFault}
+use Rattle.definitions.specs.Certificates.{Certificate, IsGood}
+use Rattle.definitions.specs.declared.faults.PairsFault.{PairsFault}
 use Rattle.certificate.specs.Faults.{Spells}
 use Rattle.pla_reader.specs.Covers.{NamedCover, IsCover, functions_of}
 use Rattle.pla_reader.specs.Answering.{longest}

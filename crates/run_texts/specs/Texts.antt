@@ -3,9 +3,9 @@
 --     report_text cover best other      the report of an order, beside another one and the file order
 use Rattle.std.specs.Prelude.{ℕ, List, ◌∷◌, ◌++◌, codes, decimal}
 use Rattle.std.specs.List.{flat_map, sum}
-use Rattle.order_model.specs.Orders.{variables}
-use Rattle.order_model.specs.Levels.{level_counts, size_under}
-use Rattle.order_model.specs.Problems.{TruthTables, functions}
+use Rattle.definitions.specs.Orders.{variables}
+use Rattle.definitions.specs.Levels.{level_counts, size_under}
+use Rattle.definitions.specs.Problems.{TruthTables, functions}
 use Rattle.pla_reader.specs.Covers.{NamedCover, functions_of}
 use Rattle.outcomes.specs.Texts.{counts_lines, labelled, name_of, numbers, order_lines}
 

@@ -6,16 +6,16 @@ use Rattle.std.proofs.Common.{◌≡◌, ℕ, zero, suc, ◌+◌, ◌-◌, ◌<�
 use Rattle.std.specs.List.{insert, filter, range_with_len, IsDistinct}
 use Rattle.std.proofs.lemmas.Bool.{true≢false, false_from_ne_true}
 use Rattle.std.proofs.lemmas.List.{append-nil}
-use Rattle.order_model.specs.Orders.{has, without, place_in}
-use Rattle.order_model.specs.Pairs.{Pair, keeps, has_pair}
-use Rattle.order_model.specs.Problems.{functions}
-use Rattle.order_model.specs.Sifting.{smallest_of, placements, best}
-use Rattle.order_model.proofs.Widths.Recurrence.{absent_without, distinct_without}
+use Rattle.definitions.specs.Orders.{has, without, place_in}
+use Rattle.definitions.specs.Pairs.{Pair, keeps, has_pair}
+use Rattle.definitions.specs.Problems.{functions}
+use Rattle.definitions.specs.Sifting.{smallest_of, placements, best}
+use Rattle.definitions.proofs.Widths.Recurrence.{absent_without, distinct_without}
 use Rattle.sifting.specs.Managed.{Managed, IsManagedOrder}
 use Rattle.sifting.specs.Moves.{Moves, IsMoved, StopsAbove, StopsBelow, FindsBest, PassesBetween, PassesBelow}
 use Rattle.sifting.proofs.Placements.{length-placed, here, above_here, below_here, not_above, not_below, breaks}
 use Rattle.sifting.proofs.MoveSteps.{smallest_is, insert_tells}
-use Rattle.order_model.proofs.Sifting.Placements.{own_place}
+use Rattle.definitions.proofs.Sifting.Placements.{own_place}
 
 -- ---- filters of placements
 

@@ -1,8 +1,8 @@
 -- The better one of two walks of a variable, one up and one down, leads to its best place.
 use Rattle.std.proofs.Common.{◌≡◌, ℕ, ◌<◌, ◌≤◌, length}
-use Rattle.order_model.specs.Orders.{place_in}
-use Rattle.order_model.specs.Problems.{functions}
-use Rattle.order_model.specs.Sifting.{best}
+use Rattle.definitions.specs.Orders.{place_in}
+use Rattle.definitions.specs.Problems.{functions}
+use Rattle.definitions.specs.Sifting.{best}
 use Rattle.sifting.specs.declared.sift.Walk.{Walk}
 use Rattle.sifting.specs.Managed.{Managed, IsManagedOrder}
 use Rattle.sifting.specs.Moves.{IsMoved, FindsBest, PassesBetween, PassesBelow, WalksUp, WalksDown}

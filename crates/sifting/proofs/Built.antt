@@ -4,16 +4,16 @@
 use Rattle.std.proofs.Common.{◌≡◌, ℕ, zero, suc, ◌+◌, ◌*◌, ◌^◌, ◌<◌, ◌≤◌, Bool, true, false, inl, inr, List, [], ◌∷◌, ◌++◌, map, length, get_or, take, refl, sym, ap, ap₂, ◌∙◌, subst, arith, add-one, pow-suc}
 use Rattle.std.proofs.lemmas.List.{length-map, length_push, take_more, take_all, length-take-le}
 use Rattle.std.proofs.lemmas.Option.{slice_get_cases}
-use Rattle.order_model.specs.declared.diagrams.Ref.{Ref}
-use Rattle.order_model.specs.declared.diagrams.Ref.TheVariants.{Terminal, Place}
-use Rattle.order_model.specs.declared.diagrams.Node.{Node}
-use Rattle.order_model.specs.Functions.{Point, bit, SameFunction}
-use Rattle.order_model.specs.Orders.{has, IsOrder, place_in}
-use Rattle.order_model.specs.Diagrams.{Graph, IsDiagram, IsBefore, IsOrdered, IsReduced, value}
-use Rattle.order_model.proofs.Lists.Orders.{place_at, place_get}
-use Rattle.order_model.proofs.Nodes.Paths.{value_terminal, StandsFrom, stands_top}
+use Rattle.definitions.specs.declared.nodes.Ref.{Ref}
+use Rattle.definitions.specs.declared.nodes.Ref.TheVariants.{Terminal, Place}
+use Rattle.definitions.specs.declared.nodes.Node.{Node}
+use Rattle.definitions.specs.Functions.{Point, bit, SameFunction}
+use Rattle.definitions.specs.Orders.{has, IsOrder, place_in}
+use Rattle.definitions.specs.Diagrams.{Graph, IsDiagram, IsBefore, IsOrdered, IsReduced, value}
+use Rattle.definitions.proofs.Lists.Orders.{place_at, place_get}
+use Rattle.definitions.proofs.Nodes.Paths.{value_terminal, StandsFrom, stands_top}
 use Rattle.sifting.specs.Leveled.{Children, child, at, place_below, function_at, places, IsLevel, AreLevels, AreRoots}
-use Rattle.order_model.proofs.Functions.Tables.{table_same}
+use Rattle.definitions.proofs.Functions.Tables.{table_same}
 use Rattle.sifting.specs.declared.levels.Level.{Level}
 use Rattle.sifting.specs.Managed.{truth_tables_of}
 use Rattle.sifting.specs.LevelLists.{nodes_of, problem_at}
@@ -21,7 +21,7 @@ use Rattle.sifting.specs.Cuts.{code_of, ref_of, split_ref, ref_at, is_true, Spli
 use Rattle.sifting.proofs.Paths.{place_inside}
 use Rattle.sifting.proofs.ManagerFields.{twice}
 use Rattle.sifting.proofs.Cutting.{half, ref_code, code_ref, Stands, split_value, split_stands, split_tells}
-use Rattle.order_model.proofs.Sifting.Placements.{own_place}
+use Rattle.definitions.proofs.Sifting.Placements.{own_place}
 
 -- ---- lists
 

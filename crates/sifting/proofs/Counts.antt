@@ -13,18 +13,18 @@ use Rattle.std.proofs.lemmas.List.{append_assoc, length_push, length-map}
 use Rattle.std.proofs.lemmas.List.Sums.{length-filter}
 use Rattle.std.proofs.lemmas.Option.{same_Some}
 use Rattle.std.proofs.lemmas.Map.Made.{distinct_count-from_IsDistinct}
-use Rattle.order_model.specs.Functions.{Function, restrict, SameFunction, DependsOn, table, same_table, depends}
-use Rattle.order_model.specs.Orders.{has, IsOrder}
-use Rattle.order_model.specs.Levels.{subfunctions, reach, dependents, level_count, level_counts}
-use Rattle.order_model.proofs.Lists.Sets.{Among, Within, among_left, among_right, among_cases, among_filter, among_from_filter, among_map, among_from_map, among_flat_map, among_from_flat_map, count_same}
-use Rattle.order_model.proofs.Functions.Tables.{restrict_same, same_sym, same_trans, table_same, same_from_table, same_table_decides, depends_same, depends_false, depends_lem}
-use Rattle.order_model.proofs.Lists.Orders.{absent_from_apart, has_append}
-use Rattle.order_model.proofs.Functions.Exchange.{Below, level_lem, below_from_has}
-use Rattle.order_model.proofs.Nodes.LevelBound.{enumerated, count_enumerated}
-use Rattle.order_model.proofs.Nodes.Construction.{reach_more}
+use Rattle.definitions.specs.Functions.{Function, restrict, SameFunction, DependsOn, table, same_table, depends}
+use Rattle.definitions.specs.Orders.{has, IsOrder}
+use Rattle.definitions.specs.Levels.{subfunctions, reach, dependents, level_count, level_counts}
+use Rattle.definitions.proofs.Lists.Sets.{Among, Within, among_left, among_right, among_cases, among_filter, among_from_filter, among_map, among_from_map, among_flat_map, among_from_flat_map, count_same}
+use Rattle.definitions.proofs.Functions.Tables.{restrict_same, same_sym, same_trans, table_same, same_from_table, same_table_decides, depends_same, depends_false, depends_lem}
+use Rattle.definitions.proofs.Lists.Orders.{absent_from_apart, has_append}
+use Rattle.definitions.proofs.Functions.Exchange.{Below, level_lem, below_from_has}
+use Rattle.definitions.proofs.Nodes.LevelBound.{enumerated, count_enumerated}
+use Rattle.definitions.proofs.Nodes.Construction.{reach_more}
 use Rattle.sifting.specs.Leveled.{Children, child, at, function_at, places, branching, IsLevel, AreLevels, AreTerminals, AreRoots}
 use Rattle.sifting.proofs.Paths.{child_has, restricted, canonical, same_children}
-use Rattle.order_model.proofs.Nodes.Reduced.{enumerated_from}
+use Rattle.definitions.proofs.Nodes.Reduced.{enumerated_from}
 
 -- what is left when one variable more is fixed last
 subfunctions_last : (x : ℕ) (xs : List ℕ) (f g : Function) → Among g (subfunctions (xs ++ x ∷ []) f) →

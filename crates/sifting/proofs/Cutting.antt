@@ -6,13 +6,13 @@ use Rattle.std.proofs.Common.{◌≡◌, ◌≢◌, ℕ, zero, suc, ◌+◌, ◌
 use Rattle.std.proofs.lemmas.Bool.{cases_eq}
 use Rattle.std.proofs.lemmas.List.{map-append, take_more}
 use Rattle.std.proofs.lemmas.Option.{slice_get_cases, same_Some}
-use Rattle.order_model.specs.declared.diagrams.Ref.{Ref}
-use Rattle.order_model.specs.declared.diagrams.Ref.TheVariants.{Terminal, Place}
-use Rattle.order_model.specs.declared.diagrams.Node.{Node}
-use Rattle.order_model.specs.Functions.{Point, bit}
-use Rattle.order_model.specs.Orders.{place_in}
-use Rattle.order_model.specs.Diagrams.{Graph, AreNodes, IsDiagram, IsBefore, IsOrdered, IsReduced, value}
-use Rattle.order_model.proofs.Nodes.Paths.{before_more, child_before, value_place, StandsFrom, stands_less, child_stands}
+use Rattle.definitions.specs.declared.nodes.Ref.{Ref}
+use Rattle.definitions.specs.declared.nodes.Ref.TheVariants.{Terminal, Place}
+use Rattle.definitions.specs.declared.nodes.Node.{Node}
+use Rattle.definitions.specs.Functions.{Point, bit}
+use Rattle.definitions.specs.Orders.{place_in}
+use Rattle.definitions.specs.Diagrams.{Graph, AreNodes, IsDiagram, IsBefore, IsOrdered, IsReduced, value}
+use Rattle.definitions.proofs.Nodes.Paths.{before_more, child_before, value_place, StandsFrom, stands_less, child_stands}
 use Rattle.sifting.specs.Cuts.{code_of, ref_of, split_ref, split_node}
 
 -- the half that a value takes

@@ -2,14 +2,14 @@
 use Rattle.std.proofs.Common.{◌≡◌, ℕ, zero, suc, ◌<◌, ◌^◌, Bool, List, [], ◌∷◌, map, length, get_or, refl, ap, ap₂, ◌∙◌, arith}
 use Rattle.std.specs.List.{AllZip}
 use Rattle.std.proofs.lemmas.List.{length-map}
-use Rattle.order_model.specs.declared.diagrams.Ref.{Ref}
-use Rattle.order_model.specs.declared.diagrams.Node.{Node}
-use Rattle.order_model.specs.Functions.{Function, SameFunction, table, from_table}
-use Rattle.order_model.specs.Problems.{TruthTables, functions, outputs_of, table_at}
-use Rattle.order_model.specs.Diagrams.{Represents, IsOf, value}
-use Rattle.order_model.specs.OrderedGraphs.{OrderedGraph}
-use Rattle.order_model.proofs.Functions.Tables.{table_same}
-use Rattle.order_model.proofs.Bits.Points.{table-from_table}
+use Rattle.definitions.specs.declared.nodes.Ref.{Ref}
+use Rattle.definitions.specs.declared.nodes.Node.{Node}
+use Rattle.definitions.specs.Functions.{Function, SameFunction, table, from_table}
+use Rattle.definitions.specs.Problems.{TruthTables, functions, outputs_of, table_at}
+use Rattle.definitions.specs.Diagrams.{Represents, IsOf, value}
+use Rattle.definitions.specs.OrderedGraphs.{OrderedGraph}
+use Rattle.definitions.proofs.Functions.Tables.{table_same}
+use Rattle.definitions.proofs.Bits.Points.{table-from_table}
 use Rattle.sifting.specs.Managed.{truth_tables_of}
 
 abbrev AreOf : ℕ → List Node → List Ref → List Function → Type 0

@@ -2,8 +2,8 @@
 --     upper_level, lower_level      both are levels again
 --     path_placed      a path comes to the same place below them
 use Rattle.std.proofs.Common.{◌≡◌, ℕ, zero, suc, ◌*◌, ◌<◌, Bool, ◌⊎◌, inl, inr, List, [], ◌∷◌, length, set, get_or, sym, ap, ◌∙◌, subst, arith}
-use Rattle.order_model.specs.Functions.{Point, bit}
-use Rattle.order_model.proofs.Lists.Swaps.{crossed}
+use Rattle.definitions.specs.Functions.{Point, bit}
+use Rattle.definitions.proofs.Lists.Swaps.{crossed}
 use Rattle.sifting.specs.Leveled.{Children, child, at, place_below, places, HasChildren, IsLevel, AreLevels, Exchanges}
 use Rattle.sifting.proofs.Paths.{child_has, same_children}
 

@@ -10,15 +10,15 @@ use Rattle.std.proofs.lemmas.Nat.{pow_pos}
 use Rattle.std.proofs.lemmas.List.{length-map, length-set}
 use Rattle.std.proofs.lemmas.List.FromFn.{get_or-map-range_with_len}
 use Rattle.std.proofs.lemmas.List.Sums.{sum_by-cons}
-use Rattle.order_model.specs.Functions.{Function, SameFunction, table, from_table}
-use Rattle.order_model.specs.Orders.{IsOrder}
-use Rattle.order_model.specs.Pairs.{has_pair}
-use Rattle.order_model.specs.KeptPairs.{KeptPairs}
-use Rattle.order_model.specs.Problems.{functions}
-use Rattle.order_model.specs.Levels.{level_count, level_counts, size_under}
-use Rattle.order_model.proofs.Functions.Tables.{table_same, same_refl}
-use Rattle.order_model.proofs.Functions.Same.{tables_same, level_counts_same}
-use Rattle.order_model.proofs.Lists.Swaps.{crossed, crossed_is, order_crossed, length_crossed}
+use Rattle.definitions.specs.Functions.{Function, SameFunction, table, from_table}
+use Rattle.definitions.specs.Orders.{IsOrder}
+use Rattle.definitions.specs.Pairs.{has_pair}
+use Rattle.definitions.specs.KeptPairs.{KeptPairs}
+use Rattle.definitions.specs.Problems.{functions}
+use Rattle.definitions.specs.Levels.{level_count, level_counts, size_under}
+use Rattle.definitions.proofs.Functions.Tables.{table_same, same_refl}
+use Rattle.definitions.proofs.Functions.Same.{tables_same, level_counts_same}
+use Rattle.definitions.proofs.Lists.Swaps.{crossed, crossed_is, order_crossed, length_crossed}
 use Rattle.sifting.specs.declared.levels.Level.{Level}
 use Rattle.sifting.specs.Leveled.{Children, function_at, places, branching, HasChildren, AreLevels, AreRoots, Exchanges}
 use Rattle.sifting.specs.LevelLists.{nodes_of, problem_at, HoldsDiagram}

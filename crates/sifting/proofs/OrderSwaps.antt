@@ -3,9 +3,9 @@
 use Rattle.std.proofs.Common.{◌≡◌, ℕ, zero, suc, ◌<◌, Bool, true, false, cond, ◌&&◌, List, [], ◌∷◌, length, get_or, refl, sym, ◌∙◌, arith, nat_eq, eqb-true, eq-eqb}
 use Rattle.std.specs.List.{list_all}
 use Rattle.std.proofs.lemmas.Bool.{true≢false, or_right, or_parts, and_parts, and_from, false_from_ne_true}
-use Rattle.order_model.proofs.Lists.Swaps.{crossed, has_crossed}
-use Rattle.order_model.specs.Orders.{has}
-use Rattle.order_model.specs.Pairs.{Pair, has_pair, is_above, keeps, Keeps}
+use Rattle.definitions.proofs.Lists.Swaps.{crossed, has_crossed}
+use Rattle.definitions.specs.Orders.{has}
+use Rattle.definitions.specs.Pairs.{Pair, has_pair, is_above, keeps, Keeps}
 
 -- a pair that is kept, and isn't the two, is kept still
 above_crossed : (a b : ℕ) (order : List ℕ) (i : ℕ) → suc i < length order → ((a ≡ get_or order i 0) → (b ≡ get_or order (suc i) 0) → ⊥) →

@@ -7,11 +7,11 @@ use Rattle.std.proofs.Common.{◌≡◌, ◌≢◌, ℕ, ◌*◌, ◌<◌, Bool,
 use Rattle.std.specs.List.{IsDistinct}
 use Rattle.std.proofs.lemmas.Bool.{or_parts, true≢false}
 use Rattle.std.proofs.lemmas.List.{length-replicate, get_or-set_same, get_or-set_other}
-use Rattle.order_model.specs.Functions.{Point, bit, restrict, SameFunction}
-use Rattle.order_model.specs.Orders.{has}
-use Rattle.order_model.proofs.Functions.Tables.{restrict_same, same_sym, same_trans}
-use Rattle.order_model.proofs.Lists.Orders.{absent_from_apart}
-use Rattle.order_model.proofs.Functions.Exchange.{Below}
+use Rattle.definitions.specs.Functions.{Point, bit, restrict, SameFunction}
+use Rattle.definitions.specs.Orders.{has}
+use Rattle.definitions.proofs.Functions.Tables.{restrict_same, same_sym, same_trans}
+use Rattle.definitions.proofs.Lists.Orders.{absent_from_apart}
+use Rattle.definitions.proofs.Functions.Exchange.{Below}
 use Rattle.sifting.specs.Leveled.{Children, child, at, place_below, function_at, places, AreLevels, AreTerminals}
 
 -- the child by a value

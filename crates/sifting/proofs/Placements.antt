@@ -5,10 +5,10 @@
 use Rattle.std.proofs.Common.{◌≡◌, ◌≢◌, ℕ, zero, suc, ◌<◌, ◌≤◌, Bool, true, false, cond, ◌||◌, ◌&&◌, inl, inr, List, [], ◌∷◌, length, get_or, refl, sym, ap, ap₂, ◌∙◌, arith, nat_eq, eqb-true, eq-eqb, ne_eqb}
 use Rattle.std.specs.List.{insert, IsDistinct, list_all}
 use Rattle.std.proofs.lemmas.Bool.{false≢true, true≢false, or_cases, or_parts, and_parts}
-use Rattle.order_model.specs.Orders.{has}
-use Rattle.order_model.specs.Pairs.{Pair, has_pair, is_above, keeps}
-use Rattle.order_model.proofs.Lists.Orders.{absent_from_apart, has_at}
-use Rattle.order_model.proofs.Lists.Swaps.{crossed}
+use Rattle.definitions.specs.Orders.{has}
+use Rattle.definitions.specs.Pairs.{Pair, has_pair, is_above, keeps}
+use Rattle.definitions.proofs.Lists.Orders.{absent_from_apart, has_at}
+use Rattle.definitions.proofs.Lists.Swaps.{crossed}
 
 crossed_cons : (x : ℕ) (zs : List ℕ) (i : ℕ) → crossed (x ∷ zs) (suc i) ≡ x ∷ crossed zs i
 crossed_cons x [] i = refl

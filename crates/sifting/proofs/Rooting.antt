@@ -2,12 +2,12 @@
 use Rattle.std.proofs.Common.{◌≡◌, ℕ, ◌+◌, ◌<◌, if◌then◌else◌, inl, inr, List, [], ◌∷◌, ◌++◌, length, get_or, refl, sym, ap, ◌∙◌, subst, arith, nat_eq}
 use Rattle.std.proofs.lemmas.List.{length_push, get_or_append_left, get_or_at}
 use Rattle.std.specs.List.{list_any, position_or_len}
-use Rattle.order_model.specs.declared.diagrams.Ref.{Ref}
+use Rattle.definitions.specs.declared.nodes.Ref.{Ref}
 use Rattle.sifting.specs.Cuts.{code_of, ref_at, RootsFirst}
 use Rattle.sifting.specs.NodeTables.{Inserted}
 use Rattle.sifting.proofs.Inserted.{inserted}
 use Rattle.sifting.proofs.Making.{below_next}
-use Rattle.order_model.proofs.Lists.Sets.{nat_decides}
+use Rattle.definitions.proofs.Lists.Sets.{nat_decides}
 
 roots_more : (done : ℕ) (roots : List Ref) (numbers keys keys1 : List ℕ) (p i : ℕ) → RootsFirst done roots numbers keys →
     Inserted 0 keys keys1 p i → p ≡ code_of (ref_at roots done) →

@@ -2,11 +2,11 @@
 use Rattle.std.proofs.Common.{◌≡◌, ℕ, ◌<◌, ◌≤◌, List, length, take, get_or, slice_index, sym, ap, ap₂, ◌∙◌, subst, arith}
 use Rattle.std.specs.List.{fold}
 use Rattle.std.proofs.lemmas.List.{take_all}
-use Rattle.order_model.specs.Orders.{IsOrder, place_in}
-use Rattle.order_model.specs.Problems.{functions}
-use Rattle.order_model.specs.Levels.{size_under}
-use Rattle.order_model.specs.Sifting.{best, sifting_order, sifted}
-use Rattle.order_model.proofs.Sifting.Placements.{sifted_lem, own_place}
+use Rattle.definitions.specs.Orders.{IsOrder, place_in}
+use Rattle.definitions.specs.Problems.{functions}
+use Rattle.definitions.specs.Levels.{size_under}
+use Rattle.definitions.specs.Sifting.{best, sifting_order, sifted}
+use Rattle.definitions.proofs.Sifting.Placements.{sifted_lem, own_place}
 use Rattle.sifting.specs.Managed.{Managed, IsManagedOrder, size_of, count_of}
 use Rattle.sifting.specs.Moves.{by_falling_count}
 use Rattle.sifting.proofs.Falling.{falling_is, falling_below}

@@ -3,11 +3,11 @@
 --     problem_at levels terminals order roots      the truth tables of the roots
 --     HoldsDiagram      levels, roots and terminals under an order that keeps some pairs
 use Rattle.std.specs.Prelude.{◌≡◌, ℕ, ◌≤◌, Bool, List, length, map}
-use Rattle.order_model.specs.Functions.{table}
-use Rattle.order_model.specs.Orders.{IsOrder}
-use Rattle.order_model.specs.Pairs.{Keeps}
-use Rattle.order_model.specs.Problems.{TruthTables}
-use Rattle.order_model.specs.KeptPairs.{KeptPairs}
+use Rattle.definitions.specs.Functions.{table}
+use Rattle.definitions.specs.Orders.{IsOrder}
+use Rattle.definitions.specs.Pairs.{Keeps}
+use Rattle.definitions.specs.Problems.{TruthTables}
+use Rattle.definitions.specs.KeptPairs.{KeptPairs}
 use Rattle.sifting.specs.declared.levels.Level.{Level}
 use Rattle.sifting.specs.Leveled.{Children, function_at, places, AreLevels, AreRoots, AreTerminals}
 

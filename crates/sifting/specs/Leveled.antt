@@ -7,7 +7,7 @@
 --     Exchanges      two neighbouring levels, and the same with their variables exchanged
 use Rattle.std.specs.Prelude.{◌≡◌, ℕ, ◌*◌, ◌<◌, ◌≤◌, Bool, true, false, not, if◌then◌else◌, ◌⊎◌, List, [], ◌∷◌, length, slice_index, get_or, nat_eq}
 use Rattle.std.specs.List.{count_by}
-use Rattle.order_model.specs.Functions.{Point, Function, bit}
+use Rattle.definitions.specs.Functions.{Point, Function, bit}
 
 -- the places of a node's low and high child
 abbrev pub Children : Type 0

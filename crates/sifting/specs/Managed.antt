@@ -5,13 +5,13 @@
 --     SiftedOrder, IsSiftedOrder      an order with its size and level counts, and that they are true
 --     IsNoLarger from to      another order of the same functions and pairs, of no more nodes
 use Rattle.std.specs.Prelude.{◌≡◌, ℕ, ◌<◌, ◌≤◌, List, length, map, slice_index}
-use Rattle.order_model.specs.Functions.{table}
-use Rattle.order_model.specs.Levels.{level_count, size_under}
-use Rattle.order_model.specs.Orders.{IsOrder}
-use Rattle.order_model.specs.Pairs.{Pair, Keeps}
-use Rattle.order_model.specs.Problems.{TruthTables, functions}
-use Rattle.order_model.specs.Diagrams.{value}
-use Rattle.order_model.specs.OrderedGraphs.{OrderedGraph}
+use Rattle.definitions.specs.Functions.{table}
+use Rattle.definitions.specs.Levels.{level_count, size_under}
+use Rattle.definitions.specs.Orders.{IsOrder}
+use Rattle.definitions.specs.Pairs.{Pair, Keeps}
+use Rattle.definitions.specs.Problems.{TruthTables, functions}
+use Rattle.definitions.specs.Diagrams.{value}
+use Rattle.definitions.specs.OrderedGraphs.{OrderedGraph}
 
 -- an order, the truth tables of the functions, and the pairs that the order keeps
 pub record Managed : Type 0 where

@@ -7,11 +7,11 @@
 --     WalksUp, WalksDown      what moving a variable as far as the pairs let it finds
 use Rattle.std.specs.Prelude.{◌≡◌, ℕ, ◌+◌, ◌-◌, ◌<◌, ◌≤◌, ◌⊎◌, List, length, map, slice_index, IsTrue, IsFalse, Bool, [], nat_lt}
 use Rattle.std.specs.List.{insert, fold, range_with_len}
-use Rattle.order_model.specs.Pairs.{Pair, Keeps, has_pair}
-use Rattle.order_model.specs.Problems.{functions}
-use Rattle.order_model.specs.Sifting.{insert_by_count}
-use Rattle.order_model.specs.Levels.{size_under}
-use Rattle.order_model.specs.Orders.{variables}
+use Rattle.definitions.specs.Pairs.{Pair, Keeps, has_pair}
+use Rattle.definitions.specs.Problems.{functions}
+use Rattle.definitions.specs.Sifting.{insert_by_count}
+use Rattle.definitions.specs.Levels.{size_under}
+use Rattle.definitions.specs.Orders.{variables}
 use Rattle.sifting.specs.Managed.{Managed}
 use Rattle.sifting.specs.declared.sift.Walk.{Walk}
 

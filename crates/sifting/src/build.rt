@@ -2,9 +2,9 @@
 
 ghost use Rattle.std.specs.Prelude.{◌≡◌, ◌+◌, ◌*◌, ◌<◌, ◌≤◌, ◌^◌, [], length, map, IfOk, OnOk};
 ghost use Rattle.std.specs.List.{All};
-ghost use Rattle.order_model.specs.Orders.{IsOrder};
-ghost use Rattle.order_model.specs.Diagrams.{AreNodes, IsBefore, IsOrdered, IsReduced};
-ghost use Rattle.order_model.specs.OrderedGraphs.{IsDiagramUnder};
+ghost use Rattle.definitions.specs.Orders.{IsOrder};
+ghost use Rattle.definitions.specs.Diagrams.{AreNodes, IsBefore, IsOrdered, IsReduced};
+ghost use Rattle.definitions.specs.OrderedGraphs.{IsDiagramUnder};
 ghost use Rattle.sifting.specs.LevelLists.{nodes_of};
 ghost use Rattle.sifting.specs.Cuts.{code_of, ref_of, split_ref, is_true, RootsFirst, Splits, SplitsFirst, Numbers, IsBuilt};
 

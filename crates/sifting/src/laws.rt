@@ -1,10 +1,10 @@
 //! Whose truth tables a diagram has. Each law is the contract of a function.
 
 ghost use Rattle.std.specs.Prelude.{◌≡◌, ℕ, ◌<◌, ◌≤◌, ◌^◌, List, length, map};
-ghost use Rattle.order_model.specs.Functions.{Function, table};
-ghost use Rattle.order_model.specs.Problems.{functions, outputs_of, table_at};
-ghost use Rattle.order_model.specs.Diagrams.{Represents};
-ghost use Rattle.order_model.specs.OrderedGraphs.{OrderedGraph};
+ghost use Rattle.definitions.specs.Functions.{Function, table};
+ghost use Rattle.definitions.specs.Problems.{functions, outputs_of, table_at};
+ghost use Rattle.definitions.specs.Diagrams.{Represents};
+ghost use Rattle.definitions.specs.OrderedGraphs.{OrderedGraph};
 ghost use Rattle.sifting.specs.Managed.{truth_tables_of};
 
 use order_model::Problem;

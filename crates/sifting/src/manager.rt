@@ -1,8 +1,8 @@
 //! A diagram by levels, whose variables can be exchanged.
 
 ghost use Rattle.std.specs.Prelude.{◌≡◌, ◌+◌, ◌<◌, ◌≤◌, ℕ, [], not, length, slice_index, swap, IfOk, IsFalse};
-ghost use Rattle.order_model.specs.Diagrams.{IsReduced, IsOrdered};
-ghost use Rattle.order_model.specs.Pairs.{Keeps, has_pair};
+ghost use Rattle.definitions.specs.Diagrams.{IsReduced, IsOrdered};
+ghost use Rattle.definitions.specs.Pairs.{Keeps, has_pair};
 ghost use Rattle.sifting.specs.LevelLists.{nodes_of};
 ghost use Rattle.sifting.specs.Managed.{truth_tables_of, size_of, count_of, IsManagedOrder};
 

@@ -2,8 +2,8 @@
 //! one moves it down.
 
 ghost use Rattle.std.specs.Prelude.{◌≡◌, ◌<◌, ◌≤◌, length, IfOk};
-ghost use Rattle.order_model.specs.Problems.{functions};
-ghost use Rattle.order_model.specs.Sifting.{best as best_order, sifted};
+ghost use Rattle.definitions.specs.Problems.{functions};
+ghost use Rattle.definitions.specs.Sifting.{best as best_order, sifted};
 ghost use Rattle.sifting.specs.Managed.{size_of};
 ghost use Rattle.sifting.specs.Moves.{IsMoved, PassesBelow, WalksUp, WalksDown};
 

@@ -6,14 +6,14 @@
 use Rattle.std.proofs.Common.{◌≡◌, ℕ, ◌+◌, ◌-◌, ◌^◌, ◌<◌, ◌≤◌, Bool, if◌then◌else◌, nat_eq, inl, inr, true, false, eq-eqb, ne_eqb, List, [], length, get_or, set, slice_index, sym, ap, ◌∙◌, arith}
 use Rattle.std.proofs.lemmas.Bool.{cases_eq, false≢true}
 use Rattle.std.proofs.lemmas.List.{length-set}
-use Rattle.order_model.specs.Orders.{has, members, without}
-use Rattle.order_model.specs.Problems.{functions}
-use Rattle.order_model.specs.Widths.{width}
-use Rattle.order_model.specs.Cells.{AreForCell, asked, candidates, cell_cost}
-use Rattle.order_model.specs.declared.bounds_above.BoundAbove.{BoundAbove}
-use Rattle.order_model.specs.declared.bounds_above.BoundAbove.TheVariants.{Variables, Widths}
-use Rattle.order_model.proofs.Widths.Cells.{candidate_parts}
-use Rattle.order_model.proofs.Bits.Masks.{members_small}
+use Rattle.definitions.specs.Orders.{has, members, without}
+use Rattle.definitions.specs.Problems.{functions}
+use Rattle.definitions.specs.Widths.{width}
+use Rattle.definitions.specs.Cells.{AreForCell, asked, candidates, cell_cost}
+use Rattle.definitions.specs.declared.limits.BoundAbove.{BoundAbove}
+use Rattle.definitions.specs.declared.limits.BoundAbove.TheVariants.{Variables, Widths}
+use Rattle.definitions.proofs.Widths.Cells.{candidate_parts}
+use Rattle.definitions.proofs.Bits.Masks.{members_small}
 use Rattle.subset_layers.specs.declared.costs.Cell.{Cell}
 use Rattle.subset_layers.proofs.Rows.{row_passed, row_written}
 use Rattle.layer_core.specs.Instances.{Instance, cell_for}

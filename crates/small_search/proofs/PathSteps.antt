@@ -9,9 +9,9 @@ use Rattle.std.proofs.lemmas.Bool.{cases_lt}
 use Rattle.std.proofs.lemmas.List.{length-set}
 use Rattle.std.proofs.lemmas.Nat.Bits.{bit_at_above}
 use Rattle.std.proofs.Math.Nat.{div-one, zero-div}
-use Rattle.order_model.specs.Orders.{has}
-use Rattle.order_model.specs.Problems.{TruthTables}
-use Rattle.order_model.specs.Widths.{same_pair}
+use Rattle.definitions.specs.Orders.{has}
+use Rattle.definitions.specs.Problems.{TruthTables}
+use Rattle.definitions.specs.Widths.{same_pair}
 use Rattle.std.specs.Set.{distinct_count}
 use Rattle.subfunction_classes.specs.Numbering.{ranks}
 use Rattle.subfunction_classes.specs.Dependence.{joined_mask}

@@ -1,7 +1,7 @@
 -- The class tables on the way to a set.
 --     HoldPath p set tables      for each set that has the variables of `set` from some bound on, the table of its size is its class table
 use Rattle.std.specs.Prelude.{◌≡◌, ℕ, ◌+◌, ◌*◌, ◌/◌, ◌^◌, List, count_ones, length, slice_index_or}
-use Rattle.order_model.specs.Problems.{TruthTables}
+use Rattle.definitions.specs.Problems.{TruthTables}
 use Rattle.subfunction_classes.specs.Table.{HoldsClasses, classes_of}
 use Rattle.pair_chains.specs.declared.numbering.Numbered.{Numbered}
 

@@ -1,8 +1,8 @@
 //! The cell of a set from those of smaller sets.
 
 ghost use Rattle.std.specs.Prelude.{◌≡◌, ◌+◌, ◌^◌, ◌<◌, ◌≤◌, length};
-ghost use Rattle.order_model.specs.Orders.{members};
-ghost use Rattle.order_model.specs.Problems.{functions};
+ghost use Rattle.definitions.specs.Orders.{members};
+ghost use Rattle.definitions.specs.Problems.{functions};
 ghost use Rattle.subfunction_classes.specs.Dependence.{AreMasks};
 ghost use Rattle.layer_core.specs.Pairing.{pair_of};
 ghost use Rattle.layer_core.specs.Instances.{cell_for};

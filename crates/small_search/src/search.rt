@@ -1,8 +1,8 @@
 //! The optimum of a small problem.
 
 ghost use Rattle.std.specs.Prelude.{◌≡◌, ◌*◌, ◌+◌, ◌-◌, ◌^◌, ◌<◌, ◌≤◌, ◌↔◌, IfOk, IsTrue, OnOk};
-ghost use Rattle.order_model.specs.Problems.{outputs_of};
-ghost use Rattle.order_model.specs.declared.bounds_above.BoundAbove.TheVariants.{Variables};
+ghost use Rattle.definitions.specs.Problems.{outputs_of};
+ghost use Rattle.definitions.specs.declared.limits.BoundAbove.TheVariants.{Variables};
 ghost use Rattle.layer_core.specs.Pairing.{pair_of};
 ghost use Rattle.layer_core.specs.Instances.{cell_for};
 ghost use Rattle.small_search.specs.FirstCells.{AreFirstCells};

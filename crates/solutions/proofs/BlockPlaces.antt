@@ -7,9 +7,9 @@ use Rattle.std.proofs.Common.{◌≡◌, ℕ, ◌<◌, true, get_or, length, sli
 use Rattle.std.specs.List.{list_any, IsDistinct, range_with_len}
 use Rattle.std.proofs.lemmas.Bool.{and_from, and_parts}
 use Rattle.std.proofs.lemmas.Option.{slice_get_within, get_or_from_slice_get, same_Some}
-use Rattle.order_model.specs.Orders.{has, place_in}
-use Rattle.order_model.proofs.Lists.Orders.{has_at, has_filter, place_get, place_at, place_small}
-use Rattle.order_model.proofs.Widths.Recurrence.{distinct_filter, distinct_variables}
+use Rattle.definitions.specs.Orders.{has, place_in}
+use Rattle.definitions.proofs.Lists.Orders.{has_at, has_filter, place_get, place_at, place_small}
+use Rattle.definitions.proofs.Widths.Recurrence.{distinct_filter, distinct_variables}
 use Rattle.subset_layers.specs.Layers.{LayerOf, BlockOf, layer_of, block_of, masks_of, block_masks, blocks_of, low_bytes, low_byte, block_place}
 use Rattle.subset_layers.proofs.BlockLists.{has_slice_get, low_bytes_has, blocks_length, block_at as block_there, slice_get_at}
 use Rattle.subset_layers.proofs.CostLists.{distinct_masks}

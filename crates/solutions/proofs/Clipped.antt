@@ -1,19 +1,19 @@
 -- What is read off the cells of all sets, for a bound that some order stays within.
 --     read_first, read_unclipped      reading from all variables gives the first order of the fewest nodes, and meets no clipped cell
 use Rattle.std.proofs.Common.{◌≡◌, ℕ, ◌-◌, ◌^◌, ◌≤◌, true, List, sym, ◌∙◌, arith}
-use Rattle.order_model.specs.Functions.{Function}
-use Rattle.order_model.specs.Orders.{IsOrder, variables, members}
-use Rattle.order_model.specs.Pairs.{Pair, Keeps}
-use Rattle.order_model.specs.Levels.{size_under}
-use Rattle.order_model.specs.Widths.{least}
-use Rattle.order_model.specs.declared.bounds_above.BoundAbove.{BoundAbove}
-use Rattle.order_model.specs.Cells.{is_within, IsReadFrom, AreUnclipped}
-use Rattle.order_model.specs.Diagrams.{IsFirstKeeping}
-use Rattle.order_model.proofs.Bits.Masks.{members_full}
-use Rattle.order_model.proofs.Widths.Recurrence.{least_same}
-use Rattle.order_model.proofs.Widths.Fewest.{ground, all_lawful, lawful_from_order, order_from_lawful, has_fewest_lem}
-use Rattle.order_model.proofs.Widths.Cells.{within_parts, within_from, lawful_members}
-use Rattle.order_model.proofs.Widths.Clipped.{FirstRead, first_read, full_within, moved, unclipped}
+use Rattle.definitions.specs.Functions.{Function}
+use Rattle.definitions.specs.Orders.{IsOrder, variables, members}
+use Rattle.definitions.specs.Pairs.{Pair, Keeps}
+use Rattle.definitions.specs.Levels.{size_under}
+use Rattle.definitions.specs.Widths.{least}
+use Rattle.definitions.specs.declared.limits.BoundAbove.{BoundAbove}
+use Rattle.definitions.specs.Cells.{is_within, IsReadFrom, AreUnclipped}
+use Rattle.definitions.specs.Diagrams.{IsFirstKeeping}
+use Rattle.definitions.proofs.Bits.Masks.{members_full}
+use Rattle.definitions.proofs.Widths.Recurrence.{least_same}
+use Rattle.definitions.proofs.Widths.Fewest.{ground, all_lawful, lawful_from_order, order_from_lawful, has_fewest_lem}
+use Rattle.definitions.proofs.Widths.Cells.{within_parts, within_from, lawful_members}
+use Rattle.definitions.proofs.Widths.Clipped.{FirstRead, first_read, full_within, moved, unclipped}
 
 -- a set within a bound is within a larger one
 within_more : (n : ℕ) (F : List Function) (P : List Pair) (r : BoundAbove) (bound more : ℕ) (S : List ℕ) → bound ≤ more →

@@ -1,8 +1,8 @@
 -- Pairs that a search keeps besides those that are asked for.
 --     optimum_harmless      what is best among orders that keep more pairs is so among those that keep what is asked for
 use Rattle.std.proofs.Common.{List}
-use Rattle.order_model.specs.Pairs.{Pair}
-use Rattle.order_model.specs.Problems.{TruthTables, functions}
+use Rattle.definitions.specs.Pairs.{Pair}
+use Rattle.definitions.specs.Problems.{TruthTables, functions}
 use Rattle.symmetries.specs.SymmetricPairs.{IsHarmless}
 use Rattle.symmetries.proofs.FirstSorted.{fewest_harmless, first_harmless}
 use Rattle.solutions.specs.Solutions.{IsOptimumFor}

@@ -7,23 +7,23 @@ use Rattle.std.proofs.lemmas.Bool.{cases_eq, cases_lt}
 use Rattle.std.proofs.lemmas.List.FromFn.{length-range_with_len}
 use Rattle.std.proofs.lemmas.List.{get_or_append_left, get_or_push}
 use Rattle.std.proofs.lemmas.Option.{slice_get_within, slice_get-get_or, get_or_from_slice_get}
-use Rattle.order_model.specs.Functions.{Function}
+use Rattle.definitions.specs.Functions.{Function}
 use Rattle.std.specs.Int.{bit_at}
 use Rattle.std.proofs.lemmas.Nat.{zero_from_ones}
-use Rattle.order_model.specs.Orders.{has, members, variables}
-use Rattle.order_model.specs.Cells.{cell_of}
-use Rattle.order_model.specs.declared.bounds_above.BoundAbove.{BoundAbove}
+use Rattle.definitions.specs.Orders.{has, members, variables}
+use Rattle.definitions.specs.Cells.{cell_of}
+use Rattle.definitions.specs.declared.limits.BoundAbove.{BoundAbove}
 use Rattle.subset_layers.specs.declared.costs.Cell.{Cell}
 use Rattle.layer_core.specs.Pairing.{pair_of}
-use Rattle.order_model.specs.Pairs.{Pair}
-use Rattle.order_model.specs.Problems.{functions}
+use Rattle.definitions.specs.Pairs.{Pair}
+use Rattle.definitions.specs.Problems.{functions}
 use Rattle.subset_layers.specs.Layers.{layer_with, masks_of}
 use Rattle.subset_layers.specs.Costs.{CostsOf, layer_of_costs, as_pair, AreTrueCells}
 use Rattle.subset_layers.proofs.BlockLists.{masks_has}
-use Rattle.order_model.proofs.Bits.Ones.{ones-members}
+use Rattle.definitions.proofs.Bits.Ones.{ones-members}
 use Rattle.layer_core.specs.Instances.{Instance, cell_for}
 use Rattle.solutions.specs.LayerCosts.{IsLayerFor, AreLayersFor}
-use Rattle.order_model.proofs.Lists.Ranges.{filter_at_most}
+use Rattle.definitions.proofs.Lists.Ranges.{filter_at_most}
 
 -- ---- layers
 

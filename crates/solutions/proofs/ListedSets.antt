@@ -6,22 +6,22 @@ use Rattle.std.specs.List.{filter, sum, range_with_len}
 use Rattle.std.proofs.lemmas.Bool.{lt-ltb, le-ltb}
 use Rattle.std.proofs.lemmas.List.{map-append, append-nil}
 use Rattle.std.proofs.lemmas.List.FromFn.{sum_by-map-range_with_len_more}
-use Rattle.order_model.specs.Functions.{Function}
-use Rattle.order_model.specs.Orders.{members}
-use Rattle.order_model.specs.Pairs.{Pair}
-use Rattle.order_model.specs.Problems.{functions}
-use Rattle.order_model.specs.Widths.{essentials_outside}
-use Rattle.order_model.specs.declared.bounds_above.BoundAbove.{BoundAbove}
-use Rattle.order_model.specs.declared.bounds_above.BoundAbove.TheVariants.{Variables}
-use Rattle.order_model.specs.Cells.{cell_cost, widths_taken}
-use Rattle.order_model.specs.Certificates.{Cell, least_listed, listed_masks}
-use Rattle.order_model.proofs.Widths.Cells.{cost_known}
-use Rattle.order_model.proofs.Certificates.Listed.{listed_by_cells}
+use Rattle.definitions.specs.Functions.{Function}
+use Rattle.definitions.specs.Orders.{members}
+use Rattle.definitions.specs.Pairs.{Pair}
+use Rattle.definitions.specs.Problems.{functions}
+use Rattle.definitions.specs.Widths.{essentials_outside}
+use Rattle.definitions.specs.declared.limits.BoundAbove.{BoundAbove}
+use Rattle.definitions.specs.declared.limits.BoundAbove.TheVariants.{Variables}
+use Rattle.definitions.specs.Cells.{cell_cost, widths_taken}
+use Rattle.definitions.specs.Certificates.{Cell, least_listed, listed_masks}
+use Rattle.definitions.proofs.Widths.Cells.{cost_known}
+use Rattle.definitions.proofs.Certificates.Listed.{listed_by_cells}
 use Rattle.subset_layers.proofs.Choosing.{filter_range_more}
 use Rattle.layer_core.specs.Instances.{Instance}
-use Rattle.order_model.specs.declared.listed_cells.ListedCell.{ListedCell}
+use Rattle.definitions.specs.declared.listed_cells.ListedCell.{ListedCell}
 use Rattle.solutions.specs.Needs.{needed, width_count}
-use Rattle.order_model.specs.Listed.{listed}
+use Rattle.definitions.specs.Listed.{listed}
 use Rattle.solutions.proofs.Wanted.{needed_ones, wanted_none, few_each}
 
 module _ (t : Instance) where

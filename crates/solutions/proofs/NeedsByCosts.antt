@@ -1,12 +1,12 @@
 -- The members of a set whose widths its cell takes, by the costs of the layer before.
 --     wanted_by_costs, needed_by_costs      those of a lawful set, and their mask
 use Rattle.std.proofs.Common.{◌≡◌, ℕ, ◌+◌, ◌-◌, ◌^◌, true, List, unwrap_or, sym, ap, ◌∙◌, subst}
-use Rattle.order_model.specs.Functions.{Function}
-use Rattle.order_model.specs.Orders.{has, members, mask_of}
-use Rattle.order_model.specs.Pairs.{Pair, is_lawful}
-use Rattle.order_model.specs.Problems.{functions}
-use Rattle.order_model.specs.declared.bounds_above.BoundAbove.{BoundAbove}
-use Rattle.order_model.specs.Cells.{asked, wanted}
+use Rattle.definitions.specs.Functions.{Function}
+use Rattle.definitions.specs.Orders.{has, members, mask_of}
+use Rattle.definitions.specs.Pairs.{Pair, is_lawful}
+use Rattle.definitions.specs.Problems.{functions}
+use Rattle.definitions.specs.declared.limits.BoundAbove.{BoundAbove}
+use Rattle.definitions.specs.Cells.{asked, wanted}
 use Rattle.subset_layers.specs.Layers.{masks_of, layer_with}
 use Rattle.subset_layers.specs.Costs.{CostsOf, cost_without, AreTrueCosts}
 use Rattle.subset_layers.proofs.CostLists.{less_one}

@@ -9,13 +9,13 @@ use Rattle.std.proofs.lemmas.Bool.{false≢true, cases_eq}
 use Rattle.std.proofs.lemmas.List.{get_or-map}
 use Rattle.std.proofs.lemmas.List.Sums.{sum-map}
 use Rattle.std.proofs.lemmas.Option.{slice_get_within, get_or_from_slice_get}
-use Rattle.order_model.specs.Orders.{has}
-use Rattle.order_model.proofs.Lists.Orders.{has_at}
-use Rattle.order_model.specs.declared.bounds_above.BoundAbove.{BoundAbove}
+use Rattle.definitions.specs.Orders.{has}
+use Rattle.definitions.proofs.Lists.Orders.{has_at}
+use Rattle.definitions.specs.declared.limits.BoundAbove.{BoundAbove}
 use Rattle.subset_layers.specs.declared.costs.Cell.{Cell}
-use Rattle.order_model.specs.Functions.{Function}
-use Rattle.order_model.specs.Pairs.{Pair}
-use Rattle.order_model.specs.Problems.{functions}
+use Rattle.definitions.specs.Functions.{Function}
+use Rattle.definitions.specs.Pairs.{Pair}
+use Rattle.definitions.specs.Problems.{functions}
 use Rattle.subset_layers.specs.Costs.{CostsOf, costs_with, AreTrueCells, AreTrueCosts}
 use Rattle.subset_layers.specs.Layers.{LayerOf, layer_with, BlockOf, masks_of, block_masks, blocks_of, block_place}
 use Rattle.layer_core.specs.Instances.{Instance, cell_for}
@@ -28,7 +28,7 @@ use Rattle.solutions.proofs.Filters.{sum_few}
 use Rattle.solutions.proofs.Wanted.{few_each}
 use Rattle.solutions.specs.Placed.{IsPlaced}
 use Rattle.solutions.proofs.BlockPlaces.{only_place, block_done}
-use Rattle.order_model.proofs.Lists.Accepted.{index_of}
+use Rattle.definitions.proofs.Lists.Accepted.{index_of}
 
 pub found_cell : (t : Instance) (masks : List ℕ) (cells : List Cell) (i mask : ℕ) → map pair_of cells ≡ map (cell_for t) masks →
     slice_get masks i ≡ Some mask → pair_of (get_or cells i no_cell) ≡ cell_for t mask

@@ -14,28 +14,28 @@ use Rattle.std.proofs.lemmas.Map.Made.{length-from_same_keys}
 use Rattle.std.proofs.lemmas.Nat.{zero_from_ones}
 use Rattle.std.proofs.lemmas.List.{append_assoc, append-nil}
 use Rattle.std.proofs.lemmas.List.FromFn.{length-range_with_len, map-range_with_len_more}
-use Rattle.order_model.specs.Functions.{Function}
-use Rattle.order_model.specs.Orders.{IsOrder, has, members, variables, without}
-use Rattle.order_model.specs.Pairs.{Pair}
-use Rattle.order_model.specs.Problems.{functions}
-use Rattle.order_model.specs.Levels.{level_count, level_counts}
-use Rattle.order_model.specs.Widths.{width, cost}
-use Rattle.order_model.specs.declared.bounds_above.BoundAbove.{BoundAbove}
-use Rattle.order_model.specs.Cells.{cell_of, cell_cost, IsReadFrom, AreUnclipped}
-use Rattle.order_model.specs.OrderFaults.{Accepts}
-use Rattle.order_model.specs.Diagrams.{IsFirstKeeping}
-use Rattle.order_model.proofs.Lists.Orders.{has_at}
-use Rattle.order_model.proofs.Widths.Recurrence.{distinct_variables, distinct_without, length_without}
-use Rattle.order_model.proofs.Bits.Masks.{distinct_members, members_without, members_full}
-use Rattle.order_model.proofs.Widths.Cells.{members_zero, cell_member}
-use Rattle.order_model.proofs.Precedence.MaskLaws.{member_bit}
-use Rattle.order_model.proofs.Precedence.Greedy.{pow_le_bit}
-use Rattle.order_model.proofs.Functions.Exchange.{above_width, level_lem}
-use Rattle.order_model.proofs.Bits.Ones.{ones-members}
+use Rattle.definitions.specs.Functions.{Function}
+use Rattle.definitions.specs.Orders.{IsOrder, has, members, variables, without}
+use Rattle.definitions.specs.Pairs.{Pair}
+use Rattle.definitions.specs.Problems.{functions}
+use Rattle.definitions.specs.Levels.{level_count, level_counts}
+use Rattle.definitions.specs.Widths.{width, cost}
+use Rattle.definitions.specs.declared.limits.BoundAbove.{BoundAbove}
+use Rattle.definitions.specs.Cells.{cell_of, cell_cost, IsReadFrom, AreUnclipped}
+use Rattle.definitions.specs.OrderFaults.{Accepts}
+use Rattle.definitions.specs.Diagrams.{IsFirstKeeping}
+use Rattle.definitions.proofs.Lists.Orders.{has_at}
+use Rattle.definitions.proofs.Widths.Recurrence.{distinct_variables, distinct_without, length_without}
+use Rattle.definitions.proofs.Bits.Masks.{distinct_members, members_without, members_full}
+use Rattle.definitions.proofs.Widths.Cells.{members_zero, cell_member}
+use Rattle.definitions.proofs.Precedence.MaskLaws.{member_bit}
+use Rattle.definitions.proofs.Precedence.Greedy.{pow_le_bit}
+use Rattle.definitions.proofs.Functions.Exchange.{above_width, level_lem}
+use Rattle.definitions.proofs.Bits.Ones.{ones-members}
 use Rattle.layer_core.specs.Instances.{Instance, cell_for}
 use Rattle.solutions.specs.Bounded.{IsBounded}
 use Rattle.solutions.proofs.Clipped.{read_first, read_unclipped}
-use Rattle.order_model.proofs.Widths.SizeBounds.{order_length}
+use Rattle.definitions.proofs.Widths.SizeBounds.{order_length}
 
 pub full_small : (n : ℕ) → 2 ^ n - 1 < 2 ^ n
 full_small zero = omega arith

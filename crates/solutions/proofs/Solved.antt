@@ -1,15 +1,15 @@
 -- The total, the levels and the listed sets of the order that the cells give.
 use Rattle.std.proofs.Common.{◌≡◌, ℕ, ◌-◌, ◌^◌, ◌≤◌, List, [], ◌∷◌, map, sym, ◌∙◌, subst, arith}
-use Rattle.order_model.specs.Functions.{Function}
-use Rattle.order_model.specs.Pairs.{Pair}
-use Rattle.order_model.specs.Problems.{functions}
-use Rattle.order_model.specs.Levels.{size_under}
-use Rattle.order_model.specs.Widths.{cost}
-use Rattle.order_model.specs.Cells.{cell_cost, IsReadFrom, AreUnclipped}
-use Rattle.order_model.specs.Certificates.{certificate_of, least_listed, listed_masks}
-use Rattle.order_model.specs.Diagrams.{FewestKeeping}
-use Rattle.order_model.proofs.Functions.Exchange.{size_is_cost}
-use Rattle.order_model.proofs.Widths.Fewest.{has_fewest_lem, fewest_is_least}
+use Rattle.definitions.specs.Functions.{Function}
+use Rattle.definitions.specs.Pairs.{Pair}
+use Rattle.definitions.specs.Problems.{functions}
+use Rattle.definitions.specs.Levels.{size_under}
+use Rattle.definitions.specs.Widths.{cost}
+use Rattle.definitions.specs.Cells.{cell_cost, IsReadFrom, AreUnclipped}
+use Rattle.definitions.specs.Certificates.{certificate_of, least_listed, listed_masks}
+use Rattle.definitions.specs.Diagrams.{FewestKeeping}
+use Rattle.definitions.proofs.Functions.Exchange.{size_is_cost}
+use Rattle.definitions.proofs.Widths.Fewest.{has_fewest_lem, fewest_is_least}
 use Rattle.layer_core.specs.Instances.{Instance}
 use Rattle.solutions.specs.Bounded.{IsBounded}
 use Rattle.solutions.proofs.ReadOrders.{order_first, order_is, order_unclipped, left, left_cost}

@@ -8,11 +8,11 @@ use Rattle.std.proofs.Math.Nat.{div-eq-sub-div}
 use Rattle.std.proofs.lemmas.Bool.{not-false}
 use Rattle.std.proofs.lemmas.Nat.{pow-add}
 use Rattle.std.proofs.lemmas.Nat.Bits.{bit_at_and, bit_at_xor, bit_at-lt, bit_at-zero, bit_at_cat_high, bit_at_cat_low}
-use Rattle.order_model.specs.Problems.{packed_bit, words_per_table}
-use Rattle.order_model.proofs.Bits.PointNumbers.{room_above}
-use Rattle.order_model.proofs.Bits.Tables.{value_at_word, whole_words}
-use Rattle.order_model.proofs.Bits.Words.{shifted_bit}
-use Rattle.order_model.proofs.Precedence.Greedy.{pow_le_bit}
+use Rattle.definitions.specs.Problems.{packed_bit, words_per_table}
+use Rattle.definitions.proofs.Bits.PointNumbers.{room_above}
+use Rattle.definitions.proofs.Bits.Tables.{value_at_word, whole_words}
+use Rattle.definitions.proofs.Bits.Words.{shifted_bit}
+use Rattle.definitions.proofs.Precedence.Greedy.{pow_le_bit}
 
 -- two words are equal at each place of a mask outside which they may differ
 pub same_where : (u v mask k : ℕ) → bit_and (bit_xor u v) mask ≡ 0 → bit_at mask k ≡ 1 → bit_at u k ≡ bit_at v k

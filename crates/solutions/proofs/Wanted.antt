@@ -14,25 +14,25 @@ use Rattle.std.proofs.lemmas.Cmp.{nat_eq_equiv}
 use Rattle.std.proofs.lemmas.Map.Made.{length-from_same_keys}
 use Rattle.std.proofs.lemmas.List.Sums.{sum-map}
 use Rattle.std.proofs.Common.{nat_eq}
-use Rattle.order_model.specs.Functions.{Function}
-use Rattle.order_model.specs.Orders.{has, members, variables, without, mask_of}
-use Rattle.order_model.specs.Pairs.{Pair, is_lawful, tops}
-use Rattle.order_model.specs.Problems.{functions}
-use Rattle.order_model.specs.declared.bounds_above.BoundAbove.{BoundAbove}
-use Rattle.order_model.specs.declared.bounds_above.BoundAbove.TheVariants.{Variables, Widths}
-use Rattle.order_model.specs.Cells.{candidates, asked, open_tops, wanted, cell_cost}
-use Rattle.order_model.proofs.Lists.Orders.{same_bool, has_filter}
-use Rattle.order_model.proofs.Precedence.Lists.{lawful_same}
-use Rattle.order_model.proofs.Bits.Problems.{MaskOfFirst, mask_of_passing}
-use Rattle.order_model.proofs.Widths.Recurrence.{distinct_filter}
-use Rattle.order_model.proofs.Bits.Masks.{distinct_members, members_without, members_small, bit-mask_of, members_mask_of, mask_of_members, mask_of_small}
-use Rattle.order_model.proofs.Widths.Cells.{cost_known, members_zero}
-use Rattle.order_model.proofs.Bits.Ones.{ones-members}
+use Rattle.definitions.specs.Functions.{Function}
+use Rattle.definitions.specs.Orders.{has, members, variables, without, mask_of}
+use Rattle.definitions.specs.Pairs.{Pair, is_lawful, tops}
+use Rattle.definitions.specs.Problems.{functions}
+use Rattle.definitions.specs.declared.limits.BoundAbove.{BoundAbove}
+use Rattle.definitions.specs.declared.limits.BoundAbove.TheVariants.{Variables, Widths}
+use Rattle.definitions.specs.Cells.{candidates, asked, open_tops, wanted, cell_cost}
+use Rattle.definitions.proofs.Lists.Orders.{same_bool, has_filter}
+use Rattle.definitions.proofs.Precedence.Lists.{lawful_same}
+use Rattle.definitions.proofs.Bits.Problems.{MaskOfFirst, mask_of_passing}
+use Rattle.definitions.proofs.Widths.Recurrence.{distinct_filter}
+use Rattle.definitions.proofs.Bits.Masks.{distinct_members, members_without, members_small, bit-mask_of, members_mask_of, mask_of_members, mask_of_small}
+use Rattle.definitions.proofs.Widths.Cells.{cost_known, members_zero}
+use Rattle.definitions.proofs.Bits.Ones.{ones-members}
 use Rattle.layer_core.specs.Instances.{Instance}
 use Rattle.solutions.specs.Needs.{needed, width_count, widths_for}
 use Rattle.solutions.proofs.Filters.{filter_none, sum_map}
-use Rattle.order_model.proofs.Lists.Ranges.{filter_at_most, filter_same, filter_twice}
-use Rattle.order_model.proofs.Widths.Count.{wanted_few}
+use Rattle.definitions.proofs.Lists.Ranges.{filter_at_most, filter_same, filter_twice}
+use Rattle.definitions.proofs.Widths.Count.{wanted_few}
 use Rattle.std.proofs.lemmas.List.FromFn.{length-range_with_len}
 
 -- whether a variable is a member without which the cost is within the bound

@@ -2,10 +2,10 @@
 --     IsBounded t      some order that keeps the pairs has at most the bound as its size
 --     HoldsCells t storage      what the cells of all sets are kept with
 use Rattle.std.specs.Prelude.{ℕ, ◌≤◌, List}
-use Rattle.order_model.specs.Orders.{IsOrder}
-use Rattle.order_model.specs.Pairs.{Keeps}
-use Rattle.order_model.specs.Problems.{functions}
-use Rattle.order_model.specs.Levels.{size_under}
+use Rattle.definitions.specs.Orders.{IsOrder}
+use Rattle.definitions.specs.Pairs.{Keeps}
+use Rattle.definitions.specs.Problems.{functions}
+use Rattle.definitions.specs.Levels.{size_under}
 use Rattle.layer_core.specs.Instances.{Instance}
 use Rattle.solutions.specs.Storages.{AreStored}
 use Rattle.solutions.specs.declared.all_cells.Storage.{Storage}

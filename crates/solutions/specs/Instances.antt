@@ -1,7 +1,7 @@
 -- What a search is for.
 --     HoldsInstance t bounds_above      the fields of an instance: its pairs are of its variables, a pruned cost has room, and its lower bounds above sets
 use Rattle.std.specs.Prelude.{◌≡◌, ◌+◌, ◌^◌, ◌<◌, ◌≤◌}
-use Rattle.order_model.specs.BoundsAbove.{BoundsAboveOf, bounds_above_with}
+use Rattle.definitions.specs.BoundsAbove.{BoundsAboveOf, bounds_above_with}
 use Rattle.layer_core.specs.Instances.{Instance}
 
 -- an instance, with its lower bounds above sets

@@ -4,7 +4,7 @@
 --     AreDone t layers      the layers of fewer variables than there are, at least that of the empty set
 --     AreCells t masks cells      the cells of some sets
 use Rattle.std.specs.Prelude.{◌≡◌, ℕ, ◌+◌, ◌≤◌, List, map, length, slice_get, Some}
-use Rattle.order_model.specs.Problems.{functions}
+use Rattle.definitions.specs.Problems.{functions}
 use Rattle.subset_layers.specs.Costs.{CostsOf, AreTrueCosts, AreTrueCells}
 use Rattle.subset_layers.specs.declared.costs.Cell.{Cell}
 use Rattle.layer_core.specs.Pairing.{pair_of}

@@ -5,9 +5,9 @@
 --     affordable costs bound mask      the members of a set without which the cost is within the bound
 use Rattle.std.specs.Prelude.{ℕ, ◌+◌, List, IsTrue, map, length}
 use Rattle.std.specs.List.{sum}
-use Rattle.order_model.specs.Orders.{has, mask_of}
-use Rattle.order_model.specs.Problems.{functions}
-use Rattle.order_model.specs.Cells.{candidates, wanted}
+use Rattle.definitions.specs.Orders.{has, mask_of}
+use Rattle.definitions.specs.Problems.{functions}
+use Rattle.definitions.specs.Cells.{candidates, wanted}
 use Rattle.subset_layers.specs.Layers.{layer_with, masks_of}
 use Rattle.subset_layers.specs.Costs.{CostsOf, cost_without}
 use Rattle.layer_core.specs.Instances.{Instance}

@@ -3,7 +3,7 @@
 --     StayPlaced t l old new      what was placed still is
 --     AreCellsPlaced t l block cells      the cells of a block's sets are placed
 use Rattle.std.specs.Prelude.{◌≡◌, ℕ, ◌<◌, List, IsTrue, length, slice_index, slice_index_or}
-use Rattle.order_model.specs.Orders.{has}
+use Rattle.definitions.specs.Orders.{has}
 use Rattle.subset_layers.specs.declared.costs.Cell.{Cell}
 use Rattle.subset_layers.specs.Layers.{LayerOf, BlockOf, masks_of, block_masks}
 use Rattle.layer_core.specs.Instances.{Instance, cell_for}

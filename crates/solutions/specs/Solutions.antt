@@ -7,15 +7,15 @@
 --     IsOptimumFor problem P o      the optimum holds them
 --     IsSolution problem P s      this, with its certificate's cells
 use Rattle.std.specs.Prelude.{◌≡◌, ℕ, ◌-◌, ◌^◌, List, map}
-use Rattle.order_model.specs.Functions.{Function}
-use Rattle.order_model.specs.Pairs.{Pair}
-use Rattle.order_model.specs.Problems.{TruthTables, functions}
-use Rattle.order_model.specs.Levels.{level_counts, size_under}
-use Rattle.order_model.specs.Diagrams.{FewestKeeping, IsFirstKeeping}
-use Rattle.order_model.specs.Cells.{IsReadFrom, cell_cost, widths_taken}
-use Rattle.order_model.specs.Certificates.{certificate_of, least_listed, listed_masks}
-use Rattle.order_model.specs.Listed.{listed}
-use Rattle.order_model.specs.declared.listed_cells.ListedCell.{ListedCell}
+use Rattle.definitions.specs.Functions.{Function}
+use Rattle.definitions.specs.Pairs.{Pair}
+use Rattle.definitions.specs.Problems.{TruthTables, functions}
+use Rattle.definitions.specs.Levels.{level_counts, size_under}
+use Rattle.definitions.specs.Diagrams.{FewestKeeping, IsFirstKeeping}
+use Rattle.definitions.specs.Cells.{IsReadFrom, cell_cost, widths_taken}
+use Rattle.definitions.specs.Certificates.{certificate_of, least_listed, listed_masks}
+use Rattle.definitions.specs.Listed.{listed}
+use Rattle.definitions.specs.declared.listed_cells.ListedCell.{ListedCell}
 use Rattle.layer_core.specs.Instances.{Instance}
 use Rattle.solutions.specs.declared.solution.Optimum.{Optimum}
 use Rattle.solutions.specs.declared.solution.Solution.{Solution}

@@ -1,10 +1,10 @@
 //! The cells of all sets.
 
 ghost use Rattle.std.specs.Prelude.{◌≡◌, ◌^◌, ◌<◌, ◌≤◌, count_ones};
-ghost use Rattle.order_model.specs.Cells.{candidates};
-ghost use Rattle.order_model.specs.Orders.{mask_of};
-ghost use Rattle.order_model.specs.Problems.{functions};
-ghost use Rattle.order_model.specs.Widths.{essential_mask};
+ghost use Rattle.definitions.specs.Cells.{candidates};
+ghost use Rattle.definitions.specs.Orders.{mask_of};
+ghost use Rattle.definitions.specs.Problems.{functions};
+ghost use Rattle.definitions.specs.Widths.{essential_mask};
 ghost use Rattle.layer_core.specs.Instances.{cell_for};
 ghost use Rattle.layer_core.specs.Pairing.{pair_of};
 ghost use Rattle.solutions.specs.Needs.{needed};

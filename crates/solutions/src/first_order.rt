@@ -1,8 +1,8 @@
 //! The order that the cells give, and its level counts.
 
 ghost use Rattle.std.specs.Prelude.{◌≡◌, ◌≤◌, ◌-◌, ◌^◌, IfOk};
-ghost use Rattle.order_model.specs.Problems.{functions};
-ghost use Rattle.order_model.specs.Levels.{level_counts as counts_under};
+ghost use Rattle.definitions.specs.Problems.{functions};
+ghost use Rattle.definitions.specs.Levels.{level_counts as counts_under};
 ghost use Rattle.solutions.specs.Solutions.{IsReadOff};
 
 use crate::all_cells::AllCells;

@@ -30,9 +30,9 @@ impl<'a> Model for Instance<'a> {
 }
 
 impl<'a> Instance<'a> {
-    ghost use Rattle.order_model.specs.Problems.{functions};
-    ghost use Rattle.order_model.specs.Widths.{essential_mask};
-    ghost use Rattle.order_model.specs.BoundsAbove.{bounds_above_with};
+    ghost use Rattle.definitions.specs.Problems.{functions};
+    ghost use Rattle.definitions.specs.Widths.{essential_mask};
+    ghost use Rattle.definitions.specs.BoundsAbove.{bounds_above_with};
     ghost use Rattle.layer_core.specs.Pairing.{pair_of};
     ghost use Rattle.layer_core.specs.Instances.{cell_for, instance_of};
 

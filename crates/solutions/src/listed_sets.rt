@@ -1,10 +1,10 @@
 //! What a certificate lists of the cells, and how many widths they take.
 
 ghost use Rattle.std.specs.Prelude.{◌≡◌, ◌<◌, ◌≤◌, ℕ, count_ones, IfOk, List};
-ghost use Rattle.order_model.specs.Functions.{Function};
-ghost use Rattle.order_model.specs.Orders.{members};
-ghost use Rattle.order_model.specs.Widths.{essential_mask, essentials_outside};
-ghost use Rattle.order_model.specs.declared.bounds_above.BoundAbove.TheVariants.{Variables};
+ghost use Rattle.definitions.specs.Functions.{Function};
+ghost use Rattle.definitions.specs.Orders.{members};
+ghost use Rattle.definitions.specs.Widths.{essential_mask, essentials_outside};
+ghost use Rattle.definitions.specs.declared.limits.BoundAbove.TheVariants.{Variables};
 ghost use Rattle.solutions.specs.Solutions.{AreListedFor, widths_for_all};
 
 use crate::all_cells::AllCells;

@@ -1,8 +1,8 @@
 //! The variables whose widths the cell of a set takes.
 
 ghost use Rattle.std.specs.Prelude.{◌≡◌, ◌+◌, ◌^◌, ◌<◌, ℕ, map, IfOk};
-ghost use Rattle.order_model.specs.Orders.{mask_of};
-ghost use Rattle.order_model.specs.Cells.{asked, candidates};
+ghost use Rattle.definitions.specs.Orders.{mask_of};
+ghost use Rattle.definitions.specs.Cells.{asked, candidates};
 ghost use Rattle.subset_layers.specs.Layers.{layer_of, layer_with, block_masks};
 ghost use Rattle.solutions.specs.LayerCosts.{AreCostsFor};
 ghost use Rattle.solutions.specs.Needs.{IsInNextLayer, affordable, needed};

@@ -1,7 +1,7 @@
 //! The first order of the fewest nodes, and what its certificate lists.
 
 ghost use Rattle.std.specs.Prelude.{◌≡◌, ◌≤◌, IfOk};
-ghost use Rattle.order_model.specs.declared.bounds_above.BoundAbove.TheVariants.{Variables};
+ghost use Rattle.definitions.specs.declared.limits.BoundAbove.TheVariants.{Variables};
 ghost use Rattle.solutions.specs.Solutions.{IsOptimumFor, IsSolution, widths_for_all};
 
 use crate::all_cells::AllCells;

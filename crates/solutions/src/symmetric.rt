@@ -3,7 +3,7 @@
 //! keep that pair besides.
 
 ghost use Rattle.std.specs.Prelude.{◌≡◌, ◌<◌, ◌≤◌, IfOk, IfSome, IsTrue};
-ghost use Rattle.order_model.specs.Problems.{functions};
+ghost use Rattle.definitions.specs.Problems.{functions};
 ghost use Rattle.symmetries.specs.SymmetricPairs.{AreSymmetricPairs, IsHarmless, IsSymmetricPair};
 
 use crate::symmetric_words::is_symmetric_in;

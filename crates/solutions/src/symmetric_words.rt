@@ -2,7 +2,7 @@
 
 ghost use Rattle.std.specs.Prelude.{◌≡◌, ℕ, ◌+◌, ◌-◌, ◌^◌, ◌<◌, ◌≤◌, length, slice_index, false, IsTrue};
 ghost use Rattle.std.specs.Int.{bit_at};
-ghost use Rattle.order_model.specs.Problems.{packed_bit, words_per_table};
+ghost use Rattle.definitions.specs.Problems.{packed_bit, words_per_table};
 
 use order_model::VarIx;
 use order_model::packed::lower_half;

@@ -2,14 +2,14 @@
 use Rattle.std.proofs.Common.{◌≡◌, ℕ, zero, suc, ◌^◌, ◌<◌, ◌≤◌, refl, sym, subst, lit<, List, [], ◌∷◌, get_or, arith}
 use Rattle.std.specs.Int.{bit_at}
 use Rattle.std.proofs.lemmas.Nat.Bits.{bit_at_above}
-use Rattle.order_model.specs.Functions.{number, points, restrict, table, depends, from_table}
-use Rattle.order_model.specs.Orders.{members, without}
-use Rattle.order_model.specs.Pairs.{are_lawful, is_lawful}
-use Rattle.order_model.specs.Levels.{subfunctions, reach, dependents}
-use Rattle.order_model.specs.Widths.{outside, width, cost, arrangements, least_of, least, essential, essentials_outside}
-use Rattle.order_model.specs.BoundsAbove.{nodes_above}
-use Rattle.order_model.specs.Cells.{is_within, best_top, cell_of}
-use Rattle.order_model.specs.Problems.{IsPacked, table_in, tables_of}
+use Rattle.definitions.specs.Functions.{number, points, restrict, table, depends, from_table}
+use Rattle.definitions.specs.Orders.{members, without}
+use Rattle.definitions.specs.Pairs.{are_lawful, is_lawful}
+use Rattle.definitions.specs.Levels.{subfunctions, reach, dependents}
+use Rattle.definitions.specs.Widths.{outside, width, cost, arrangements, least_of, least, essential, essentials_outside}
+use Rattle.definitions.specs.BoundsAbove.{nodes_above}
+use Rattle.definitions.specs.Cells.{is_within, best_top, cell_of}
+use Rattle.definitions.specs.Problems.{IsPacked, table_in, tables_of}
 use Rattle.solver_tests.specs.Examples.{parity}
 use Rattle.layer_core.specs.Instances.{cell_for}
 

@@ -1,7 +1,7 @@
 -- What the tests' cells are for.
 use Rattle.std.specs.Prelude.{[], ◌∷◌}
-use Rattle.order_model.specs.Problems.{packed_tables}
-use Rattle.order_model.specs.declared.bounds_above.BoundAbove.TheVariants.{Variables}
+use Rattle.definitions.specs.Problems.{packed_tables}
+use Rattle.definitions.specs.declared.limits.BoundAbove.TheVariants.{Variables}
 use Rattle.layer_core.specs.Instances.{Instance}
 
 -- the parity of four variables, no pairs, bound 7, and one node counted for each essential variable outside a set

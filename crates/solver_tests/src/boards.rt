@@ -2,7 +2,7 @@
 
 ghost use Rattle.std.specs.Prelude.{◌≡◌, ◌<◌, ◌≤◌, All, length, [], ◌∷◌};
 ghost use Rattle.layer_core.specs.Instances.{cell_for, instance_of};
-ghost use Rattle.order_model.specs.declared.bounds_above.BoundAbove.TheVariants.{Variables};
+ghost use Rattle.definitions.specs.declared.limits.BoundAbove.TheVariants.{Variables};
 ghost use Rattle.layer_board.specs.Views.{first_seat};
 ghost use Rattle.solver_tests.specs.Examples.{parity};
 

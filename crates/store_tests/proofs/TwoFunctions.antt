@@ -1,6 +1,6 @@
 -- The conjunction and the disjunction of two variables, as tests make them.
 use Rattle.std.proofs.Common.{◌≡◌, ℕ, ◌<◌, ◌==◌, Bool, true, false, cond, List, [], ◌∷◌, length, get_or, refl, sym, ap, ◌∙◌, subst, arith}
-use Rattle.order_model.specs.Functions.{Point, Function, bit, SameFunction, from_table, number}
+use Rattle.definitions.specs.Functions.{Point, Function, bit, SameFunction, from_table, number}
 use Rattle.node_words.specs.Meaning.{function_of, along, Denotes, branch}
 use Rattle.node_words.proofs.Meaning.{value_terminal}
 use Rattle.unique_table.specs.Plans.{order_of, output_at, variable_at}

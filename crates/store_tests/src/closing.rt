@@ -1,7 +1,7 @@
 //! A store of the conjunction and the disjunction of two variables.
 
 ghost use Rattle.std.specs.Prelude.{◌≡◌, ◌∷◌, [], ◌<◌};
-ghost use Rattle.order_model.specs.Problems.{outputs_of};
+ghost use Rattle.definitions.specs.Problems.{outputs_of};
 ghost use Rattle.unique_table.specs.Plans.{order_of, output_at};
 ghost use Rattle.unique_table.specs.Sessions.{Means, Follows};
 ghost use Rattle.store_tests.specs.Cases.{two_tables};

@@ -1,7 +1,7 @@
 //! Fresh stores.
 
 ghost use Rattle.std.specs.Prelude.{◌≡◌};
-ghost use Rattle.order_model.specs.Orders.{variables as all_variables};
+ghost use Rattle.definitions.specs.Orders.{variables as all_variables};
 ghost use Rattle.unique_table.specs.Plans.{order_of};
 
 use order_model::{Order, Problem};

@@ -8,26 +8,26 @@ use Rattle.std.proofs.lemmas.List.{append_assoc, map-append, reverse-append, len
 use Rattle.std.proofs.Common.{zero-mul}
 use Rattle.std.proofs.lemmas.List.Elements.{filter-append}
 use Rattle.std.proofs.lemmas.Nat.{pow_pos}
-use Rattle.order_model.specs.Functions.{Function, SameFunction, restrict, table, same_table}
-use Rattle.order_model.specs.Orders.{has, variables}
-use Rattle.order_model.specs.Levels.{subfunctions, reach}
-use Rattle.order_model.specs.Widths.{outside, entries, class_of, class_numbers, same_pair, class_pair}
-use Rattle.order_model.proofs.Lists.Sets.{Among}
-use Rattle.order_model.proofs.Functions.Tables.{restrict_same, table_same, same_table_decides}
-use Rattle.order_model.proofs.Functions.Exchange.{reach_same, below_from_has}
-use Rattle.order_model.proofs.Widths.ClassPairs.{pair_decides, has_reverse, same_by_classes}
-use Rattle.order_model.proofs.Lists.Orders.{has_outside, has_variables}
+use Rattle.definitions.specs.Functions.{Function, SameFunction, restrict, table, same_table}
+use Rattle.definitions.specs.Orders.{has, variables}
+use Rattle.definitions.specs.Levels.{subfunctions, reach}
+use Rattle.definitions.specs.Widths.{outside, entries, class_of, class_numbers, same_pair, class_pair}
+use Rattle.definitions.proofs.Lists.Sets.{Among}
+use Rattle.definitions.proofs.Functions.Tables.{restrict_same, table_same, same_table_decides}
+use Rattle.definitions.proofs.Functions.Exchange.{reach_same, below_from_has}
+use Rattle.definitions.proofs.Widths.ClassPairs.{pair_decides, has_reverse, same_by_classes}
+use Rattle.definitions.proofs.Lists.Orders.{has_outside, has_variables}
 use Rattle.std.proofs.lemmas.Bool.{and_parts}
 use Rattle.subfunction_classes.specs.Numbering.{rank, ranks}
 use Rattle.subfunction_classes.specs.Places.{pairs}
 use Rattle.subfunction_classes.proofs.RankLaws.{ranks_alike}
 use Rattle.subfunction_classes.proofs.Places.{Apart, subfunctions_restrict, pairs_are}
-use Rattle.order_model.proofs.Lists.Maps.{flat_map_same}
-use Rattle.order_model.proofs.Widths.Parts.{reach_parts}
+use Rattle.definitions.proofs.Lists.Maps.{flat_map_same}
+use Rattle.definitions.proofs.Widths.Parts.{reach_parts}
 use Rattle.subfunction_classes.proofs.Lists.{map_flat_map}
 use mathlib.Core.List.{map-map}
-use Rattle.order_model.proofs.Lists.Ranges.{range_append}
-use Rattle.order_model.proofs.Widths.SizeBounds.{length-subfunctions}
+use Rattle.definitions.proofs.Lists.Ranges.{range_append}
+use Rattle.definitions.proofs.Widths.SizeBounds.{length-subfunctions}
 
 -- ---- lists
 

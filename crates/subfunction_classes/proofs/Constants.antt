@@ -10,16 +10,16 @@ use Rattle.std.proofs.lemmas.Bool.{cases_eq}
 use Rattle.std.proofs.lemmas.List.{length-set, map-append, reverse-append}
 use Rattle.std.proofs.lemmas.List.FromFn.{fill_by_all, length-map-range_with_len}
 use Rattle.std.proofs.lemmas.Nat.Bits.{bit_at_above, bit_at_cat_low, bit_at_cat_high}
-use Rattle.order_model.specs.Functions.{Point, Function, point_of, restrict, SameFunction, table}
-use Rattle.order_model.specs.Orders.{has, variables}
-use Rattle.order_model.specs.Levels.{subfunctions, reach}
-use Rattle.order_model.specs.Widths.{outside}
-use Rattle.order_model.proofs.Lists.Sets.{Among, among_from_flat_map, among_from_map}
-use Rattle.order_model.proofs.Functions.Tables.{table_same, same_from_table}
-use Rattle.order_model.proofs.Lists.Maps.{flat_map_same}
+use Rattle.definitions.specs.Functions.{Point, Function, point_of, restrict, SameFunction, table}
+use Rattle.definitions.specs.Orders.{has, variables}
+use Rattle.definitions.specs.Levels.{subfunctions, reach}
+use Rattle.definitions.specs.Widths.{outside}
+use Rattle.definitions.proofs.Lists.Sets.{Among, among_from_flat_map, among_from_map}
+use Rattle.definitions.proofs.Functions.Tables.{table_same, same_from_table}
+use Rattle.definitions.proofs.Lists.Maps.{flat_map_same}
 use Rattle.subfunction_classes.proofs.Lists.{map_flat_map, map_ranges}
 use mathlib.Core.List.{map-map}
-use Rattle.order_model.proofs.Lists.Ranges.{range_append}
+use Rattle.definitions.proofs.Lists.Ranges.{range_append}
 
 -- f with the variables below k fixed by the bits of j
 fixed : ℕ → ℕ → Function → Function

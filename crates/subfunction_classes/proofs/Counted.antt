@@ -9,16 +9,16 @@ use Rattle.std.proofs.lemmas.Bool.{cases_eq, and_parts}
 use Rattle.std.proofs.lemmas.List.FromFn.{fill_by_all}
 use Rattle.std.proofs.lemmas.Map.Made.{distinct_count-from_IsDistinct}
 use Rattle.std.proofs.lemmas.Cmp.{nat_eq_equiv}
-use Rattle.order_model.specs.Functions.{Function, table, same_table, depends}
-use Rattle.order_model.specs.Orders.{has, variables, without}
-use Rattle.order_model.specs.Levels.{reach, dependents}
-use Rattle.order_model.specs.Widths.{outside, width, entries, class_of, class_numbers}
-use Rattle.order_model.proofs.Lists.Sets.{Among, Within, among_filter, among_from_filter, among_map, among_from_map, among_from_member, member_from_among, count_same, nat_decides}
-use Rattle.order_model.proofs.Functions.Tables.{same_table_decides}
-use Rattle.order_model.proofs.Functions.Exchange.{dependents_same, below_from_has}
-use Rattle.order_model.proofs.Lists.Orders.{has_variables, has_outside}
-use Rattle.order_model.proofs.Widths.Recurrence.{distinct_filter, distinct_variables, has_without}
-use Rattle.order_model.proofs.Widths.ClassPairs.{count_alike, rank_apart, has_reverse}
+use Rattle.definitions.specs.Functions.{Function, table, same_table, depends}
+use Rattle.definitions.specs.Orders.{has, variables, without}
+use Rattle.definitions.specs.Levels.{reach, dependents}
+use Rattle.definitions.specs.Widths.{outside, width, entries, class_of, class_numbers}
+use Rattle.definitions.proofs.Lists.Sets.{Among, Within, among_filter, among_from_filter, among_map, among_from_map, among_from_member, member_from_among, count_same, nat_decides}
+use Rattle.definitions.proofs.Functions.Tables.{same_table_decides}
+use Rattle.definitions.proofs.Functions.Exchange.{dependents_same, below_from_has}
+use Rattle.definitions.proofs.Lists.Orders.{has_variables, has_outside}
+use Rattle.definitions.proofs.Widths.Recurrence.{distinct_filter, distinct_variables, has_without}
+use Rattle.definitions.proofs.Widths.ClassPairs.{count_alike, rank_apart, has_reverse}
 use Rattle.subfunction_classes.specs.Numbering.{rank}
 use Rattle.subfunction_classes.specs.Dependence.{dependence, AreMasks}
 use Rattle.subfunction_classes.proofs.RankLaws.{rank_below, rank_reached}

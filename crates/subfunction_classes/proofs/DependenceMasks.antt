@@ -5,13 +5,13 @@ use Rattle.std.proofs.Common.{◌≡◌, ◌≢◌, ℕ, ◌^◌, ◌<◌, Bool,
 use Rattle.std.specs.Int.{bit_at}
 use Rattle.std.proofs.lemmas.Bool.{true≢false, cases_Bool, cases_eq, not-false}
 use Rattle.std.proofs.lemmas.Nat.Bits.{same_from_bits, bit_at_or, bit_at-zero, bit_at-pow_same, bit_at-pow_other}
-use Rattle.order_model.specs.Functions.{Function, bit, restrict, SameFunction, table, depends}
-use Rattle.order_model.specs.Orders.{has, variables}
-use Rattle.order_model.proofs.Functions.Tables.{restrict_comm, restrict_again, restrict_same, same_refl, depends_false, same_from_table, same_table_decides}
-use Rattle.order_model.proofs.Nodes.Construction.{own_restriction}
-use Rattle.order_model.proofs.Bits.Masks.{bit-mask_of}
-use Rattle.order_model.proofs.Lists.Orders.{same_bool, has_filter, has_variables}
-use Rattle.order_model.proofs.Widths.Recurrence.{distinct_filter, distinct_variables}
+use Rattle.definitions.specs.Functions.{Function, bit, restrict, SameFunction, table, depends}
+use Rattle.definitions.specs.Orders.{has, variables}
+use Rattle.definitions.proofs.Functions.Tables.{restrict_comm, restrict_again, restrict_same, same_refl, depends_false, same_from_table, same_table_decides}
+use Rattle.definitions.proofs.Nodes.Construction.{own_restriction}
+use Rattle.definitions.proofs.Bits.Masks.{bit-mask_of}
+use Rattle.definitions.proofs.Lists.Orders.{same_bool, has_filter, has_variables}
+use Rattle.definitions.proofs.Widths.Recurrence.{distinct_filter, distinct_variables}
 use Rattle.subfunction_classes.specs.Dependence.{support, dependence}
 
 pub bit-dependence : (n : ℕ) (f : Function) (y : ℕ) → bit_at (dependence n f) y ≡ cond (has (variables n) y && depends n f y) 1 0

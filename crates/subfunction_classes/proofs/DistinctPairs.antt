@@ -6,16 +6,16 @@
 use Rattle.std.proofs.Common.{◌≡◌, ℕ, ◌*◌, ◌^◌, ◌<◌, List, map, length, get_or, sym, ap, ◌∙◌, subst, arith}
 use Rattle.std.specs.Set.{distinct_count}
 use Rattle.std.proofs.lemmas.List.{get_or-map, length-map, map-id, take_all}
-use Rattle.order_model.specs.Widths.{same_pair}
-use Rattle.order_model.proofs.Widths.ClassPairs.{pair_decides}
-use Rattle.order_model.proofs.Lists.Sets.{Among}
+use Rattle.definitions.specs.Widths.{same_pair}
+use Rattle.definitions.proofs.Widths.ClassPairs.{pair_decides}
+use Rattle.definitions.proofs.Lists.Sets.{Among}
 use Rattle.subfunction_classes.specs.Numbering.{rank, ranks}
 use Rattle.subfunction_classes.specs.Places.{pairs}
 use Rattle.subfunction_classes.proofs.BlockPlaces.{listed_classes}
 use Rattle.subfunction_classes.proofs.Progress.{among_take, take_among}
 use Rattle.subfunction_classes.proofs.Counted.{same_at}
 use Rattle.subfunction_classes.proofs.Joined.{length-ranks, number_at}
-use Rattle.order_model.proofs.Lists.Maps.{map_same}
+use Rattle.definitions.proofs.Lists.Maps.{map_same}
 use Rattle.subfunction_classes.proofs.RankLaws.{rank_below, rank_reached}
 use mathlib.Core.List.{map-map}
 

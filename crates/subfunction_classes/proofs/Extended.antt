@@ -14,18 +14,18 @@ use Rattle.std.proofs.lemmas.Bool.{cases_eq}
 use Rattle.std.proofs.lemmas.List.{length-append, length-reverse, length-map}
 use Rattle.std.proofs.lemmas.List.Elements.{filter-append}
 use Rattle.std.proofs.lemmas.Nat.Bits.{bit_at_or, bit_at-pow_same, bit_at-pow_other, shr_and_one}
-use Rattle.order_model.specs.Orders.{has, variables, without}
-use Rattle.order_model.specs.Levels.{reach, subfunctions, dependents}
-use Rattle.order_model.proofs.Widths.Recurrence.{has_again}
+use Rattle.definitions.specs.Orders.{has, variables, without}
+use Rattle.definitions.specs.Levels.{reach, subfunctions, dependents}
+use Rattle.definitions.proofs.Widths.Recurrence.{has_again}
 use Rattle.std.specs.Set.{distinct_count}
 use Rattle.std.proofs.lemmas.List.{get_or-map}
 use Rattle.std.proofs.lemmas.Map.Made.{distinct_count-le}
-use Rattle.order_model.specs.Functions.{same_table, table}
-use Rattle.order_model.specs.Widths.{same_pair, entries, class_of, class_numbers, outside, width}
-use Rattle.order_model.proofs.Lists.Sets.{Among}
-use Rattle.order_model.proofs.Functions.Tables.{same_table_decides}
-use Rattle.order_model.proofs.Bits.Masks.{has_members}
-use Rattle.order_model.proofs.Lists.Orders.{has_variables}
+use Rattle.definitions.specs.Functions.{same_table, table}
+use Rattle.definitions.specs.Widths.{same_pair, entries, class_of, class_numbers, outside, width}
+use Rattle.definitions.proofs.Lists.Sets.{Among}
+use Rattle.definitions.proofs.Functions.Tables.{same_table_decides}
+use Rattle.definitions.proofs.Bits.Masks.{has_members}
+use Rattle.definitions.proofs.Lists.Orders.{has_variables}
 use Rattle.subfunction_classes.specs.Dependence.{joined_mask}
 use Rattle.subfunction_classes.specs.Numbering.{rank, ranks}
 use Rattle.subfunction_classes.specs.PairTables.{IsPairTable}
@@ -36,8 +36,8 @@ use Rattle.subfunction_classes.proofs.RankLaws.{rank_below}
 use Rattle.subfunction_classes.proofs.Counted.{masks_same}
 use Rattle.subfunction_classes.proofs.MaskStep.{masks_more}
 use Rattle.subfunction_classes.proofs.Joined.{numbered_place}
-use Rattle.order_model.proofs.Lists.Ranges.{range_append, filter_at_most}
-use Rattle.order_model.proofs.Widths.SizeBounds.{length-subfunctions}
+use Rattle.definitions.proofs.Lists.Ranges.{range_append, filter_at_most}
+use Rattle.definitions.proofs.Widths.SizeBounds.{length-subfunctions}
 
 pub free_none : (set : ℕ) → free_below set 0 ≡ 0
 unfolding free_below

@@ -4,9 +4,9 @@
 use Rattle.std.proofs.Common.{◌≡◌, ℕ, ◌+◌, ◌<◌, ◌≤◌, List, [], ◌∷◌, ◌++◌, map, length, get_or, set, take, refl, sym, ap, ◌∙◌, subst, arith}
 use Rattle.std.specs.Set.{distinct_count}
 use Rattle.std.proofs.lemmas.List.{take_more_set, length-set, length-append, take_all, get_or-take}
-use Rattle.order_model.specs.Widths.{same_pair}
-use Rattle.order_model.proofs.Widths.ClassPairs.{pair_decides}
-use Rattle.order_model.proofs.Lists.Sets.{Among}
+use Rattle.definitions.specs.Widths.{same_pair}
+use Rattle.definitions.proofs.Widths.ClassPairs.{pair_decides}
+use Rattle.definitions.proofs.Lists.Sets.{Among}
 use Rattle.subfunction_classes.specs.Made.{Progress, Joined, Made}
 use Rattle.subfunction_classes.specs.Numbering.{IsFirstOccurrence, rank, ranks}
 use Rattle.subfunction_classes.proofs.RankLaws.{rank_absent, rank_below}

@@ -11,8 +11,8 @@ use Rattle.std.specs.List.{list_any, position_or_len}
 use Rattle.std.proofs.lemmas.List.{append_assoc, map-append, take-append-drop, length-take, take_all}
 use Rattle.std.proofs.lemmas.List.Sums.{prefix_len-le-length}
 use Rattle.std.proofs.lemmas.Map.Made.{distinct_count-le}
-use Rattle.order_model.specs.Widths.{same_pair}
-use Rattle.order_model.proofs.Widths.ClassPairs.{pair_decides}
+use Rattle.definitions.specs.Widths.{same_pair}
+use Rattle.definitions.proofs.Widths.ClassPairs.{pair_decides}
 use Rattle.subfunction_classes.specs.Numbering.{IsFirstOccurrence, rank, ranks}
 use Rattle.subfunction_classes.specs.Places.{low_place, pair_at, pairs}
 use Rattle.subfunction_classes.proofs.RankLaws.{Numbers, numbers_push, rank_next}

@@ -7,9 +7,9 @@ use Rattle.std.proofs.Common.{◌≡◌, ◌≢◌, ℕ, suc, ◌+◌, ◌*◌, 
 use Rattle.std.specs.Set.{distinct_count}
 use Rattle.std.proofs.lemmas.Bool.{cases_lt}
 use Rattle.std.proofs.lemmas.List.{append_assoc, take-append-drop, take_more, take_all, get_or-map, get_or_append_left, get_or_push, length-append}
-use Rattle.order_model.specs.Widths.{same_pair}
-use Rattle.order_model.proofs.Widths.ClassPairs.{pair_decides}
-use Rattle.order_model.proofs.Lists.Sets.{Among}
+use Rattle.definitions.specs.Widths.{same_pair}
+use Rattle.definitions.proofs.Widths.ClassPairs.{pair_decides}
+use Rattle.definitions.proofs.Lists.Sets.{Among}
 use Rattle.subfunction_classes.specs.Made.{Joined}
 use Rattle.subfunction_classes.specs.Numbering.{rank, ranks}
 use Rattle.subfunction_classes.proofs.RankLaws.{count_new, count_old, count_end, rank_next, rank_found, rank_absent, rank_below, among_or_not}

@@ -18,3 +18,4 @@ pub mod Numbered
 pub mod DistinctPairs
 pub mod Extended
 pub mod LowSets
+pub mod Unrolled

@@ -7,9 +7,9 @@ use Rattle.std.specs.Int.{bit_at}
 use Rattle.std.proofs.Math.Nat.{mod-lt, mod-eq_of_lt}
 use Rattle.std.proofs.lemmas.Nat.{pow_pos, or_disjoint, mod-pow-add}
 use Rattle.std.proofs.lemmas.Nat.Bits.{shr_and_one, bit_at_above, and_pow}
-use Rattle.order_model.specs.Orders.{has, members}
-use Rattle.order_model.proofs.Bits.Masks.{has_members}
-use Rattle.order_model.proofs.Precedence.MaskLaws.{member_from}
+use Rattle.definitions.specs.Orders.{has, members}
+use Rattle.definitions.proofs.Bits.Masks.{has_members}
+use Rattle.definitions.proofs.Precedence.MaskLaws.{member_from}
 
 low_bits : (mask y : ℕ) → mask % 2 ^ (y + 1) ≡ (mask / 2 ^ y % 2) * 2 ^ y + mask % 2 ^ y
 low_bits mask y = ap (λ k. mask % 2 ^ k) (let s : y + 1 ≡ 1 + y = omega arith in s) ∙ mod-pow-add mask 1 y

@@ -1,13 +1,13 @@
 -- The masks of the classes over T with x, from those over T.
 use Rattle.std.proofs.Common.{◌≡◌, ℕ, ◌^◌, ◌<◌, Bool, true, false, not, cond, inl, inr, List, [], ◌∷◌, map, length, reverse, get_or, refl, sym, ap, ap₂, ◌∙◌, nat_eq, bit_or}
 use Rattle.std.specs.Set.{distinct_count}
-use Rattle.order_model.specs.Functions.{Function, restrict, table, same_table, depends}
-use Rattle.order_model.specs.Orders.{has}
-use Rattle.order_model.specs.Levels.{reach}
-use Rattle.order_model.specs.Widths.{outside, entries, class_of, class_numbers, same_pair, class_pair}
-use Rattle.order_model.proofs.Lists.Sets.{Among}
-use Rattle.order_model.proofs.Functions.Tables.{same_table_decides, depends_same}
-use Rattle.order_model.proofs.Widths.ClassPairs.{count_alike, pair_decides, depends_by_classes}
+use Rattle.definitions.specs.Functions.{Function, restrict, table, same_table, depends}
+use Rattle.definitions.specs.Orders.{has}
+use Rattle.definitions.specs.Levels.{reach}
+use Rattle.definitions.specs.Widths.{outside, entries, class_of, class_numbers, same_pair, class_pair}
+use Rattle.definitions.proofs.Lists.Sets.{Among}
+use Rattle.definitions.proofs.Functions.Tables.{same_table_decides, depends_same}
+use Rattle.definitions.proofs.Widths.ClassPairs.{count_alike, pair_decides, depends_by_classes}
 use Rattle.subfunction_classes.specs.Numbering.{ranks}
 use Rattle.subfunction_classes.specs.Places.{pairs}
 use Rattle.subfunction_classes.specs.Dependence.{dependence, joined_mask, AreMasks}

@@ -7,9 +7,9 @@ use Rattle.std.proofs.lemmas.Bool.{cases_lt}
 use Rattle.std.proofs.lemmas.List.{map-append, length-append, length-map, get_or_append_left, get_or-append-add}
 use Rattle.std.proofs.lemmas.List.FromFn.{fill_by_all}
 use Rattle.std.proofs.Math.Nat.{div-eq_of_lt, mod-eq_of_lt}
-use Rattle.order_model.specs.Functions.{Function, restrict}
-use Rattle.order_model.specs.Levels.{subfunctions}
-use Rattle.order_model.proofs.Functions.Tables.{restrict_comm}
+use Rattle.definitions.specs.Functions.{Function, restrict}
+use Rattle.definitions.specs.Levels.{subfunctions}
+use Rattle.definitions.proofs.Functions.Tables.{restrict_comm}
 use Rattle.subfunction_classes.specs.Places.{low_place, pair_at, pairs}
 
 -- each variable of the list is another one than x

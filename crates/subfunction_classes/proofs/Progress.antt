@@ -4,9 +4,9 @@
 use Rattle.std.proofs.Common.{◌≡◌, ℕ, zero, suc, ◌+◌, ◌<◌, ◌≤◌, inl, inr, List, [], ◌∷◌, ◌++◌, map, length, get_or, take, drop, refl, sym, ap, ◌∙◌, subst, arith}
 use Rattle.std.specs.Set.{distinct_count}
 use Rattle.std.proofs.lemmas.List.{append_assoc, map-append, take-append-drop, length-take, take_all, get_or-map, take_more, get_or-take}
-use Rattle.order_model.specs.Widths.{same_pair}
-use Rattle.order_model.proofs.Widths.ClassPairs.{pair_decides}
-use Rattle.order_model.proofs.Lists.Sets.{Among}
+use Rattle.definitions.specs.Widths.{same_pair}
+use Rattle.definitions.proofs.Widths.ClassPairs.{pair_decides}
+use Rattle.definitions.proofs.Lists.Sets.{Among}
 use Rattle.subfunction_classes.specs.Made.{Progress}
 use Rattle.subfunction_classes.specs.Numbering.{IsFirstOccurrence, rank, ranks}
 use Rattle.subfunction_classes.proofs.RankLaws.{count_new, count_old, count_end, rank_here}

@@ -12,9 +12,9 @@ use Rattle.std.proofs.Common.{eq-eqb}
 use Rattle.std.proofs.lemmas.List.Sums.{take_while-cons}
 use Rattle.std.proofs.lemmas.List.Folds.{position_or_len_push}
 use Rattle.std.proofs.lemmas.List.{append_assoc}
-use Rattle.order_model.proofs.Lists.Sets.{Among, Within, among_left, among_right, among_cases, among_from_member, member_from_among, count_same, count_mono}
-use Rattle.order_model.proofs.Widths.ClassPairs.{count_alike, before_here, before_next, not_among_before, before}
-use Rattle.order_model.proofs.Lists.Orders.{same_bool}
+use Rattle.definitions.proofs.Lists.Sets.{Among, Within, among_left, among_right, among_cases, among_from_member, member_from_among, count_same, count_mono}
+use Rattle.definitions.proofs.Widths.ClassPairs.{count_alike, before_here, before_next, not_among_before, before}
+use Rattle.definitions.proofs.Lists.Orders.{same_bool}
 use Rattle.subfunction_classes.specs.Numbering.{rank, ranks}
 
 module _ {K : Type 0} (eq : K → K → Bool) (decides : (x y : K) → (eq x y ≡ true → x ≡ y) × (x ≡ y → eq x y ≡ true)) where

@@ -16,18 +16,18 @@ use Rattle.std.proofs.lemmas.Bool.{false≢true, true≢false, cases_lt, or_case
 use Rattle.std.proofs.lemmas.List.{length-set, length-append, length-map, map-append, take_more}
 use Rattle.std.proofs.lemmas.List.Concat.{flat_map-append}
 use Rattle.std.proofs.lemmas.List.Sums.{take_while-cons}
-use Rattle.order_model.specs.Functions.{Function, number, point_of, from_table, table, same_table, depends, SameFunction, restrict}
-use Rattle.order_model.specs.Orders.{variables, mask_of}
-use Rattle.order_model.specs.Levels.{reach}
-use Rattle.order_model.specs.Widths.{outside, entries, class_of, class_numbers}
-use Rattle.order_model.proofs.Lists.Sets.{Among, count_same}
-use Rattle.order_model.proofs.Functions.Tables.{same_table_decides, depends_false, beq_decides}
-use Rattle.order_model.proofs.Widths.ClassPairs.{count_alike}
-use Rattle.order_model.proofs.Widths.Cells.{members_zero}
+use Rattle.definitions.specs.Functions.{Function, number, point_of, from_table, table, same_table, depends, SameFunction, restrict}
+use Rattle.definitions.specs.Orders.{variables, mask_of}
+use Rattle.definitions.specs.Levels.{reach}
+use Rattle.definitions.specs.Widths.{outside, entries, class_of, class_numbers}
+use Rattle.definitions.proofs.Lists.Sets.{Among, count_same}
+use Rattle.definitions.proofs.Functions.Tables.{same_table_decides, depends_false, beq_decides}
+use Rattle.definitions.proofs.Widths.ClassPairs.{count_alike}
+use Rattle.definitions.proofs.Widths.Cells.{members_zero}
 use Rattle.subfunction_classes.specs.Table.{HoldsClasses, classes_of}
 use Rattle.subfunction_classes.specs.Numbering.{rank, ranks}
 use Rattle.subfunction_classes.specs.Values.{row, values_of, number_of, class_count}
-use Rattle.order_model.specs.Problems.{TruthTables, functions, value_at}
+use Rattle.definitions.specs.Problems.{TruthTables, functions, value_at}
 use Rattle.subfunction_classes.specs.Dependence.{support, dependence, AreMasks}
 use Rattle.subfunction_classes.proofs.RankLaws.{rank_below, rank_reached, ranks_alike}
 use Rattle.subfunction_classes.proofs.Lists.{map_ranges}

@@ -4,7 +4,7 @@
 use Rattle.std.proofs.Common.{◌≡◌, ℕ, Bool, List, ◌<◌, ◌++◌, ◌∷◌, [], ◌^◌, map, get_or, false, sym, ap, ◌∙◌, arith}
 use Rattle.std.proofs.lemmas.List.{append_assoc, map-append}
 use Rattle.std.proofs.lemmas.List.FromFn.{get_or-map-range_with_len}
-use Rattle.order_model.specs.Problems.{table_in, packed_bit}
+use Rattle.definitions.specs.Problems.{table_in, packed_bit}
 
 pub bit_in : (n : ℕ) (words : List ℕ) (point : ℕ) → point < 2 ^ n → packed_bit words point ≡ get_or (table_in n words) point false
 unfolding table_in

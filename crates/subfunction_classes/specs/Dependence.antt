@@ -5,10 +5,10 @@
 use Rattle.std.specs.Prelude.{◌≡◌, ℕ, ◌^◌, List, map, length, reverse, if◌then◌else◌, nat_eq, slice_index, bit_or}
 use Rattle.std.specs.Set.{distinct_count}
 use Rattle.std.specs.List.{filter}
-use Rattle.order_model.specs.Functions.{Function, depends, same_table}
-use Rattle.order_model.specs.Levels.{reach}
-use Rattle.order_model.specs.Widths.{outside, entries, class_numbers}
-use Rattle.order_model.specs.Orders.{variables, mask_of}
+use Rattle.definitions.specs.Functions.{Function, depends, same_table}
+use Rattle.definitions.specs.Levels.{reach}
+use Rattle.definitions.specs.Widths.{outside, entries, class_numbers}
+use Rattle.definitions.specs.Orders.{variables, mask_of}
 
 -- the variables that f depends on, rising
 unfoldable pub support : ℕ → Function → List ℕ

@@ -5,3 +5,4 @@ pub mod PairTables
 pub mod Places
 pub mod Table
 pub mod Values
+pub mod Strips

@@ -4,7 +4,7 @@
 --     Made none ps join out masks j      both
 use Rattle.std.specs.Prelude.{◌≡◌, ℕ, ◌<◌, ◌≤◌, List, map, length, get_or, take}
 use Rattle.std.specs.Set.{distinct_count}
-use Rattle.order_model.specs.Widths.{same_pair}
+use Rattle.definitions.specs.Widths.{same_pair}
 use Rattle.subfunction_classes.specs.Numbering.{rank}
 
 -- the first j pairs are numbered

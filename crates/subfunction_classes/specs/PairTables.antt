@@ -5,7 +5,7 @@
 --     NumbersPairs masks x ps numbers joined      the numbers of pairs by first occurrence, and the mask of each number
 use Rattle.std.specs.Prelude.{◌≡◌, ◌≢◌, ℕ, ◌*◌, ◌^◌, ◌<◌, ◌≤◌, List, map, length, slice_index}
 use Rattle.std.specs.Set.{distinct_count}
-use Rattle.order_model.specs.Widths.{same_pair}
+use Rattle.definitions.specs.Widths.{same_pair}
 use Rattle.subfunction_classes.specs.Dependence.{joined_mask}
 use Rattle.subfunction_classes.specs.Numbering.{ranks}
 

@@ -6,10 +6,10 @@
 use Rattle.std.specs.Prelude.{◌≡◌, ℕ, bit_or, not, ◌==◌, ◌^◌, ◌≤◌, List, length}
 use Rattle.std.specs.List.{filter, range_with_len}
 use Rattle.std.specs.Int.{bit_at}
-use Rattle.order_model.specs.Functions.{Function}
-use Rattle.order_model.specs.Orders.{members}
-use Rattle.order_model.specs.Problems.{TruthTables, functions}
-use Rattle.order_model.specs.Widths.{class_numbers}
+use Rattle.definitions.specs.Functions.{Function}
+use Rattle.definitions.specs.Orders.{members}
+use Rattle.definitions.specs.Problems.{TruthTables, functions}
+use Rattle.definitions.specs.Widths.{class_numbers}
 use Rattle.subfunction_classes.specs.Dependence.{AreMasks}
 
 -- a problem and a set of its variables, as a mask

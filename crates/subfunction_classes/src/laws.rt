@@ -3,9 +3,9 @@
 ghost use Rattle.std.specs.Prelude.{◌≡◌, ◌==◌, ℕ, ◌<◌, IsTrue, List, length};
 ghost use Rattle.std.specs.Int.{bit_at};
 ghost use Rattle.std.specs.List.{filter};
-ghost use Rattle.order_model.specs.Functions.{Function};
-ghost use Rattle.order_model.specs.Orders.{has, without};
-ghost use Rattle.order_model.specs.Widths.{width};
+ghost use Rattle.definitions.specs.Functions.{Function};
+ghost use Rattle.definitions.specs.Orders.{has, without};
+ghost use Rattle.definitions.specs.Widths.{width};
 ghost use Rattle.subfunction_classes.specs.Dependence.{AreMasks};
 
 /// One numbering of a set gives the widths into it: that of a member over the set without it is the

@@ -5,7 +5,7 @@ ghost use Rattle.std.specs.Int.{bit_at};
 ghost use Rattle.std.specs.List.{filter};
 ghost use Rattle.subfunction_classes.specs.Dependence.{joined_mask};
 
-use order_model::{VarIx, contains};
+use definitions::{VarIx, contains};
 
 /// The mask of a pair of classes: what its halves depend on, and `x` if they differ.
 #[inline(always)]

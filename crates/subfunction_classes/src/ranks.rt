@@ -3,7 +3,7 @@
 ghost use Rattle.std.specs.Prelude.{◌≡◌, ◌<◌};
 ghost use Rattle.subfunction_classes.specs.Table.{free_below};
 
-use order_model::{Mask, VarIx, contains};
+use definitions::{Mask, VarIx, contains};
 
 /// How many variables below `x` are not in the set.
 pub fn rank_of(set: Mask, x: VarIx) -> u32

@@ -2,11 +2,11 @@
 
 ghost use Rattle.std.specs.Prelude.{◌≡◌, ℕ, ◌+◌, ◌*◌, ◌<◌, ◌≤◌, ◌++◌, map, length, slice_index, IfOk, OnOk, nat_eq};
 ghost use Rattle.std.specs.List.{list_any};
-ghost use Rattle.order_model.specs.Problems.{value_at, outputs_of, table_in, words_per_table};
+ghost use Rattle.definitions.specs.Problems.{value_at, outputs_of, table_in, words_per_table};
 ghost use Rattle.subfunction_classes.specs.Values.{row, values_of, number_of as number, class_count};
 
-use order_model::Problem;
-use order_model::packed::bit_of;
+use definitions::Problem;
+use definitions::packed::bit_of;
 use std::alloc::{AllocError, Global};
 
 /// The number of a value.

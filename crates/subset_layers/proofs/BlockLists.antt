@@ -9,12 +9,12 @@ use Rattle.std.proofs.lemmas.Nat.{pow-add}
 use Rattle.std.proofs.lemmas.List.{take_more_set, append-nil}
 use Rattle.std.proofs.lemmas.List.Elements.{filter-append}
 use Rattle.std.proofs.lemmas.List.FromFn.{map-range_with_len_more, filter_of_map_range_with_len_more}
-use Rattle.order_model.specs.Orders.{has, members, place_in}
-use Rattle.order_model.proofs.Lists.Orders.{has_filter, has_range, has_at, place_at, place_small}
+use Rattle.definitions.specs.Orders.{has, members, place_in}
+use Rattle.definitions.proofs.Lists.Orders.{has_filter, has_range, has_at, place_at, place_small}
 use Rattle.subset_layers.specs.Layers.{LayerOf, masks_of, BlockOf, block_of, blocks_of, block_masks, low_bytes, layer_with}
 use Rattle.subset_layers.specs.Selections.{ArePlaced, chosen}
 use Rattle.subset_layers.proofs.Choosing.{chosen-map}
-use Rattle.order_model.proofs.Lists.Accepted.{index_of}
+use Rattle.definitions.proofs.Lists.Accepted.{index_of}
 
 -- a layer has the masks below 2 ^ n with the layer's number of members
 pub has_masks : (n k mask : ℕ) → has (masks_of (layer_with n k)) mask ≡ true → (mask < 2 ^ n) × (length (members n mask) ≡ k)

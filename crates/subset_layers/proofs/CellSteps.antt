@@ -9,22 +9,22 @@ use Rattle.std.specs.List.{filter}
 use Rattle.std.specs.Int.{bit_at, trailing_zeros}
 use Rattle.std.proofs.lemmas.Bool.{cases_lt, or_right}
 use Rattle.std.proofs.lemmas.Nat.Bits.{bit_at-trailing_zeros, bit_at_above}
-use Rattle.order_model.specs.Functions.{Function}
-use Rattle.order_model.specs.Orders.{has, IsOrder, members, without}
-use Rattle.order_model.specs.Widths.{width}
-use Rattle.order_model.specs.Pairs.{Pair, Keeps, is_lawful}
-use Rattle.order_model.specs.BoundsAbove.{nodes_above}
-use Rattle.order_model.specs.declared.bounds_above.BoundAbove.{BoundAbove}
-use Rattle.order_model.specs.declared.bounds_above.BoundAbove.TheVariants.{Variables, Widths}
-use Rattle.order_model.specs.Cells.{first_of, cell_of, AreForCell, asked, candidates}
-use Rattle.order_model.proofs.Precedence.MaskLaws.{member_bit}
-use Rattle.order_model.proofs.Widths.Cells.{rising_members, first_has, first_le, all_asked, found, clipped, members_zero}
+use Rattle.definitions.specs.Functions.{Function}
+use Rattle.definitions.specs.Orders.{has, IsOrder, members, without}
+use Rattle.definitions.specs.Widths.{width}
+use Rattle.definitions.specs.Pairs.{Pair, Keeps, is_lawful}
+use Rattle.definitions.specs.BoundsAbove.{nodes_above}
+use Rattle.definitions.specs.declared.limits.BoundAbove.{BoundAbove}
+use Rattle.definitions.specs.declared.limits.BoundAbove.TheVariants.{Variables, Widths}
+use Rattle.definitions.specs.Cells.{first_of, cell_of, AreForCell, asked, candidates}
+use Rattle.definitions.proofs.Precedence.MaskLaws.{member_bit}
+use Rattle.definitions.proofs.Widths.Cells.{rising_members, first_has, first_le, all_asked, found, clipped, members_zero}
 use Rattle.subset_layers.specs.Layers.{masks_of, layer_with}
 use Rattle.subset_layers.specs.Costs.{CostsOf, cost_without, AreTrueCosts, AreWidthsFor}
 use Rattle.subset_layers.specs.Sums.{IsBest}
 use Rattle.subset_layers.proofs.BlockLists.{has_masks}
 use Rattle.subset_layers.proofs.CostLists.{less_one}
-use Rattle.order_model.proofs.Widths.Outside.{bit_has}
+use Rattle.definitions.proofs.Widths.Outside.{bit_has}
 
 abbrev pub pair_of : ℕ → ℕ → ℕ × ℕ
 pair_of a b = (a, b)

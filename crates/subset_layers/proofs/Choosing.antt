@@ -9,7 +9,7 @@ use Rattle.std.proofs.lemmas.List.{get_or_append_left, get_or_push, append-nil, 
 use Rattle.std.proofs.lemmas.List.Elements.{filter-append}
 use Rattle.std.proofs.lemmas.List.FromFn.{length-map-range_with_len, get_or-map-range_with_len}
 use Rattle.subset_layers.specs.Selections.{chosen, ArePlaced}
-use Rattle.order_model.proofs.Lists.Ranges.{range_last}
+use Rattle.definitions.proofs.Lists.Ranges.{range_last}
 
 -- two tests that agree on a range choose the same
 pub filter_range_same : (p q : ℕ → Bool) (k a : ℕ) → ((i : ℕ) → a ≤ i → i < a + k → p i ≡ q i) → filter p (range_with_len a k) ≡ filter q (range_with_len a k)

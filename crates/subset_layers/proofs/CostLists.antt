@@ -11,23 +11,23 @@ use Rattle.std.proofs.lemmas.Nat.{zero_from_ones}
 use Rattle.std.proofs.lemmas.Cmp.{nat_eq_equiv}
 use Rattle.std.proofs.lemmas.Map.Made.{length-from_same_keys}
 use Rattle.std.proofs.lemmas.Option.{slice_get_within, slice_get_past, slice_get-get_or, get_or_from_slice_get}
-use Rattle.order_model.specs.Functions.{Function}
-use Rattle.order_model.specs.Orders.{has, members, without, variables, place_in}
-use Rattle.order_model.specs.Pairs.{Pair}
-use Rattle.order_model.specs.declared.bounds_above.BoundAbove.{BoundAbove}
-use Rattle.order_model.specs.Cells.{cell_of, cell_cost}
-use Rattle.order_model.proofs.Lists.Orders.{has_variables, place_get, place_at, place_small}
-use Rattle.order_model.proofs.Widths.Recurrence.{distinct_filter, distinct_variables, distinct_without, length_without}
+use Rattle.definitions.specs.Functions.{Function}
+use Rattle.definitions.specs.Orders.{has, members, without, variables, place_in}
+use Rattle.definitions.specs.Pairs.{Pair}
+use Rattle.definitions.specs.declared.limits.BoundAbove.{BoundAbove}
+use Rattle.definitions.specs.Cells.{cell_of, cell_cost}
+use Rattle.definitions.proofs.Lists.Orders.{has_variables, place_get, place_at, place_small}
+use Rattle.definitions.proofs.Widths.Recurrence.{distinct_filter, distinct_variables, distinct_without, length_without}
 use Rattle.std.specs.Int.{bit_at}
 use Rattle.std.proofs.Math.Nat.{div-eq_of_lt}
 use Rattle.std.proofs.lemmas.Nat.Bits.{shr_and_one}
-use Rattle.order_model.proofs.Bits.Masks.{has_members, distinct_members, members_without}
-use Rattle.order_model.proofs.Widths.Cells.{members_zero}
+use Rattle.definitions.proofs.Bits.Masks.{has_members, distinct_members, members_without}
+use Rattle.definitions.proofs.Widths.Cells.{members_zero}
 use Rattle.subset_layers.specs.declared.costs.Cell.{Cell}
 use Rattle.subset_layers.specs.Layers.{LayerOf, layer_with, masks_of}
 use Rattle.subset_layers.specs.Costs.{CostsOf, HaveCells, costs_with, layer_of_costs, cell_at, cost_at, as_pair, start_costs, AreTrueCells, AreTrueCosts}
 use Rattle.subset_layers.proofs.BlockLists.{has_slice_get, has_masks, masks_has}
-use Rattle.order_model.proofs.Bits.Ones.{ones-members}
+use Rattle.definitions.proofs.Bits.Ones.{ones-members}
 
 pub distinct_masks : (l : LayerOf) → IsDistinct nat_eq (masks_of l)
 unfolding masks_of

@@ -7,14 +7,14 @@
 --     IsCellOnce v P bound mask costs widths cell      the cell of a set, once these are
 use Rattle.std.specs.Prelude.{◌≡◌, ℕ, ◌-◌, ◌^◌, ◌≤◌, Option, Some, None, List, [], if◌then◌else◌, ◌<◌, IsTrue, nat_eq, length, slice_get, slice_index, unwrap_or}
 use Rattle.std.specs.Option.{option_map_or}
-use Rattle.order_model.specs.Functions.{Function}
-use Rattle.order_model.specs.Orders.{has, members, without, place_in}
-use Rattle.order_model.specs.Pairs.{Pair, is_lawful}
-use Rattle.order_model.specs.Widths.{width}
-use Rattle.order_model.specs.Problems.{functions}
-use Rattle.order_model.specs.BoundsAbove.{BoundsAboveOf}
-use Rattle.order_model.specs.declared.bounds_above.BoundAbove.{BoundAbove}
-use Rattle.order_model.specs.Cells.{cell_of, cell_cost, asked, AreForCell}
+use Rattle.definitions.specs.Functions.{Function}
+use Rattle.definitions.specs.Orders.{has, members, without, place_in}
+use Rattle.definitions.specs.Pairs.{Pair, is_lawful}
+use Rattle.definitions.specs.Widths.{width}
+use Rattle.definitions.specs.Problems.{functions}
+use Rattle.definitions.specs.BoundsAbove.{BoundsAboveOf}
+use Rattle.definitions.specs.declared.limits.BoundAbove.{BoundAbove}
+use Rattle.definitions.specs.Cells.{cell_of, cell_cost, asked, AreForCell}
 use Rattle.subset_layers.specs.declared.costs.Cell.{Cell}
 use Rattle.subset_layers.specs.Layers.{LayerOf, layer_with, masks_of}
 

@@ -5,7 +5,7 @@
 --     block_place l i      the place of the block to which the mask at a place belongs
 use Rattle.std.specs.Prelude.{◌≡◌, ◌≤◌, ℕ, ◌%◌, ◌^◌, List, map, length, nat_eq, slice_index}
 use Rattle.std.specs.List.{filter, list_any, range_with_len}
-use Rattle.order_model.specs.Orders.{members, place_in}
+use Rattle.definitions.specs.Orders.{members, place_in}
 
 -- the sets of one size, of a number of variables
 pub record LayerOf : Type 0 where

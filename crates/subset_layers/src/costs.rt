@@ -1,11 +1,11 @@
 //! The cells and costs of a layer.
 
 ghost use Rattle.std.specs.Prelude.{◌≡◌, ℕ, ◌<◌, ◌≤◌, ◌↔◌, List, length, IfOk, IfSome, IsSome, IsTrue};
-ghost use Rattle.order_model.specs.Functions.{Function};
-ghost use Rattle.order_model.specs.Orders.{has};
-ghost use Rattle.order_model.specs.Pairs.{Pair};
-ghost use Rattle.order_model.specs.declared.bounds_above.BoundAbove.{BoundAbove};
-ghost use Rattle.order_model.specs.Cells.{cell_of};
+ghost use Rattle.definitions.specs.Functions.{Function};
+ghost use Rattle.definitions.specs.Orders.{has};
+ghost use Rattle.definitions.specs.Pairs.{Pair};
+ghost use Rattle.definitions.specs.declared.limits.BoundAbove.{BoundAbove};
+ghost use Rattle.definitions.specs.Cells.{cell_of};
 ghost use Rattle.subset_layers.specs.Layers as layers;
 
 use crate::layers::Layer;

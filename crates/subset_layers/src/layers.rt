@@ -2,7 +2,7 @@
 
 ghost use Rattle.std.specs.Prelude.{◌≡◌, ◌+◌, ◌*◌, ◌%◌, ◌^◌, ◌<◌, ◌≤◌, ◌↔◌, map, length, take, slice_get, nat_eq, count_ones, IfOk, IfSome, IsNone, IsFalse};
 ghost use Rattle.std.specs.List.{list_any, range_with_len};
-ghost use Rattle.order_model.specs.Orders.{has, members};
+ghost use Rattle.definitions.specs.Orders.{has, members};
 
 use crate::selection::Selection;
 use order_model::Mask;

@@ -1,9 +1,9 @@
 //! The cell of a set, from the costs of the sets with one variable less.
 
 ghost use Rattle.std.specs.Prelude.{Option, ◌≡◌, ℕ, ◌+◌, ◌-◌, ◌^◌, ◌<◌, ◌≤◌, List, slice_index, IfSome, IsNone, IsTrue};
-ghost use Rattle.order_model.specs.Orders.{has, members, IsOrder};
-ghost use Rattle.order_model.specs.Pairs.{Pair, Keeps, is_lawful};
-ghost use Rattle.order_model.specs.Cells.{first_of};
+ghost use Rattle.definitions.specs.Orders.{has, members, IsOrder};
+ghost use Rattle.definitions.specs.Pairs.{Pair, Keeps, is_lawful};
+ghost use Rattle.definitions.specs.Cells.{first_of};
 ghost use Rattle.subset_layers.specs.Layers.{masks_of, layer_with};
 ghost use Rattle.subset_layers.specs.Costs.{cost_without, as_pair, IsCellFrom, IsCellOnce};
 ghost use Rattle.subset_layers.specs.Sums.{IsBest};

@@ -7,15 +7,15 @@ use Rattle.std.proofs.Common.{◌≡◌, ◌≢◌, ℕ, false, List, [], length
 use Rattle.std.specs.Cmp.Lexicographic.{slice_cmp}
 use Rattle.std.specs.Ordering.{is_gt}
 use Rattle.std.proofs.lemmas.Cmp.{nat_list_cmp_total, tied_itself}
-use Rattle.order_model.specs.Functions.{Function}
-use Rattle.order_model.specs.Orders.{IsOrder}
-use Rattle.order_model.specs.Pairs.{Pair, Keeps, keeps}
-use Rattle.order_model.specs.Levels.{size_under}
-use Rattle.order_model.specs.Diagrams.{FewestKeeping, HasFewestKeeping, IsFirstKeeping}
+use Rattle.definitions.specs.Functions.{Function}
+use Rattle.definitions.specs.Orders.{IsOrder}
+use Rattle.definitions.specs.Pairs.{Pair, Keeps, keeps}
+use Rattle.definitions.specs.Levels.{size_under}
+use Rattle.definitions.specs.Diagrams.{FewestKeeping, HasFewestKeeping, IsFirstKeeping}
 use Rattle.symmetries.specs.SymmetricPairs.{AreSymmetricPairs, IsHarmless}
-use Rattle.order_model.proofs.Nodes.Construction.{exact_diagram}
-use Rattle.order_model.proofs.Nodes.LevelBound.{size_bound}
-use Rattle.order_model.proofs.Widths.Fewest.{fewest_unique}
+use Rattle.definitions.proofs.Nodes.Construction.{exact_diagram}
+use Rattle.definitions.proofs.Nodes.LevelBound.{size_bound}
+use Rattle.definitions.proofs.Widths.Fewest.{fewest_unique}
 use Rattle.symmetries.proofs.SortedOrders.{sorted_order}
 
 -- ---- lists that do not come later

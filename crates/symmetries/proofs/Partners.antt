@@ -4,7 +4,7 @@
 use Rattle.std.specs.Prelude.{◌≡◌, ℕ, ◌<◌, if◌then◌else◌, List, slice_index, nat_eq}
 use Rattle.std.proofs.Common.{sym, ap, ◌∙◌, eqb-true, eq-eqb, zero-add}
 use Rattle.std.proofs.lemmas.List.FromFn.{get_or-map-range_with_len}
-use Rattle.order_model.proofs.Lists.Orders.{same_bool}
+use Rattle.definitions.proofs.Lists.Orders.{same_bool}
 use Rattle.symmetries.specs.Exchanges.{IsExchange}
 use Rattle.symmetries.specs.SymmetricPairs.{exchange_of}
 

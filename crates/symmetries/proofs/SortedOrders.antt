@@ -9,17 +9,17 @@ use Rattle.std.specs.List.{IsDistinct, list_all}
 use Rattle.std.proofs.lemmas.Bool.{false≢true, true≢false, cases_Bool, cases_eq, or_cases, or_parts, eqb-false}
 use Rattle.std.proofs.lemmas.Cmp.{nat_list_cmp_total}
 use Rattle.std.proofs.lemmas.List.FromFn.{length-map-range_with_len}
-use Rattle.order_model.specs.Functions.{Function}
-use Rattle.order_model.specs.Orders.{has, IsOrder}
-use Rattle.order_model.specs.Pairs.{Pair, is_above, keeps, Keeps}
-use Rattle.order_model.specs.Levels.{size_under}
-use Rattle.order_model.specs.Widths.{cost}
-use Rattle.order_model.proofs.Functions.Exchange.{Below, below_from_has, size_is_cost}
-use Rattle.order_model.proofs.Lists.Maps.{map_same}
-use Rattle.order_model.proofs.Lists.Orders.{absent_from_apart}
-use Rattle.order_model.proofs.Lists.Sets.{Among, among_from_map}
-use Rattle.order_model.proofs.Precedence.Sets.{among_pair}
-use Rattle.order_model.proofs.Widths.Recurrence.{among_has, apart_from_absent, has_among}
+use Rattle.definitions.specs.Functions.{Function}
+use Rattle.definitions.specs.Orders.{has, IsOrder}
+use Rattle.definitions.specs.Pairs.{Pair, is_above, keeps, Keeps}
+use Rattle.definitions.specs.Levels.{size_under}
+use Rattle.definitions.specs.Widths.{cost}
+use Rattle.definitions.proofs.Functions.Exchange.{Below, below_from_has, size_is_cost}
+use Rattle.definitions.proofs.Lists.Maps.{map_same}
+use Rattle.definitions.proofs.Lists.Orders.{absent_from_apart}
+use Rattle.definitions.proofs.Lists.Sets.{Among, among_from_map}
+use Rattle.definitions.proofs.Precedence.Sets.{among_pair}
+use Rattle.definitions.proofs.Widths.Recurrence.{among_has, apart_from_absent, has_among}
 use Rattle.symmetries.specs.Exchanges.{AreSymmetric, IsExchange}
 use Rattle.symmetries.specs.SymmetricPairs.{AreSymmetricPairs, IsSymmetricPair, exchange_of}
 use Rattle.symmetries.proofs.Partners.{partner_of, same_partner}

@@ -6,9 +6,9 @@ use Rattle.std.specs.Int.{bit_at}
 use Rattle.std.proofs.lemmas.Bool.{cases_eq}
 use Rattle.std.proofs.lemmas.List.{get_or-map, get_or-set_same, get_or-set_other, length-map, length-set, set-get_or}
 use Rattle.std.proofs.lemmas.List.FromFn.{fill_by_all}
-use Rattle.order_model.specs.Functions.{Point, bit, number, from_table, SameFunction}
-use Rattle.order_model.specs.Problems.{TruthTables, functions, outputs_of, value_at}
-use Rattle.order_model.proofs.Bits.PointNumbers.{number-small, bit-number, number-raised}
+use Rattle.definitions.specs.Functions.{Point, bit, number, from_table, SameFunction}
+use Rattle.definitions.specs.Problems.{TruthTables, functions, outputs_of, value_at}
+use Rattle.definitions.proofs.Bits.PointNumbers.{number-small, bit-number, number-raised}
 use Rattle.symmetries.specs.Exchanges.{exchanged}
 use Rattle.symmetries.specs.SymmetricPairs.{exchange_of, IsSymmetricPair}
 use Rattle.symmetries.proofs.Partners.{partner_of}

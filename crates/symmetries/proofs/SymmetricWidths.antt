@@ -8,17 +8,17 @@ use Rattle.std.proofs.lemmas.Bool.{cases_Bool, true≢false, and_parts}
 use Rattle.std.proofs.lemmas.List.{length-map, length-set, get_or-set_same, get_or-set_other}
 use Rattle.std.proofs.lemmas.List.Elements.{recursion_from_All}
 use Rattle.std.proofs.lemmas.List.FromFn.{length-map-range_with_len, get_or-map-range_with_len, fill_by_all}
-use Rattle.order_model.specs.Functions.{Point, Function, bit, from_table, restrict, SameFunction, table, same_table, depends}
-use Rattle.order_model.specs.Orders.{has}
-use Rattle.order_model.specs.Levels.{subfunctions, reach, dependents}
-use Rattle.order_model.specs.Widths.{outside, width}
-use Rattle.order_model.proofs.Bits.Points.{table-from_table}
-use Rattle.order_model.proofs.Certificates.Potential.{all_among}
-use Rattle.order_model.proofs.Functions.Exchange.{Below, below_from_has, bit-mix, fixing_reached, length-mix, mix, mix_is, subfunctions_fix}
-use Rattle.order_model.proofs.Functions.Same.{table_long}
-use Rattle.order_model.proofs.Functions.Tables.{depends_false, depends_no, depends_same, same_from_table, same_table_decides, table_same}
-use Rattle.order_model.proofs.Lists.Orders.{has_outside, has_variables}
-use Rattle.order_model.proofs.Lists.Sets.{Among, Within, among_filter, among_flat_map, among_from_filter, among_from_flat_map, among_from_map, among_map, among_unique, count_le}
+use Rattle.definitions.specs.Functions.{Point, Function, bit, from_table, restrict, SameFunction, table, same_table, depends}
+use Rattle.definitions.specs.Orders.{has}
+use Rattle.definitions.specs.Levels.{subfunctions, reach, dependents}
+use Rattle.definitions.specs.Widths.{outside, width}
+use Rattle.definitions.proofs.Bits.Points.{table-from_table}
+use Rattle.definitions.proofs.Certificates.Potential.{all_among}
+use Rattle.definitions.proofs.Functions.Exchange.{Below, below_from_has, bit-mix, fixing_reached, length-mix, mix, mix_is, subfunctions_fix}
+use Rattle.definitions.proofs.Functions.Same.{table_long}
+use Rattle.definitions.proofs.Functions.Tables.{depends_false, depends_no, depends_same, same_from_table, same_table_decides, table_same}
+use Rattle.definitions.proofs.Lists.Orders.{has_outside, has_variables}
+use Rattle.definitions.proofs.Lists.Sets.{Among, Within, among_filter, among_flat_map, among_from_filter, among_from_flat_map, among_from_map, among_map, among_unique, count_le}
 use Rattle.symmetries.specs.Exchanges.{IsExchange, exchanged, AreSymmetric}
 
 -- a point with exchanged variables has as many

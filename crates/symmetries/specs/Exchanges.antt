@@ -4,7 +4,7 @@
 --     AreSymmetric n F partners      each function has equal values at all points and at those
 use Rattle.std.specs.Prelude.{◌≡◌, ℕ, ◌<◌, List, map, length, slice_index}
 use Rattle.std.specs.List.{All, range_with_len}
-use Rattle.order_model.specs.Functions.{Point, Function, bit, SameFunction}
+use Rattle.definitions.specs.Functions.{Point, Function, bit, SameFunction}
 
 -- each variable has a partner, whose partner it is
 pub record IsExchange (n : ℕ) (partners : List ℕ) : Type 0 where

@@ -8,10 +8,10 @@ use Rattle.std.specs.List.{range_with_len}
 use Rattle.std.specs.Ordering.{nat_cmp}
 use Rattle.std.specs.Cmp.Lexicographic.{slice_cmp}
 use Rattle.std.specs.declared.cmp.Ordering.TheVariants.{Greater}
-use Rattle.order_model.specs.Functions.{Function}
-use Rattle.order_model.specs.Levels.{size_under}
-use Rattle.order_model.specs.Orders.{IsOrder}
-use Rattle.order_model.specs.Pairs.{Pair, Keeps, has_pair}
+use Rattle.definitions.specs.Functions.{Function}
+use Rattle.definitions.specs.Levels.{size_under}
+use Rattle.definitions.specs.Orders.{IsOrder}
+use Rattle.definitions.specs.Pairs.{Pair, Keeps, has_pair}
 use Rattle.symmetries.specs.Exchanges.{AreSymmetric}
 
 -- the partners of n variables, of which two are exchanged

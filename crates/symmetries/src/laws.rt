@@ -1,11 +1,11 @@
 //! Laws of symmetric functions, each the contract of a function that does nothing.
 
 ghost use Rattle.std.specs.Prelude.{◌≡◌, ℕ, ◌<◌, ◌≤◌, List, slice_index};
-ghost use Rattle.order_model.specs.Functions.{Function};
-ghost use Rattle.order_model.specs.Orders.{has};
-ghost use Rattle.order_model.specs.Diagrams.{IsFirst, IsFirstKeeping};
-ghost use Rattle.order_model.specs.Pairs.{Pair};
-ghost use Rattle.order_model.specs.Widths.{width};
+ghost use Rattle.definitions.specs.Functions.{Function};
+ghost use Rattle.definitions.specs.Orders.{has};
+ghost use Rattle.definitions.specs.Diagrams.{IsFirst, IsFirstKeeping};
+ghost use Rattle.definitions.specs.Pairs.{Pair};
+ghost use Rattle.definitions.specs.Widths.{width};
 ghost use Rattle.symmetries.specs.Exchanges.{AreSymmetric, IsExchange};
 ghost use Rattle.symmetries.specs.SymmetricPairs.{AreSymmetricPairs};
 

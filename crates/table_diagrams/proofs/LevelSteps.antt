@@ -6,10 +6,10 @@ use Rattle.std.specs.List.{IsDistinct, list_any}
 use Rattle.std.proofs.lemmas.Bool.{cases_eq}
 use Rattle.std.proofs.lemmas.List.{map-append, append_assoc, get_or_append_left, get_or_at}
 use Rattle.std.proofs.lemmas.Option.{slice_get_within, same_Some}
-use Rattle.order_model.specs.Widths.{same_pair}
-use Rattle.order_model.specs.declared.diagrams.Node.{Node}
-use Rattle.order_model.proofs.Nodes.Appended.{get_left, get_right, get_cases}
-use Rattle.order_model.proofs.Widths.ClassPairs.{pair_decides}
+use Rattle.definitions.specs.Widths.{same_pair}
+use Rattle.definitions.specs.declared.nodes.Node.{Node}
+use Rattle.definitions.proofs.Nodes.Appended.{get_left, get_right, get_cases}
+use Rattle.definitions.proofs.Widths.ClassPairs.{pair_decides}
 use Rattle.table_diagrams.proofs.Lists.{same_key}
 use Rattle.table_diagrams.specs.Levels.{IsNumberOf, IsNumbered, Seeks, node_over}
 

@@ -5,18 +5,18 @@ use Rattle.std.proofs.Common.{◌≡◌, ◌≢◌, ℕ, zero, suc, ◌+◌, ◌
 use Rattle.std.specs.List.{AllZip}
 use Rattle.std.proofs.lemmas.List.{get_or-map, length-map, take_all}
 use Rattle.std.proofs.lemmas.Option.{slice_get_within, slice_get_cases}
-use Rattle.order_model.specs.declared.diagrams.Ref.{Ref}
-use Rattle.order_model.specs.declared.diagrams.Ref.TheVariants.{Terminal, Place}
-use Rattle.order_model.specs.declared.diagrams.Node.{Node}
-use Rattle.order_model.specs.Functions.{Point, Function, bit, restrict, SameFunction, from_table}
-use Rattle.order_model.specs.Orders.{has, IsOrder, place_in}
-use Rattle.order_model.specs.Levels.{subfunctions, reach}
-use Rattle.order_model.specs.Diagrams.{Graph, IsBefore, IsOrdered, IsOf, IsReduced, Reached, Represents, value}
-use Rattle.order_model.specs.Diagrams.Reached.{from_root, from_parent}
-use Rattle.order_model.proofs.Lists.Orders.{has_at, place_get}
-use Rattle.order_model.proofs.Nodes.Paths.{before_more, child_has, child_is_before, value_place, value_terminal}
-use Rattle.order_model.proofs.Nodes.Construction.{own_restriction, zip_length}
-use Rattle.order_model.proofs.Nodes.Appended.{get_left, get_right, get_cases, graph_of, AllFit, diagram_of, value_append}
+use Rattle.definitions.specs.declared.nodes.Ref.{Ref}
+use Rattle.definitions.specs.declared.nodes.Ref.TheVariants.{Terminal, Place}
+use Rattle.definitions.specs.declared.nodes.Node.{Node}
+use Rattle.definitions.specs.Functions.{Point, Function, bit, restrict, SameFunction, from_table}
+use Rattle.definitions.specs.Orders.{has, IsOrder, place_in}
+use Rattle.definitions.specs.Levels.{subfunctions, reach}
+use Rattle.definitions.specs.Diagrams.{Graph, IsBefore, IsOrdered, IsOf, IsReduced, Reached, Represents, value}
+use Rattle.definitions.specs.Diagrams.Reached.{from_root, from_parent}
+use Rattle.definitions.proofs.Lists.Orders.{has_at, place_get}
+use Rattle.definitions.proofs.Nodes.Paths.{before_more, child_has, child_is_before, value_place, value_terminal}
+use Rattle.definitions.proofs.Nodes.Construction.{own_restriction, zip_length}
+use Rattle.definitions.proofs.Nodes.Appended.{get_left, get_right, get_cases, graph_of, AllFit, diagram_of, value_append}
 use Rattle.truth_table.specs.Assignments.{assignments, values_at}
 use Rattle.truth_table.specs.Numberings.{pair_at, pairs_of}
 use Rattle.truth_table.proofs.LevelSteps.{restricted, function_at, none, length-restricted, lower_at, upper_at}
@@ -24,8 +24,8 @@ use Rattle.truth_table.proofs.LeafClasses.{IsLeaf, leaves_are}
 use Rattle.truth_table.proofs.PairNumbers.{length-pairs_of, get_or-pairs_of}
 use Rattle.std.proofs.lemmas.List.{take_more}
 use Rattle.std.proofs.Math.Nat.{mul-le-mul_right}
-use Rattle.order_model.specs.OrderedGraphs.{OrderedGraph}
-use Rattle.order_model.proofs.Nodes.Reduced.{reduced_levels}
+use Rattle.definitions.specs.OrderedGraphs.{OrderedGraph}
+use Rattle.definitions.proofs.Nodes.Reduced.{reduced_levels}
 use Rattle.truth_table.specs.Reduced.{IsDiagramOf}
 use Rattle.truth_table.proofs.LevelSteps.{reach_last, length-reach, few_blocks}
 use Rattle.table_diagrams.specs.Levels.{ref_named, node_over, IsNumberOf, IsNumbered, IsLevelAbove}

@@ -6,8 +6,8 @@ use Rattle.std.proofs.Common.{◌≡◌, ℕ, zero, suc, ◌<◌, false, List, [
 use Rattle.std.specs.List.{AllZip, AllByRecursion, IsDistinct}
 use Rattle.std.proofs.lemmas.Bool.{true≢false}
 use Rattle.std.proofs.lemmas.Option.{same_Some}
-use Rattle.order_model.specs.Widths.{same_pair}
-use Rattle.order_model.proofs.Widths.ClassPairs.{pair_decides}
+use Rattle.definitions.specs.Widths.{same_pair}
+use Rattle.definitions.proofs.Widths.ClassPairs.{pair_decides}
 
 pub map_get : {X Y : Type 0} (f : X → Y) (xs : List X) (i : ℕ) (x : X) → slice_get xs i ≡ Some x → slice_get (map f xs) i ≡ Some (f x)
 map_get f [] i x e = cc

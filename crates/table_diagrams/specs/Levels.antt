@@ -7,10 +7,10 @@
 use Rattle.std.specs.Prelude.{◌≡◌, ◌≢◌, ℕ, zero, suc, ◌+◌, ◌<◌, ◌≤◌, ◌⊎◌, false, true, List, [], ◌∷◌, ◌++◌, length, map, slice_index, get_or, slice_get}
 use Rattle.std.specs.List.{IsDistinct}
 use Rattle.std.specs.declared.option.Option.TheVariants.{Some}
-use Rattle.order_model.specs.Widths.{same_pair}
-use Rattle.order_model.specs.declared.diagrams.Ref.{Ref}
-use Rattle.order_model.specs.declared.diagrams.Ref.TheVariants.{Terminal, Place}
-use Rattle.order_model.specs.declared.diagrams.Node.{Node}
+use Rattle.definitions.specs.Widths.{same_pair}
+use Rattle.definitions.specs.declared.nodes.Ref.{Ref}
+use Rattle.definitions.specs.declared.nodes.Ref.TheVariants.{Terminal, Place}
+use Rattle.definitions.specs.declared.nodes.Node.{Node}
 use Rattle.truth_table.specs.Numberings.{pairs_of}
 
 -- 0 and 1 are the terminals, k + 2 is the node at place k

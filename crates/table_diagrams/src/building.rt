@@ -1,7 +1,7 @@
 //! Reduced diagrams of truth tables.
 
 ghost use Rattle.std.specs.Prelude.{◌≡◌, length, map, IfOk};
-ghost use Rattle.order_model.specs.Problems.{functions};
+ghost use Rattle.definitions.specs.Problems.{functions};
 ghost use Rattle.truth_table.specs.Reduced.{IsDiagramOf};
 ghost use Rattle.table_diagrams.specs.Levels.{ref_named};
 

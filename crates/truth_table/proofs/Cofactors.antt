@@ -5,12 +5,12 @@ use Rattle.std.proofs.Common.{◌≡◌, ℕ, ◌+◌, ◌^◌, Bool, true, fals
 use Rattle.std.specs.Int.{bit_at}
 use Rattle.std.specs.List.{filter, range_with_len}
 use Rattle.std.proofs.lemmas.List.FromFn.{filter_of_map_range_with_len_more}
-use Rattle.order_model.specs.Functions.{Function, from_table, restrict, table, SameFunction}
-use Rattle.order_model.specs.Orders.{members}
-use Rattle.order_model.specs.Problems.{IsClean, TruthTables, table_at, table_in, words_per_table}
-use Rattle.order_model.proofs.Bits.Points.{table-from_table}
-use Rattle.order_model.proofs.Bits.Problems.{length-table_in}
-use Rattle.order_model.proofs.Functions.Tables.{restrict_same, same_from_table, table_same}
+use Rattle.definitions.specs.Functions.{Function, from_table, restrict, table, SameFunction}
+use Rattle.definitions.specs.Orders.{members}
+use Rattle.definitions.specs.Problems.{IsClean, TruthTables, table_at, table_in, words_per_table}
+use Rattle.definitions.proofs.Bits.Points.{table-from_table}
+use Rattle.definitions.proofs.Bits.Problems.{length-table_in}
+use Rattle.definitions.proofs.Functions.Tables.{restrict_same, same_from_table, table_same}
 use Rattle.truth_table.specs.Restrictions.{fixed}
 use Rattle.std.proofs.lemmas.List.{append-nil}
 

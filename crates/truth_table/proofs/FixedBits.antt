@@ -12,18 +12,18 @@ use Rattle.std.proofs.lemmas.Bool.{cases_lt}
 use Rattle.std.proofs.lemmas.List.{set-get_or, get_or-set_same, get_or-set_other}
 use Rattle.std.proofs.lemmas.Nat.{pow_pos}
 use Rattle.std.proofs.lemmas.Nat.Bits.{bit_at-zero, bit_at_and, bit_at_or, bit_at_above, bit_at_cat_low, bit_at_cat_high}
-use Rattle.order_model.specs.Functions.{Point, Function, weight, number, from_table, restrict, SameFunction, table}
-use Rattle.order_model.specs.Problems.{IsClean, packed_bit, table_in, words_per_table}
-use Rattle.order_model.proofs.Bits.Points.{table-from_table}
-use Rattle.order_model.proofs.Bits.Problems.{length-table_in}
-use Rattle.order_model.proofs.Bits.Tables.{table_value, value_at_word, whole_words}
-use Rattle.order_model.proofs.Bits.Words.{shifted_bit}
-use Rattle.order_model.proofs.Bits.PointNumbers.{number-small, bit-number, number-raised, room_above}
-use Rattle.order_model.proofs.Functions.Tables.{table_same}
+use Rattle.definitions.specs.Functions.{Point, Function, weight, number, from_table, restrict, SameFunction, table}
+use Rattle.definitions.specs.Problems.{IsClean, packed_bit, table_in, words_per_table}
+use Rattle.definitions.proofs.Bits.Points.{table-from_table}
+use Rattle.definitions.proofs.Bits.Problems.{length-table_in}
+use Rattle.definitions.proofs.Bits.Tables.{table_value, value_at_word, whole_words}
+use Rattle.definitions.proofs.Bits.Words.{shifted_bit}
+use Rattle.definitions.proofs.Bits.PointNumbers.{number-small, bit-number, number-raised, room_above}
+use Rattle.definitions.proofs.Functions.Tables.{table_same}
 use Rattle.truth_table.specs.Fixing.{fixed_bit}
 use Rattle.truth_table.proofs.Literals.{low_bit, high_bit}
-use Rattle.order_model.proofs.Precedence.Masks.{zero_or_one}
-use Rattle.order_model.proofs.Precedence.Greedy.{pow_le_bit}
+use Rattle.definitions.proofs.Precedence.Masks.{zero_or_one}
+use Rattle.definitions.proofs.Precedence.Greedy.{pow_le_bit}
 
 -- ---- numbers
 

@@ -5,8 +5,8 @@ use Rattle.std.specs.Int.{bit_at}
 use Rattle.std.proofs.lemmas.Bool.{cases_lt, false≢true, le-ltb}
 use Rattle.std.proofs.lemmas.Nat.{and_le_r}
 use Rattle.std.proofs.lemmas.Nat.Bits.{bit_at-lt, bit_at_above}
-use Rattle.order_model.specs.Problems.{IsClean, IsPacked, tables_of, words_per_table}
-use Rattle.order_model.proofs.Bits.Problems.{block_inside, same_tables, table_of, length-tables_of, length-table_in, value_of}
+use Rattle.definitions.specs.Problems.{IsClean, IsPacked, tables_of, words_per_table}
+use Rattle.definitions.proofs.Bits.Problems.{block_inside, same_tables, table_of, length-tables_of, length-table_in, value_of}
 use Rattle.truth_table.proofs.TermWords.{masked_bits}
 
 module _ (n m : ℕ) (words items : List ℕ) (mask : ℕ) (masks : (b : ℕ) → b < 64 → eqb (bit_at mask b) 1 ≡ ltb b (2 ^ n))

@@ -12,14 +12,14 @@ use Rattle.std.proofs.lemmas.List.Concat.{flat_map-append}
 use Rattle.std.proofs.lemmas.List.Elements.{All-cons, All-head, All-nil, All-tail}
 use Rattle.std.proofs.lemmas.Nat.{or_lt, pow_below, pow_pos}
 use Rattle.std.proofs.lemmas.Nat.Bits.{bit_at-lt, bit_at-zero, bit_at_or, bit_at-pow_same, bit_at-pow_other, same_from_bits_below}
-use Rattle.order_model.specs.Functions.{Point, Function, bit, weight, number, from_table, restrict, SameFunction}
-use Rattle.order_model.specs.Levels.{subfunctions, reach}
-use Rattle.order_model.specs.Orders.{has, IsOrder}
-use Rattle.order_model.specs.Problems.{packed_bit, table_in}
-use Rattle.order_model.proofs.Functions.Exchange.{below_from_has}
-use Rattle.order_model.proofs.Bits.Tables.{table_value}
-use Rattle.order_model.proofs.Bits.PointNumbers.{number-small, bit-number, weight_bit}
-use Rattle.order_model.proofs.Functions.Tables.{table_same, same_from_table}
+use Rattle.definitions.specs.Functions.{Point, Function, bit, weight, number, from_table, restrict, SameFunction}
+use Rattle.definitions.specs.Levels.{subfunctions, reach}
+use Rattle.definitions.specs.Orders.{has, IsOrder}
+use Rattle.definitions.specs.Problems.{packed_bit, table_in}
+use Rattle.definitions.proofs.Functions.Exchange.{below_from_has}
+use Rattle.definitions.proofs.Bits.Tables.{table_value}
+use Rattle.definitions.proofs.Bits.PointNumbers.{number-small, bit-number, weight_bit}
+use Rattle.definitions.proofs.Functions.Tables.{table_same, same_from_table}
 use Rattle.truth_table.specs.Assignments.{assignments, value_number, values_at}
 use Rattle.truth_table.specs.Restrictions.{fixed}
 use Rattle.truth_table.proofs.LevelSteps.{Tells, function_at}

@@ -8,19 +8,19 @@ use Rattle.std.specs.Set.{distinct_count}
 use Rattle.std.proofs.lemmas.List.{get_or-set_other, get_or-set_same, length-append, length-set, length-take-le, take_more}
 use Rattle.std.proofs.lemmas.Nat.{pow-add, pow_pos}
 use Rattle.std.proofs.lemmas.List.FromFn.{fill_by_all}
-use Rattle.order_model.specs.Functions.{Point, Function, bit, restrict, SameFunction, table, same_table, depends}
-use Rattle.order_model.specs.Levels.{subfunctions, reach, dependents, level_count, level_counts}
-use Rattle.order_model.specs.Widths.{same_pair}
-use Rattle.order_model.proofs.Widths.ClassPairs.{count_alike, pair_decides, filter_map_same}
-use Rattle.order_model.proofs.Nodes.Construction.{own_restriction}
-use Rattle.order_model.proofs.Lists.Orders.{same_bool}
-use Rattle.order_model.proofs.Lists.Sets.{Among, among_from_filter}
-use Rattle.order_model.proofs.Functions.Tables.{restrict_same, table_same, same_from_table, same_table_decides}
+use Rattle.definitions.specs.Functions.{Point, Function, bit, restrict, SameFunction, table, same_table, depends}
+use Rattle.definitions.specs.Levels.{subfunctions, reach, dependents, level_count, level_counts}
+use Rattle.definitions.specs.Widths.{same_pair}
+use Rattle.definitions.proofs.Widths.ClassPairs.{count_alike, pair_decides, filter_map_same}
+use Rattle.definitions.proofs.Nodes.Construction.{own_restriction}
+use Rattle.definitions.proofs.Lists.Orders.{same_bool}
+use Rattle.definitions.proofs.Lists.Sets.{Among, among_from_filter}
+use Rattle.definitions.proofs.Functions.Tables.{restrict_same, table_same, same_from_table, same_table_decides}
 use Rattle.truth_table.specs.Numberings.{IsNumbering, is_unequal, pair_at, pairs_of, unequal_count}
 use Rattle.truth_table.proofs.PairNumbers.{length-pairs_of, get_or-pairs_of}
 use mathlib.Core.List.{map-map}
-use Rattle.order_model.proofs.Widths.Parts.{reach_parts}
-use Rattle.order_model.proofs.Widths.SizeBounds.{length-subfunctions}
+use Rattle.definitions.proofs.Widths.Parts.{reach_parts}
+use Rattle.definitions.proofs.Widths.SizeBounds.{length-subfunctions}
 
 -- each function restricted by x both ways
 abbrev pub both_restricted : ℕ → Function → List Function

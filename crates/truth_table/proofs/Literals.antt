@@ -12,12 +12,12 @@ use Rattle.std.proofs.lemmas.List.Elements.{All-head, All-tail}
 use Rattle.std.proofs.lemmas.List.FromFn.{get_or-map-range_with_len}
 use Rattle.std.proofs.lemmas.Nat.{and_shr, shr-shr}
 use Rattle.std.proofs.lemmas.Nat.Bits.{bit_at_and, bit_at_above, bit_at_cat_low, bit_at_cat_high, same_from_bits}
-use Rattle.order_model.specs.declared.terms.Term.{Term}
-use Rattle.order_model.specs.Functions.{Point, number}
-use Rattle.order_model.specs.Products.{literal_holds, literal_in, matches, has_output, output_in, product_function, product_of}
-use Rattle.order_model.proofs.Lists.Orders.{same_bool}
-use Rattle.order_model.proofs.Bits.Words.{shifted_bit}
-use Rattle.order_model.proofs.Bits.PointNumbers.{bit-number}
+use Rattle.definitions.specs.declared.terms.Term.{Term}
+use Rattle.definitions.specs.Functions.{Point, number}
+use Rattle.definitions.specs.Products.{literal_holds, literal_in, matches, has_output, output_in, product_function, product_of}
+use Rattle.definitions.proofs.Lists.Orders.{same_bool}
+use Rattle.definitions.proofs.Bits.Words.{shifted_bit}
+use Rattle.definitions.proofs.Bits.PointNumbers.{bit-number}
 use Rattle.pla_reader.specs.Masks.{Fits}
 use Rattle.truth_table.specs.Terms.{literal_at, literals_at, covered}
 use Rattle.std.proofs.Math.Bool.{and-true}

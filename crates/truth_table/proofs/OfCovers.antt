@@ -2,9 +2,9 @@
 --     tables_keep      they are those of the cover
 --     tables_value      what a problem of the tables is
 use Rattle.std.proofs.Common.{◌≡◌, map, sym, subst}
-use Rattle.order_model.specs.Functions.{from_table, table}
-use Rattle.order_model.specs.Problems.{TruthTables, functions}
-use Rattle.order_model.proofs.Functions.Same.{AllSame, tables_same}
+use Rattle.definitions.specs.Functions.{from_table, table}
+use Rattle.definitions.specs.Problems.{TruthTables, functions}
+use Rattle.definitions.proofs.Functions.Same.{AllSame, tables_same}
 use Rattle.pla_reader.specs.Covers.{NamedCover, functions_of}
 use Rattle.truth_table.specs.OfCovers.{AreTablesOf}
 

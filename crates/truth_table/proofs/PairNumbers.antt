@@ -10,12 +10,12 @@ use Rattle.std.proofs.lemmas.Bool.{false≢true, false_from_ne_true}
 use Rattle.std.proofs.lemmas.List.{map-append, length-append, length-map, take_all}
 use Rattle.std.proofs.lemmas.List.Folds.{position_or_len_push}
 use Rattle.std.proofs.lemmas.List.FromFn.{take-map-range_with_len, map-range_with_len_more, length-map-range_with_len, get_or-map-range_with_len}
-use Rattle.order_model.specs.Widths.{same_pair}
-use Rattle.order_model.proofs.Widths.ClassPairs.{pair_decides}
-use Rattle.order_model.proofs.Lists.Sets.{Among, among_left, among_right, among_cases, among_filter, among_from_filter, among_from_member, member_from_among, count_same}
+use Rattle.definitions.specs.Widths.{same_pair}
+use Rattle.definitions.proofs.Widths.ClassPairs.{pair_decides}
+use Rattle.definitions.proofs.Lists.Sets.{Among, among_left, among_right, among_cases, among_filter, among_from_filter, among_from_member, member_from_among, count_same}
 use Rattle.truth_table.specs.Numberings.{IsNumbering, is_unequal, pair_at, pairs_of, unequal_count}
-use Rattle.order_model.proofs.Lists.Maps.{map_same}
-use Rattle.order_model.proofs.Precedence.Masks.{among_at}
+use Rattle.definitions.proofs.Lists.Maps.{map_same}
+use Rattle.definitions.proofs.Precedence.Masks.{among_at}
 
 -- ---- the pairs
 

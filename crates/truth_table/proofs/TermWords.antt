@@ -16,20 +16,20 @@ use Rattle.std.proofs.lemmas.Slice.Zip.{AllZip-long}
 use Rattle.std.proofs.lemmas.Nat.{and_le_r, one_shl}
 use Rattle.std.proofs.lemmas.Nat.Bits.{bit_at-lt, bit_at_and, bit_at_or, bit_at_not, bit_at_ones, bit_at_ones_above, bit_at_above}
 use Rattle.std.proofs.Math.Nat.{add-mul-div_right, div-lt_iff_lt-mul}
-use Rattle.order_model.specs.declared.terms.Term.{Term}
-use Rattle.order_model.specs.Functions.{Point, Function, number, points, from_table, table, SameFunction}
-use Rattle.order_model.specs.Problems.{IsClean, IsPacked, tables_of, words_per_table}
-use Rattle.order_model.specs.Products.{Product, product_function, product_functions, product_of}
-use Rattle.order_model.proofs.Bits.Points.{table-from_table}
-use Rattle.order_model.proofs.Bits.Problems.{point_inside, block_inside, same_tables}
-use Rattle.order_model.proofs.Bits.Tables.{whole_words}
-use Rattle.order_model.proofs.Bits.Words.{step_is}
-use Rattle.order_model.proofs.Bits.PointNumbers.{some_point}
-use Rattle.order_model.proofs.Functions.Tables.{same_from_table}
+use Rattle.definitions.specs.declared.terms.Term.{Term}
+use Rattle.definitions.specs.Functions.{Point, Function, number, points, from_table, table, SameFunction}
+use Rattle.definitions.specs.Problems.{IsClean, IsPacked, tables_of, words_per_table}
+use Rattle.definitions.specs.Products.{Product, product_function, product_functions, product_of}
+use Rattle.definitions.proofs.Bits.Points.{table-from_table}
+use Rattle.definitions.proofs.Bits.Problems.{point_inside, block_inside, same_tables}
+use Rattle.definitions.proofs.Bits.Tables.{whole_words}
+use Rattle.definitions.proofs.Bits.Words.{step_is}
+use Rattle.definitions.proofs.Bits.PointNumbers.{some_point}
+use Rattle.definitions.proofs.Functions.Tables.{same_from_table}
 use Rattle.pla_reader.specs.Masks.{Fits}
 use Rattle.truth_table.specs.Terms.{AddsTerm, AreGroupWords, literal_at, literals_at, covers, covered}
 use Rattle.truth_table.proofs.Literals.{all_parts, and_turned, literals_apart, product_is}
-use Rattle.order_model.proofs.Functions.Same.{table_long}
+use Rattle.definitions.proofs.Functions.Same.{table_long}
 
 -- ---- bits
 

@@ -5,7 +5,7 @@
 use Rattle.std.specs.Prelude.{◌≡◌, ◌↔◌, ℕ, ◌+◌, ◌*◌, ◌/◌, ◌<◌, Bool, not, List, map, length, slice_index, get_or, nat_eq}
 use Rattle.std.specs.List.{range_with_len, filter}
 use Rattle.std.specs.Set.{distinct_count}
-use Rattle.order_model.specs.Widths.{same_pair}
+use Rattle.definitions.specs.Widths.{same_pair}
 
 -- the entries 2j and 2j + 1
 abbrev pub pair_at : List ℕ → ℕ → ℕ × ℕ

@@ -1,7 +1,7 @@
 -- The truth tables of covers.
 use Rattle.std.specs.Prelude.{◌≡◌, map}
-use Rattle.order_model.specs.Functions.{table}
-use Rattle.order_model.specs.Problems.{TruthTables}
+use Rattle.definitions.specs.Functions.{table}
+use Rattle.definitions.specs.Problems.{TruthTables}
 use Rattle.pla_reader.specs.Covers.{NamedCover, functions_of}
 
 -- the truth tables of a cover's functions

@@ -2,10 +2,10 @@
 --     HasLevelCounts n F order d      a diagram has the level counts of the functions
 --     IsDiagramOf n F order d      the reduced diagram of some functions under an order
 use Rattle.std.specs.Prelude.{◌≡◌, ℕ, ◌<◌, List, length, slice_index}
-use Rattle.order_model.specs.Functions.{Function}
-use Rattle.order_model.specs.Levels.{level_count}
-use Rattle.order_model.specs.Diagrams.{Graph, Represents, IsReduced, nodes_at}
-use Rattle.order_model.specs.OrderedGraphs.{OrderedGraph}
+use Rattle.definitions.specs.Functions.{Function}
+use Rattle.definitions.specs.Levels.{level_count}
+use Rattle.definitions.specs.Diagrams.{Graph, Represents, IsReduced, nodes_at}
+use Rattle.definitions.specs.OrderedGraphs.{OrderedGraph}
 
 -- on each level the diagram has as many nodes as the functions' level count
 abbrev pub HasLevelCounts : ℕ → List Function → List ℕ → Graph → Type 0

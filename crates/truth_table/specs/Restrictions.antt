@@ -2,7 +2,7 @@
 --     fixed xs value f      f with each variable of xs fixed to its bit of value
 use Rattle.std.specs.Prelude.{ℕ, List, [], ◌∷◌, ◌==◌}
 use Rattle.std.specs.Int.{bit_at}
-use Rattle.order_model.specs.Functions.{Function, restrict}
+use Rattle.definitions.specs.Functions.{Function, restrict}
 
 -- f with each of the variables fixed to its bit of value
 unfoldable pub fixed : List ℕ → ℕ → Function → Function

@@ -2,7 +2,7 @@
 --     RowTable      a row's value: the number of variables, and the truth table
 --     row_table n words, IsRow n words      what packed words hold; words of one truth table
 use Rattle.std.specs.Prelude.{◌≡◌, ℕ, ◌≤◌, Bool, List, length}
-use Rattle.order_model.specs.Problems.{IsClean, table_in, words_per_table}
+use Rattle.definitions.specs.Problems.{IsClean, table_in, words_per_table}
 
 -- the number of variables, and the truth table
 pub record RowTable : Type 0 where

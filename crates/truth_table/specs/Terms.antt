@@ -7,7 +7,7 @@
 use Rattle.std.specs.Prelude.{◌≡◌, ℕ, ◌+◌, ◌*◌, ◌<◌, Bool, not, ◌&&◌, ◌||◌, ◌==◌, List, [], get_or, slice_index}
 use Rattle.std.specs.Int.{bit_at}
 use Rattle.std.specs.List.{list_any, list_all, range_with_len}
-use Rattle.order_model.specs.declared.terms.Term.{Term}
+use Rattle.definitions.specs.declared.terms.Term.{Term}
 
 -- whether a term's literal of variable x, if it has one, holds at the point with number k
 abbrev pub literal_at : Term → ℕ → ℕ → Bool

@@ -3,9 +3,9 @@
 ghost use Rattle.std.specs.Prelude.{◌≡◌, ◌+◌, ◌*◌, ◌^◌, ◌<◌, ◌≤◌, ◌==◌, ℕ, false, length, map, nat_lt, IfOk, IsFalse, if◌then◌else◌, bit_and, bit_or, get_or, slice_index, ◌/◌, ◌%◌, []};
 ghost use Rattle.std.specs.Int.{bit_at};
 ghost use Rattle.std.specs.List.{All};
-ghost use Rattle.order_model.specs.Functions.{table};
-ghost use Rattle.order_model.specs.Problems.{IsPacked, tables_of};
-ghost use Rattle.order_model.specs.Products.{product_functions, product_of};
+ghost use Rattle.definitions.specs.Functions.{table};
+ghost use Rattle.definitions.specs.Problems.{IsPacked, tables_of};
+ghost use Rattle.definitions.specs.Products.{product_functions, product_of};
 ghost use Rattle.pla_reader.specs.Masks.{Fits};
 ghost use Rattle.truth_table.specs.Terms.{AddsTerm, AreGroupWords, literal_at, literals_at};
 

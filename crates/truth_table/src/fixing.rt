@@ -2,8 +2,8 @@
 
 ghost use Rattle.std.specs.Prelude.{◌≡◌, ◌+◌, ◌-◌, ◌<◌, ◌≤◌, ℕ, length, slice_index};
 ghost use Rattle.std.specs.Int.{bit_at};
-ghost use Rattle.order_model.specs.Functions.{from_table, restrict, table};
-ghost use Rattle.order_model.specs.Problems.{IsClean, table_in, words_per_table};
+ghost use Rattle.definitions.specs.Functions.{from_table, restrict, table};
+ghost use Rattle.definitions.specs.Problems.{IsClean, table_in, words_per_table};
 ghost use Rattle.truth_table.specs.Fixing.{fixed_bit};
 
 use order_model::VarIx;

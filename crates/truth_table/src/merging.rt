@@ -2,7 +2,7 @@
 
 ghost use Rattle.std.specs.Prelude.{◌≡◌, ◌++◌, ◌/◌, ◌<◌, ◌≤◌, ◌^◌, bit_or, if◌then◌else◌, length, map, IfOk, OnOk};
 ghost use Rattle.std.specs.List.{All};
-ghost use Rattle.order_model.specs.Problems.{packed_bit};
+ghost use Rattle.definitions.specs.Problems.{packed_bit};
 ghost use Rattle.truth_table.specs.Assignments.{assignments};
 ghost use Rattle.truth_table.specs.Numberings.{IsNumbering, pairs_of, unequal_count};
 

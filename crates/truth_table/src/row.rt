@@ -1,7 +1,7 @@
 //! Rows.
 
 ghost use Rattle.std.specs.Prelude.{◌≡◌, ◌<◌, ◌≤◌};
-ghost use Rattle.order_model.specs.Functions.{depends, from_table};
+ghost use Rattle.definitions.specs.Functions.{depends, from_table};
 ghost use Rattle.truth_table.specs.Rows.{IsRow, row_table};
 
 use order_model::VarIx;

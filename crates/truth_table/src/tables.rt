@@ -1,11 +1,11 @@
 //! Tables.
 
 ghost use Rattle.std.specs.Prelude.{◌≡◌, ◌*◌, ◌<◌, ◌≤◌, ◌^◌, length, map, IfOk};
-ghost use Rattle.order_model.specs.Functions.{from_table, table};
-ghost use Rattle.order_model.specs.Levels.{level_counts};
-ghost use Rattle.order_model.specs.Orders.{members};
-ghost use Rattle.order_model.specs.Problems.{functions, outputs_of, packed_tables, table_at, value_at, words_per_table};
-ghost use Rattle.order_model.specs.Products.{product_functions};
+ghost use Rattle.definitions.specs.Functions.{from_table, table};
+ghost use Rattle.definitions.specs.Levels.{level_counts};
+ghost use Rattle.definitions.specs.Orders.{members};
+ghost use Rattle.definitions.specs.Problems.{functions, outputs_of, packed_tables, table_at, value_at, words_per_table};
+ghost use Rattle.definitions.specs.Products.{product_functions};
 ghost use Rattle.truth_table.specs.Assignments.{assignments, values_at};
 ghost use Rattle.truth_table.specs.Restrictions.{fixed};
 ghost use Rattle.std.specs.List.{All};
@@ -28,7 +28,7 @@ pub struct Tables {
 }
 
 impl Model for Tables {
-    ghost use Rattle.order_model.specs.Problems.{TruthTables};
+    ghost use Rattle.definitions.specs.Problems.{TruthTables};
 
     ghost Value = { TruthTables };
 

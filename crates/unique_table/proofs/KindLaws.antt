@@ -7,7 +7,7 @@ use mathlib.Core.Logic.{dite}
 use native.Mathlib.Decide.{ℕ_discrete}
 use prog.Atomic.{either}
 use Rattle.atomic_table.specs.Table.{carried_after, homes_after}
-use Rattle.order_model.specs.Functions.{Function, SameFunction}
+use Rattle.definitions.specs.Functions.{Function, SameFunction}
 use Rattle.node_words.specs.Nodes.{Grows, AreNodeWords, IsNode, IsNextProbe, IsTaken, probe}
 use Rattle.node_words.specs.Meaning.{Denotes}
 use Rattle.node_words.specs.Entries.{IsEntry}

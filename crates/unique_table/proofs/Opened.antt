@@ -5,7 +5,7 @@ use Rattle.node_words.specs.Meaning.{branch}
 use Rattle.node_words.proofs.Making.{word_node}
 use Rattle.node_words.proofs.Meaning.{depth_node, depth_terminal}
 use Rattle.std.proofs.lemmas.Bool.{cases_lt}
-use Rattle.order_model.specs.Orders.{IsOrder}
+use Rattle.definitions.specs.Orders.{IsOrder}
 use Rattle.node_words.specs.declared.operation.Operation.{Operation}
 use Rattle.node_words.specs.Entries.{code_of, combine, entry_word, result_of, IsEntry}
 use Rattle.node_words.proofs.Entries.{code_some, entry_made, entry_found}

@@ -3,10 +3,10 @@ use Rattle.std.proofs.Common.{◌≡◌, ◌≢◌, ℕ, zero, suc, ◌+◌, ◌
 use Rattle.std.specs.List.{range_with_len, AllZip, All}
 use Rattle.std.proofs.lemmas.List.FromFn.{map-range_with_len_more, get_or-map-range_with_len, length-map-range_with_len}
 use lib.Seq.{get_or-drop}
-use Rattle.order_model.specs.Functions.{Function, SameFunction, from_table}
-use Rattle.order_model.specs.Problems.{functions}
-use Rattle.order_model.specs.Diagrams.{Graph, Represents, IsOf, value}
-use Rattle.order_model.specs.declared.diagrams.Ref.{Ref}
+use Rattle.definitions.specs.Functions.{Function, SameFunction, from_table}
+use Rattle.definitions.specs.Problems.{functions}
+use Rattle.definitions.specs.Diagrams.{Graph, Represents, IsOf, value}
+use Rattle.definitions.specs.declared.nodes.Ref.{Ref}
 use Rattle.node_words.specs.Nodes.{IsKnown}
 use Rattle.node_words.specs.Meaning.{function_of, Denotes}
 use Rattle.node_words.proofs.Functions.{known_small}

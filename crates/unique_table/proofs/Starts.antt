@@ -5,7 +5,7 @@ use lib.Seq.{get_or-drop}
 use mathlib.Core.Option.{some, some-injective, some-ne-none}
 use lib.ListN.{get_elem?}
 use Rattle.atomic_table.specs.Table.{opening}
-use Rattle.order_model.specs.Orders.{IsOrder}
+use Rattle.definitions.specs.Orders.{IsOrder}
 use Rattle.unique_table.specs.declared.plan.Plan.{Plan}
 use Rattle.unique_table.specs.declared.session.View.{View}
 use Rattle.unique_table.specs.Plans.{order_of, levels_of}

@@ -7,8 +7,8 @@
 --     SessionsLackWhatIsEmpty      what the last words lack their session lacks
 use Rattle.std.specs.Prelude.{◌≡◌, ◌≢◌, ℕ, ◌+◌, ◌-◌, ◌<◌, List, length, slice_index, map}
 use Rattle.std.specs.List.{range_with_len}
-use Rattle.order_model.specs.Functions.{Function}
-use Rattle.order_model.specs.Problems.{outputs_of}
+use Rattle.definitions.specs.Functions.{Function}
+use Rattle.definitions.specs.Problems.{outputs_of}
 use Rattle.node_words.specs.Nodes.{AreStored, Grows}
 use Rattle.node_words.specs.Meaning.{function_of}
 use Rattle.unique_table.specs.declared.close.CloseFault.{CloseFault}

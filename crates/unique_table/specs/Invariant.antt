@@ -8,7 +8,7 @@ use Rattle.std.specs.List.{Contains}
 use mathlib.Core.Option.{some}
 use lib.ListN.{get_elem?}
 use Rattle.atomic_table.specs.Table.{State, Me, Step}
-use Rattle.order_model.specs.Orders.{IsOrder}
+use Rattle.definitions.specs.Orders.{IsOrder}
 use Rattle.node_words.specs.Nodes.{AreNodeWords, AreUnequal, AreStored, Grows}
 use Rattle.node_words.specs.Meaning.{Denotes}
 use Rattle.node_words.specs.Entries.{IsEntry}

@@ -5,11 +5,11 @@
 use Rattle.std.specs.Prelude.{◌≡◌, ℕ, ◌+◌, ◌-◌, ◌*◌, ◌/◌, ◌%◌, ◌^◌, ◌<◌, ◌≤◌, ◌==◌, nat_lt, if◌then◌else◌, List, [], ◌∷◌, length, slice_index, map, take}
 use Rattle.std.specs.Int.{bit_at}
 use Rattle.std.specs.List.{filter, enumerate_from}
-use Rattle.order_model.specs.declared.Term.{Term}
-use Rattle.order_model.specs.Functions.{Function, SameFunction, from_table, restrict}
-use Rattle.order_model.specs.OrderFaults.{Accepts}
-use Rattle.order_model.specs.Problems.{TruthTables, outputs_of, table_at}
-use Rattle.order_model.specs.Products.{Product, product_of, product_function}
+use Rattle.definitions.specs.declared.Term.{Term}
+use Rattle.definitions.specs.Functions.{Function, SameFunction, from_table, restrict}
+use Rattle.definitions.specs.OrderFaults.{Accepts}
+use Rattle.definitions.specs.Problems.{TruthTables, outputs_of, table_at}
+use Rattle.definitions.specs.Products.{Product, product_of, product_function}
 use Rattle.unique_table.specs.declared.plan.PieceKind.{PieceKind}
 use Rattle.unique_table.specs.declared.plan.PieceKind.TheVariants.{Restrictions, Products}
 use Rattle.unique_table.specs.declared.plan.Pieces.{Pieces}

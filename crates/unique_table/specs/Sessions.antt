@@ -16,7 +16,7 @@
 use Rattle.std.specs.Prelude.{◌≡◌, ◌≢◌, ℕ, ◌+◌, ◌-◌, ◌<◌, ◌≤◌, ◌⊎◌, List, slice_index}
 use Rattle.std.specs.List.{Contains}
 use Rattle.atomic_table.specs.Seated.{TableId}
-use Rattle.order_model.specs.Functions.{Point, Function}
+use Rattle.definitions.specs.Functions.{Point, Function}
 use Rattle.node_words.specs.declared.operation.Operation.{Operation}
 use Rattle.node_words.specs.declared.words.NodeParts.{NodeParts}
 use Rattle.node_words.specs.Entries.{combine}

@@ -6,7 +6,7 @@
 use Rattle.std.specs.Prelude.{◌≡◌, ◌≢◌, ℕ, ◌+◌, ◌^◌, ◌<◌, ◌==◌, true, if◌then◌else◌, List, slice_index, slice_set}
 use mathlib.Core.Option.{some}
 use lib.ListN.{get_elem?}
-use Rattle.order_model.specs.Functions.{Function, SameFunction}
+use Rattle.definitions.specs.Functions.{Function, SameFunction}
 use Rattle.node_words.specs.Nodes.{Grows, IsNextProbe, IsNode}
 use Rattle.node_words.specs.Meaning.{Denotes}
 use Rattle.node_words.specs.Entries.{IsEntry}

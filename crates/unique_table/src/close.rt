@@ -2,8 +2,8 @@
 
 ghost use Rattle.std.specs.Prelude.{◌≡◌, ◌^◌, ◌<◌, ◌≤◌, length, slice_index, IfOk, IfErr, OnOk, map};
 ghost use Rattle.std.specs.List.{range_with_len};
-ghost use Rattle.order_model.specs.Diagrams.{Represents, IsReduced};
-ghost use Rattle.order_model.specs.Problems.{functions};
+ghost use Rattle.definitions.specs.Diagrams.{Represents, IsReduced};
+ghost use Rattle.definitions.specs.Problems.{functions};
 ghost use Rattle.unique_table.specs.Plans.{order_of, levels_of};
 ghost use Rattle.unique_table.specs.Closing.{HasAllRoots, LacksRoot, root_id, root_word, roots_count};
 

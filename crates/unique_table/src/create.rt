@@ -2,7 +2,7 @@
 
 ghost use Rattle.std.specs.Prelude.{◌≡◌, ◌*◌, ◌<◌, ◌≤◌, length, replicate, IfOk};
 ghost use Rattle.unique_table.specs.Plans.{IsKind, parts_count, top_assignments};
-ghost use Rattle.order_model.specs.Problems.{outputs_of, TruthTables};
+ghost use Rattle.definitions.specs.Problems.{outputs_of, TruthTables};
 
 use crate::plan::{PieceKind, Pieces, TermList};
 use order_model::Order;

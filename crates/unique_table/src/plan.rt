@@ -34,7 +34,7 @@ pub struct TermList {
 
 impl Model for TermList {
     ghost use Rattle.std.specs.Prelude.{List};
-    ghost use Rattle.order_model.specs.declared.terms.Term.{Term};
+    ghost use Rattle.definitions.specs.declared.terms.Term.{Term};
 
     ghost Value = { List Term };
 

@@ -2,12 +2,12 @@
 
 ghost use Rattle.std.specs.Prelude.{◌≡◌, ◌*◌, ◌<◌, ◌≤◌, [], ◌++◌, length, IfOk, ◌+◌, ◌==◌, ◌↔◌, OnErr, IfSome, IfNone, IsNone, ℕ, slice_index, ◌-◌, IfErr};
 ghost use Rattle.unique_table.specs.Plans.{AreGivenBy, IsPlanFor, IsPlan, order_of, levels_of, variable_at, piece_function};
-ghost use Rattle.order_model.specs.Problems.{functions};
-ghost use Rattle.order_model.specs.Functions.{Point};
+ghost use Rattle.definitions.specs.Problems.{functions};
+ghost use Rattle.definitions.specs.Functions.{Point};
 ghost use Rattle.node_words.specs.Nodes.{node_word, AreNodeWords, AreUnequal, IsFullFor, IsIdOf};
 ghost use Rattle.node_words.specs.Meaning.{branch};
 ghost use Rattle.unique_table.specs.Sessions.{Knows, IsKnownBelow, Means, Follows, MakesStep, HasParts, HasUniqueIds, HasLevels, MadeAll, GainsOnly, LiesNoHigher, combined_in, function_in, depth_in, HasPiece};
-ghost use Rattle.order_model.specs.Diagrams.{Represents, IsReduced};
+ghost use Rattle.definitions.specs.Diagrams.{Represents, IsReduced};
 ghost use Rattle.unique_table.specs.Stakes.{whole, half, joined};
 ghost use Rattle.unique_table.specs.Closing.{IsFinalStore, LacksRoot, MayLackRoot};
 

@@ -2,18 +2,18 @@
 use Rattle.std.proofs.Common.{ℕ, ◌+◌, ◌<◌, ◌≤◌, ◌^◌, List, [], ◌∷◌, refl, arith, lit≤, IsFalse}
 use Rattle.std.specs.List.{IsDistinct}
 use Rattle.std.proofs.lemmas.List.Elements.{All-from_recursion}
-use Rattle.order_model.specs.Functions.{Function, points, restrict, table, depends}
-use Rattle.order_model.specs.Orders.{IsOrder, has, members, without}
-use Rattle.order_model.specs.Levels.{subfunctions, reach, dependents, level_count, level_counts, size_under}
-use Rattle.order_model.specs.Widths.{outside, width, cost, arrangements, least_of, least, essential, essentials_outside}
-use Rattle.order_model.specs.Pairs.{keeps, Keeps, is_lawful, are_lawful}
-use Rattle.order_model.specs.BoundsAbove.{nodes_above}
-use Rattle.order_model.specs.declared.bounds_above.BoundAbove.TheVariants.{Variables}
-use Rattle.order_model.specs.Cells.{is_within, best_top, cell_of, IsReadFrom}
-use Rattle.order_model.specs.Certificates.{Certificate, Cell, IsGood, bound_above, set_value, AreBothLawful}
-use Rattle.order_model.specs.Diagrams.{Fewest, IsFirst}
-use Rattle.order_model.proofs.Certificates.Potential.{good_is_fewest}
-use Rattle.order_model.proofs.Widths.Clipped.{clip}
+use Rattle.definitions.specs.Functions.{Function, points, restrict, table, depends}
+use Rattle.definitions.specs.Orders.{IsOrder, has, members, without}
+use Rattle.definitions.specs.Levels.{subfunctions, reach, dependents, level_count, level_counts, size_under}
+use Rattle.definitions.specs.Widths.{outside, width, cost, arrangements, least_of, least, essential, essentials_outside}
+use Rattle.definitions.specs.Pairs.{keeps, Keeps, is_lawful, are_lawful}
+use Rattle.definitions.specs.BoundsAbove.{nodes_above}
+use Rattle.definitions.specs.declared.limits.BoundAbove.TheVariants.{Variables}
+use Rattle.definitions.specs.Cells.{is_within, best_top, cell_of, IsReadFrom}
+use Rattle.definitions.specs.Certificates.{Certificate, Cell, IsGood, bound_above, set_value, AreBothLawful}
+use Rattle.definitions.specs.Diagrams.{Fewest, IsFirst}
+use Rattle.definitions.proofs.Certificates.Potential.{good_is_fewest}
+use Rattle.definitions.proofs.Widths.Clipped.{clip}
 use Rattle.order_model.proofs.Worked.Counts.{mux}
 use Rattle.order_model.proofs.Worked.Pairs.{cell}
 

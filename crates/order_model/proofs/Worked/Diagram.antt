@@ -1,11 +1,11 @@
 -- A reduced diagram of three nodes for the conjunction and the disjunction of two variables.
 use Rattle.std.proofs.Common.{◌≡◌, ◌≢◌, ℕ, zero, suc, ◌<◌, ◌&&◌, ◌||◌, true, false, inr, [], ◌∷◌, refl, arith, slice_get, Some, lit<}
-use Rattle.order_model.specs.declared.diagrams.Ref.TheVariants.{Terminal, Place}
-use Rattle.order_model.specs.declared.diagrams.Node.{Node}
-use Rattle.order_model.specs.Functions.{Function, bit, points, SameFunction}
-use Rattle.order_model.specs.Orders.{place_in}
-use Rattle.order_model.specs.Diagrams.{Graph, IsDiagram, IsOrdered, IsOf, IsReduced, Reached, Represents, next, after, child_of, is_one, value}
-use Rattle.order_model.specs.Diagrams.Reached.{from_root, from_parent}
+use Rattle.definitions.specs.declared.nodes.Ref.TheVariants.{Terminal, Place}
+use Rattle.definitions.specs.declared.nodes.Node.{Node}
+use Rattle.definitions.specs.Functions.{Function, bit, points, SameFunction}
+use Rattle.definitions.specs.Orders.{place_in}
+use Rattle.definitions.specs.Diagrams.{Graph, IsDiagram, IsOrdered, IsOf, IsReduced, Reached, Represents, next, after, child_of, is_one, value}
+use Rattle.definitions.specs.Diagrams.Reached.{from_root, from_parent}
 
 abbrev both : Function
 both p = bit p 0 && bit p 1

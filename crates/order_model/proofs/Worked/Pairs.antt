@@ -2,24 +2,24 @@
 use Rattle.std.proofs.Common.{◌≡◌, ℕ, zero, suc, ◌<◌, refl, sym, true, List, [], ◌∷◌, map, lit<, arith, nat_eq}
 use Rattle.std.specs.List.{IsDistinct}
 use Rattle.std.proofs.lemmas.Bool.{false≢true}
-use Rattle.order_model.specs.Functions.{points, restrict, table, depends}
-use Rattle.order_model.specs.Orders.{IsOrder, has, members, place_in, without}
-use Rattle.order_model.specs.Pairs.{Pair, is_above, keeps, Keeps, is_lawful, are_lawful, sorted_pairs, IsGreedy, IsFirstOrder, Leads, IsPairCycle}
-use Rattle.order_model.specs.Pairs.Leads.{by_one, by_more}
-use Rattle.order_model.specs.Levels.{subfunctions, reach, dependents, level_count, level_counts, size_under}
-use Rattle.order_model.specs.Widths.{outside, width, cost, arrangements, least_of, least, essential, essentials_outside}
-use Rattle.order_model.specs.BoundsAbove.{functions_with, functions_without, asked_by, nodes_above}
-use Rattle.order_model.specs.declared.bounds_above.BoundAbove.TheVariants.{Variables, Widths}
-use Rattle.order_model.specs.Cells.{open_tops, is_within, best_top, cell_of, cell_cost, wanted, widths_taken, IsReadFrom}
-use Rattle.order_model.specs.Diagrams.{FewestKeeping, IsFirstKeeping}
-use Rattle.order_model.specs.Certificates.{Certificate, Cell, IsGood, bound_above, set_value, Applies, listed_masks, least_listed, certificate_of}
-use Rattle.order_model.specs.Certificates.Reason.{Edge, CellTooBig, Pairs}
-use Rattle.order_model.specs.Sifting.{placements, smallest_order, smallest_of, best, insert_by_count, sifting_order, sifted}
+use Rattle.definitions.specs.Functions.{points, restrict, table, depends}
+use Rattle.definitions.specs.Orders.{IsOrder, has, members, place_in, without}
+use Rattle.definitions.specs.Pairs.{Pair, is_above, keeps, Keeps, is_lawful, are_lawful, sorted_pairs, IsGreedy, IsFirstOrder, Leads, IsPairCycle}
+use Rattle.definitions.specs.Pairs.Leads.{by_one, by_more}
+use Rattle.definitions.specs.Levels.{subfunctions, reach, dependents, level_count, level_counts, size_under}
+use Rattle.definitions.specs.Widths.{outside, width, cost, arrangements, least_of, least, essential, essentials_outside}
+use Rattle.definitions.specs.BoundsAbove.{functions_with, functions_without, asked_by, nodes_above}
+use Rattle.definitions.specs.declared.limits.BoundAbove.TheVariants.{Variables, Widths}
+use Rattle.definitions.specs.Cells.{open_tops, is_within, best_top, cell_of, cell_cost, wanted, widths_taken, IsReadFrom}
+use Rattle.definitions.specs.Diagrams.{FewestKeeping, IsFirstKeeping}
+use Rattle.definitions.specs.Certificates.{Certificate, Cell, IsGood, bound_above, set_value, Applies, listed_masks, least_listed, certificate_of}
+use Rattle.definitions.specs.Certificates.Reason.{Edge, CellTooBig, Pairs}
+use Rattle.definitions.specs.Sifting.{placements, smallest_order, smallest_of, best, insert_by_count, sifting_order, sifted}
 use Rattle.order_model.proofs.Worked.Counts.{parity3, mux}
-use Rattle.order_model.proofs.Widths.Clipped.{clip}
-use Rattle.order_model.proofs.Certificates.Written.{cert_of_is_good}
-use Rattle.order_model.proofs.Certificates.Potential.{good_is_fewest}
-use Rattle.order_model.proofs.Precedence.Cycles.{greedy_is_first}
+use Rattle.definitions.proofs.Widths.Clipped.{clip}
+use Rattle.definitions.proofs.Certificates.Written.{cert_of_is_good}
+use Rattle.definitions.proofs.Certificates.Potential.{good_is_fewest}
+use Rattle.definitions.proofs.Precedence.Cycles.{greedy_is_first}
 
 -- the multiplexer's cells for the bound 3
 mux_cells : map (cell_of 3 (mux ∷ []) [] Variables 3) (1 ∷ 2 ∷ 4 ∷ 3 ∷ 5 ∷ 6 ∷ 7 ∷ []) ≡ (1, 0) ∷ (1, 1) ∷ (4, 2) ∷ (2, 0) ∷ (4, 0) ∷ (4, 1) ∷ (3, 2) ∷ []

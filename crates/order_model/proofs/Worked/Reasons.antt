@@ -2,13 +2,13 @@
 use Rattle.std.proofs.Common.{◌≡◌, ℕ, refl, true, List, [], ◌∷◌, length, arith, lit<, nat_cmp, Less}
 use Rattle.std.specs.Cmp.Lexicographic.{slice_cmp}
 use Rattle.std.specs.List.{IsDistinct}
-use Rattle.order_model.specs.Functions.{Function, points, restrict, table, depends}
-use Rattle.order_model.specs.Orders.{IsOrder, has, members}
-use Rattle.order_model.specs.Pairs.{keeps, Keeps}
-use Rattle.order_model.specs.Levels.{subfunctions, reach, dependents, level_count, level_counts}
-use Rattle.order_model.specs.Widths.{essential, essentials_outside}
-use Rattle.order_model.specs.Certificates.{Certificate, bound_above, set_value, Applies, rank_of, IsFirstReason}
-use Rattle.order_model.specs.Certificates.Reason.{Pairs, Total, CellTooBig, Edge}
+use Rattle.definitions.specs.Functions.{Function, points, restrict, table, depends}
+use Rattle.definitions.specs.Orders.{IsOrder, has, members}
+use Rattle.definitions.specs.Pairs.{keeps, Keeps}
+use Rattle.definitions.specs.Levels.{subfunctions, reach, dependents, level_count, level_counts}
+use Rattle.definitions.specs.Widths.{essential, essentials_outside}
+use Rattle.definitions.specs.Certificates.{Certificate, bound_above, set_value, Applies, rank_of, IsFirstReason}
+use Rattle.definitions.specs.Certificates.Reason.{Pairs, Total, CellTooBig, Edge}
 use Rattle.order_model.proofs.Worked.Counts.{parity3, mux}
 use Rattle.order_model.proofs.Worked.Pairs.{is_order, below_three, order_021, cell, of_parity, of_mux, parity_edge, parity_too_big, without_pair, other_pair, last_above_first}
 

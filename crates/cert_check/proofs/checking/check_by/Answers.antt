@@ -1,5 +1,5 @@
 use Rattle.std.proofs.Common.{rules}
-use Rattle.order_model.specs.Problems.{functions}
+use Rattle.definitions.specs.Problems.{functions}
 use Rattle.cert_check.proofs.Verdicts.{verdict_from}
 use Rattle.cert_check.proofs.checking.check_by.Goals as goal
 

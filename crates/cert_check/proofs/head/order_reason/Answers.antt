@@ -1,5 +1,5 @@
 use Rattle.std.proofs.Common.{arith}
-use Rattle.order_model.proofs.Precedence.MaskLaws.{order_of}
+use Rattle.definitions.proofs.Precedence.MaskLaws.{order_of}
 use Rattle.cert_check.proofs.Reasons.{order_first, pairs_first}
 use Rattle.cert_check.proofs.head.order_reason.Goals as goal
 

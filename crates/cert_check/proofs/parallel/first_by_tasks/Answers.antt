@@ -5,7 +5,7 @@ use Rattle.std.proofs.lemmas.Nat.{one_shl}
 use Rattle.rayon.specs.Numbers.{nat_range}
 use Rattle.rayon.proofs.ToStd.{nat_range-All}
 use Rattle.rayon.proofs.ListFacts.{IfOk-then}
-use Rattle.order_model.specs.Problems.{functions}
+use Rattle.definitions.specs.Problems.{functions}
 use Rattle.cert_check.specs.Edges.{IsFirstEdge, IsFirstOfParts, part_at}
 use Rattle.cert_check.specs.Walks.{CanStart, FailsInBlock}
 use Rattle.cert_check.proofs.Parts.{parts_first}

@@ -1,7 +1,7 @@
 use Rattle.std.proofs.Common.{ℕ, IfSome, Some, subst, arith}
 use Rattle.std.proofs.Math.Pow.{pow_mono}
 use Rattle.rayon.proofs.ListFacts.{IfOk-then}
-use Rattle.order_model.specs.Problems.{functions}
+use Rattle.definitions.specs.Problems.{functions}
 use Rattle.cert_check.specs.Edges.{EdgeFails, IsFirstEdge}
 use Rattle.cert_check.specs.Walks.{AreEnough}
 use Rattle.cert_check.proofs.FewerEdges.{fewer_tables, first_again}

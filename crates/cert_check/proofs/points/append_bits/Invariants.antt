@@ -1,6 +1,6 @@
 use Rattle.std.proofs.Common.{◌≡◌, ◌+◌, ◌*◌, ◌<◌, ◌≤◌, ℕ, length, slice_index}
-use Rattle.order_model.specs.Functions.{weight}
-use Rattle.order_model.specs.Problems.{packed_bit}
+use Rattle.definitions.specs.Functions.{weight}
+use Rattle.definitions.specs.Problems.{packed_bit}
 use Rattle.cert_check.proofs.points.append_bits.Given as goal
 
 abbrev pub invariant-loop-point : goal.invariant-loop-point

@@ -1,6 +1,6 @@
 use Rattle.std.proofs.Common.{arith}
 use Rattle.std.proofs.lemmas.Nat.{one_shl}
-use Rattle.order_model.proofs.Widths.Cells.{member_below}
+use Rattle.definitions.proofs.Widths.Cells.{member_below}
 use Rattle.cert_check.proofs.IntoSet.{bit_needs}
 use Rattle.cert_check.proofs.pruning.needed_widths.Goals as goal
 

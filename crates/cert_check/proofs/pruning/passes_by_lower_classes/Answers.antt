@@ -3,7 +3,7 @@ use Rattle.std.specs.Int.{bit_at}
 use Rattle.std.proofs.Math.Pow.{pow_mono}
 use Rattle.std.proofs.lemmas.Nat.{one_shl, pow_pos}
 use Rattle.rayon.proofs.ListFacts.{IfOk-then}
-use Rattle.order_model.specs.Problems.{functions}
+use Rattle.definitions.specs.Problems.{functions}
 use Rattle.cert_check.specs.LowerClasses.{IsWide}
 use Rattle.cert_check.specs.Tables.{rows_with}
 use Rattle.pair_chains.proofs.HighSets.{double}

@@ -1,7 +1,7 @@
 use Rattle.std.proofs.Common.{◌+◌, ◌-◌, ◌^◌, arith}
 use Rattle.std.proofs.Math.Pow.{pow_mono}
 use Rattle.std.proofs.lemmas.Nat.{one_shl, pow_pos}
-use Rattle.order_model.specs.Problems.{functions}
+use Rattle.definitions.specs.Problems.{functions}
 use Rattle.cert_check.proofs.FirstEdges.{none_judged}
 use Rattle.pair_chains.proofs.HighSets.{double}
 use Rattle.cert_check.proofs.walk.has_upper_judged.Goals as goal

@@ -1,5 +1,5 @@
 use Rattle.std.proofs.Common.{◌≡◌, true, ◌∙◌, ap, ◌∷◌, arith, rules}
-use Rattle.order_model.specs.Texts.{same}
+use Rattle.definitions.specs.Texts.{same}
 use Rattle.certificate.specs.Faults.{words}
 use Rattle.certificate.proofs.Judges.{same_is}
 use Rattle.certificate.proofs.LineWords.{cut_words}

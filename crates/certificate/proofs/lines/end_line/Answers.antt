@@ -1,5 +1,5 @@
 use Rattle.std.proofs.Common.{sym, ap, ◌∙◌}
-use Rattle.order_model.specs.Texts.{same}
+use Rattle.definitions.specs.Texts.{same}
 use Rattle.certificate.proofs.LineWords.{end_yes, end_no}
 use Rattle.certificate.proofs.lines.end_line.Goals as goal
 

@@ -1,5 +1,5 @@
 use Rattle.std.proofs.Common.{sym, ap, ◌∙◌}
-use Rattle.order_model.specs.Texts.{same}
+use Rattle.definitions.specs.Texts.{same}
 use Rattle.certificate.proofs.LineWords.{first_title, second_title, no_title}
 use Rattle.certificate.proofs.lines.title_line.Goals as goal
 

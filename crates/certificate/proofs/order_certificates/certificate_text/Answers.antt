@@ -4,9 +4,9 @@ use Rattle.std.specs.declared.alloc.AllocError.{AllocError}
 use Rattle.std.proofs.lemmas.List.{length-map}
 use Rattle.certificate.specs.Faults.{Spells}
 use Rattle.certificate.specs.Spelling.{HasSpelling, spelling}
-use Rattle.order_model.specs.Certificates.{Certificate, certificate_of}
-use Rattle.order_model.specs.Functions.{from_table}
-use Rattle.order_model.specs.Problems.{functions}
+use Rattle.definitions.specs.Certificates.{Certificate, certificate_of}
+use Rattle.definitions.specs.Functions.{from_table}
+use Rattle.definitions.specs.Problems.{functions}
 use Rattle.certificate.proofs.OrderParts.{parts_same}
 use Rattle.certificate.proofs.order_certificates.certificate_text.Goals as goal
 

@@ -1,6 +1,6 @@
 use Rattle.std.proofs.Common.{ℕ, List, sym, ◌∙◌, ap, [], ◌∷◌, ◌++◌, get_or, codes, refl}
 use Rattle.certificate.specs.Spelling.{most_nodes}
-use Rattle.order_model.specs.Texts.{number_of}
+use Rattle.definitions.specs.Texts.{number_of}
 use Rattle.certificate.specs.Faults.{LineTest, title_fault, field_fault, head_judges}
 use Rattle.certificate.specs.Decoded.{numbers_of}
 use Rattle.certificate.specs.Parsing.{outcome}

@@ -1,6 +1,6 @@
 use Rattle.std.proofs.Common.{◌≡◌, ◌++◌, map, length}
 use Rattle.std.specs.List.{list_all}
-use Rattle.order_model.specs.Texts.{number_of}
+use Rattle.definitions.specs.Texts.{number_of}
 use Rattle.certificate.specs.Faults.{words, is_decimal}
 use Rattle.certificate.proofs.reader.numbers_in.Given as goal
 

@@ -1,5 +1,5 @@
 use Rattle.std.proofs.Common.{◌++◌, ap, ◌∙◌, string_bytes, arith}
-use Rattle.order_model.specs.Listed.{listed}
+use Rattle.definitions.specs.Listed.{listed}
 use Rattle.certificate.proofs.Written.{zero_padded, cell_written}
 use Rattle.certificate.proofs.texts.push_cell.Goals as goal
 

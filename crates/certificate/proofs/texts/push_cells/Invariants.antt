@@ -1,6 +1,6 @@
 use Rattle.std.proofs.Common.{◌≡◌, ◌++◌, map, take, string_bytes}
 use Rattle.std.specs.List.{flat_map}
-use Rattle.order_model.specs.Listed.{listed}
+use Rattle.definitions.specs.Listed.{listed}
 use Rattle.certificate.specs.Spelling.{text_line, cell_words}
 use Rattle.certificate.proofs.texts.push_cells.Given as goal
 

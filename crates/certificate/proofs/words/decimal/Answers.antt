@@ -2,7 +2,7 @@ use Rattle.std.proofs.Common.{◌≡◌, ◌≤◌, ◌<◌, ◌&&◌, true, get
 use Rattle.std.specs.Str.{all_ascii_digits}
 use Rattle.std.proofs.lemmas.Bool.{and_parts}
 use Rattle.std.proofs.lemmas.Str.Parse.{digits_value_short, numerals_by_value, tells_all_ascii_digits}
-use Rattle.order_model.specs.Texts.{number_of, is_number}
+use Rattle.definitions.specs.Texts.{number_of, is_number}
 use Rattle.certificate.proofs.Numbers.{spelled_digits, decimal_some, decimal_short, decimal_leads, decimal_all}
 use Rattle.certificate.proofs.words.decimal.Goals as goal
 use Rattle.certificate.proofs.words.decimal.Goals.{else-word-gt1-via-then-word-gt1+else-word-eq48, else-word-gt1-via-else-word-gt1}

@@ -1,5 +1,5 @@
 use Rattle.std.proofs.Common.{subst}
-use Rattle.order_model.specs.Problems.{functions}
+use Rattle.definitions.specs.Problems.{functions}
 use Rattle.truth_table.specs.OfCovers.{AreTablesOf}
 use Rattle.cert_check.specs.Verdicts.{Judges, reason_of}
 use Rattle.checks.proofs.Checked.{good_for, reason_for}

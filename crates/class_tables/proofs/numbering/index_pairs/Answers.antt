@@ -1,7 +1,7 @@
 use Rattle.std.proofs.Common.{◌+◌, ◌^◌, ◌<◌, length, take, ◌/◌, [], ◌∷◌, ◌++◌, sym, ap, subst, ◌∙◌, arith, if◌then◌else◌}
 use Rattle.std.specs.List.{list_any, position_or_len}
-use Rattle.order_model.specs.Widths.{same_pair}
-use Rattle.order_model.proofs.Widths.ClassPairs.{pair_decides}
+use Rattle.definitions.specs.Widths.{same_pair}
+use Rattle.definitions.proofs.Widths.ClassPairs.{pair_decides}
 use Rattle.subfunction_classes.specs.Numbering.{rank}
 use Rattle.subfunction_classes.specs.Places as places
 use Rattle.subfunction_classes.proofs.RankLaws.{Numbers, numbers_none}

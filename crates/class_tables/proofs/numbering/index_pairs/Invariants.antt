@@ -1,9 +1,9 @@
 use Rattle.std.proofs.Common.{◌≡◌, ◌^◌, map, take}
-use Rattle.order_model.specs.Widths.{same_pair}
+use Rattle.definitions.specs.Widths.{same_pair}
 use Rattle.subfunction_classes.specs.Numbering.{rank}
 use Rattle.subfunction_classes.specs.Places as places
 use Rattle.subfunction_classes.proofs.RankLaws.{Numbers}
-use Rattle.order_model.proofs.Widths.ClassPairs.{pair_decides}
+use Rattle.definitions.proofs.Widths.ClassPairs.{pair_decides}
 use Rattle.class_tables.proofs.numbering.index_pairs.Given as goal
 
 abbrev pub invariant-loop-j : goal.invariant-loop-j

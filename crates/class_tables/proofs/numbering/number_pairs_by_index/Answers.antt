@@ -1,7 +1,7 @@
 use Rattle.std.proofs.Common.{◌^◌, get_or, length, map, sym, ap, ◌∙◌, subst}
 use Rattle.subfunction_classes.specs.Dependence.{joined_mask}
 use Rattle.subfunction_classes.specs.Places as places
-use Rattle.order_model.specs.Widths.{same_pair}
+use Rattle.definitions.specs.Widths.{same_pair}
 use Rattle.subfunction_classes.specs.Numbering.{ranks}
 use Rattle.pair_numbering.specs.Numbers.{ArePairsBelow, ArePairsNumbered}
 use Rattle.subfunction_classes.proofs.DistinctPairs.{met_classes, masks_many, masks_told}

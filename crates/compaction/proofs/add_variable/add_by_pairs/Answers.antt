@@ -2,12 +2,12 @@ use Rattle.std.proofs.Common.{ℕ, List, refl, ◌*◌, ◌^◌, length, sym, ap
 use Rattle.std.proofs.lemmas.Grind.{common_steps}
 use Rattle.std.proofs.Math.Nat.{add-mul-div_right, div-eq_of_lt, mul-le-mul_left}
 use Rattle.std.proofs.lemmas.Nat.{pow_pos}
-use Rattle.pair_numbering.specs.Strips.{AreNamed, names_of, unrolled}
+use Rattle.subfunction_classes.specs.Strips.{AreNamed, names_of, unrolled}
 use Rattle.pair_numbering.specs.Keys.{TellsPairs}
 use Rattle.subfunction_classes.specs.Places as places
 use Rattle.subfunction_classes.proofs.Index.{length-pairs}
 use Rattle.pair_numbering.proofs.Names.{names_below, length_names}
-use Rattle.pair_numbering.proofs.Unrolled.{length_named, length_names_of}
+use Rattle.subfunction_classes.proofs.Unrolled.{length_named, length_names_of}
 use Rattle.compaction.specs.Strips.{GrowsStrips, StripTableOf}
 use Rattle.compaction.proofs.Paired.{paired_few, paired_long, paired_lower, paired_named, paired_upper}
 use Rattle.compaction.proofs.Stripped.{high_strips, high_tells}

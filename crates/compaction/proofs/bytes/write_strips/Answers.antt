@@ -1,9 +1,9 @@
 use Rattle.std.proofs.Common.{◌≡◌, ◌+◌, ◌*◌, ◌<◌, ◌++◌, ◌∷◌, [], get_or, set, take, length, sym, subst, ◌∙◌, arith}
 use Rattle.std.proofs.lemmas.List.{take_more, take_more_set, take_all, length-set}
-use Rattle.pair_numbering.specs.Strips.{unrolled}
+use Rattle.subfunction_classes.specs.Strips.{unrolled}
 use Rattle.subfunction_classes.proofs.BlockPlaces.{block_next}
 use Rattle.compaction.proofs.Stripped.{below_product}
-use Rattle.pair_numbering.proofs.Unrolled.{length_named, named_at, named_inside}
+use Rattle.subfunction_classes.proofs.Unrolled.{length_named, named_at, named_inside}
 use Rattle.compaction.proofs.bytes.write_strips.Goals as goal
 
 pub loop-a-init : goal.loop-a-init

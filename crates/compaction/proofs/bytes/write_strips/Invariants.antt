@@ -1,5 +1,5 @@
 use Rattle.std.proofs.Common.{◌≡◌, ◌+◌, ◌*◌, take, length}
-use Rattle.pair_numbering.specs.Strips.{unrolled}
+use Rattle.subfunction_classes.specs.Strips.{unrolled}
 use Rattle.compaction.proofs.bytes.write_strips.Given as goal
 
 abbrev pub invariant-loop-i : goal.invariant-loop-i

@@ -3,7 +3,7 @@ use Rattle.std.proofs.lemmas.Grind.{common_steps}
 use Rattle.std.proofs.lemmas.Bool.{iff_false}
 use Rattle.std.proofs.lemmas.Nat.Bits.{shr_and_one}
 use Rattle.std.proofs.Math.Nat.{mod-eq_of_lt}
-use Rattle.order_model.specs.Orders.{has}
+use Rattle.definitions.specs.Orders.{has}
 use Rattle.subfunction_classes.specs.Table.{ClassesOf, set_of}
 use Rattle.subfunction_classes.proofs.LowSets.{low_more, low_same, low_new}
 use Rattle.compaction.proofs.low_tables.add_members.Goals as goal

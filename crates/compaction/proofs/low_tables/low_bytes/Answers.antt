@@ -2,7 +2,7 @@ use Rattle.std.proofs.Common.{sym, ap, ◌∙◌, arith}
 use Rattle.std.proofs.lemmas.Grind.{common_steps}
 use Rattle.std.proofs.lemmas.Bool.{iff_false}
 use Rattle.std.proofs.lemmas.Nat.Bits.{shr_and_one}
-use Rattle.order_model.specs.Orders.{has}
+use Rattle.definitions.specs.Orders.{has}
 use Rattle.subfunction_classes.specs.Table.{ClassesOf, classes_of, set_of, with_variable}
 use Rattle.subfunction_classes.proofs.LowSets.{low_more, low_same, low_new}
 use Rattle.compaction.proofs.low_tables.low_bytes.Goals as goal

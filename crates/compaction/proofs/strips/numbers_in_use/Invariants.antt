@@ -1,5 +1,5 @@
 use Rattle.std.proofs.Common.{◌≡◌, ◌<◌, ℕ, false, get_or, take, length}
-use Rattle.order_model.specs.Orders.{has}
+use Rattle.definitions.specs.Orders.{has}
 use Rattle.compaction.proofs.strips.numbers_in_use.Given as goal
 
 abbrev pub invariant-loop-number : goal.invariant-loop-number

@@ -1,5 +1,5 @@
 use Rattle.std.proofs.Common.{arith, rules}
-use Rattle.pair_numbering.specs.Strips.{names_of}
+use Rattle.subfunction_classes.specs.Strips.{names_of}
 use Rattle.compaction_tests.proofs.numberings.labels_strip_pairs.Goals as goal
 
 pub label_strip_pairs-four-requires-clause-named : goal.label_strip_pairs-four-requires-clause-named

@@ -1,6 +1,6 @@
 use Rattle.std.proofs.Common.{subst}
-use Rattle.order_model.specs.Orders.{IsOrder}
-use Rattle.order_model.specs.Problems.{functions}
+use Rattle.definitions.specs.Orders.{IsOrder}
+use Rattle.definitions.specs.Problems.{functions}
 use Rattle.dd_builder.specs.Building.{IsDiagramOf}
 use Rattle.pla_reader.specs.Covers.{functions_of}
 use Rattle.dd_builder.proofs.SessionSteps.{ok_same}

@@ -1,7 +1,7 @@
 use Rattle.std.proofs.Common.{ℕ, ◌<◌, sym, ◌∙◌, subst}
-use Rattle.order_model.specs.Functions.{SameFunction}
-use Rattle.order_model.specs.Problems.{TruthTables, outputs_of}
-use Rattle.order_model.specs.Products.{product_function}
+use Rattle.definitions.specs.Functions.{SameFunction}
+use Rattle.definitions.specs.Problems.{TruthTables, outputs_of}
+use Rattle.definitions.specs.Products.{product_function}
 use Rattle.unique_table.specs.Plans.{products_of, output_at}
 use Rattle.dd_builder.proofs.Covers.{terms_give, store_for}
 use Rattle.dd_builder.proofs.SessionSteps.{ok_same}

@@ -1,6 +1,6 @@
 use Rattle.std.proofs.Common.{false, take, arith}
 use Rattle.std.proofs.lemmas.List.{length-map, get_or-map}
-use Rattle.order_model.specs.Products.{product_function}
+use Rattle.definitions.specs.Products.{product_function}
 use Rattle.unique_table.specs.Plans.{share, products_of}
 use Rattle.unique_table.proofs.Following.{follows_trans}
 use Rattle.dd_builder.proofs.SessionSteps.{stays, means_same, means_at}

@@ -1,5 +1,5 @@
 use Rattle.std.proofs.Common.{◌≡◌, ◌-◌, ◌%◌, length, take}
-use Rattle.order_model.specs.Products.{product_function}
+use Rattle.definitions.specs.Products.{product_function}
 use Rattle.unique_table.specs.Plans.{share, products_of}
 use Rattle.unique_table.specs.Sessions.{Follows, Means}
 use Rattle.dd_builder.proofs.cover_terms.output_share.Given as goal

@@ -1,6 +1,6 @@
 use Rattle.std.proofs.Common.{◌+◌, ◌*◌, ◌%◌, ◌^◌, ◌≤◌, ◌<◌, get_or, length, take, refl, sym, ap, ap₂, ◌∙◌, subst, arith, bit_or}
-use Rattle.order_model.specs.Orders.{IsOrder}
-use Rattle.order_model.specs.Problems.{TruthTables, outputs_of}
+use Rattle.definitions.specs.Orders.{IsOrder}
+use Rattle.definitions.specs.Problems.{TruthTables, outputs_of}
 use Rattle.unique_table.specs.Plans.{order_of, levels_of, output_at, fixed}
 use Rattle.unique_table.specs.Sessions.{StoreId, Means}
 use Rattle.unique_table.proofs.Following.{follows_trans}

@@ -1,5 +1,5 @@
 use Rattle.std.proofs.Common.{◌∙◌, ap}
-use Rattle.order_model.specs.Cells.{cell_of}
+use Rattle.definitions.specs.Cells.{cell_of}
 use Rattle.layer_core.specs.Machine.{Layout, World, opening, run}
 use Rattle.layer_core.specs.Rights.{IsCellFor, all_cells}
 use Rattle.layer_core.proofs.Runs.{right_after, layout_stays, cells_are}

@@ -2,7 +2,7 @@ use Rattle.std.proofs.Common.{◌≡◌, ℕ, ◌+◌, ◌<◌, List, [], ◌∷
 use Rattle.std.proofs.lemmas.List.{map-append, take_all, take_more}
 use Rattle.minorder_c.specs.declared.above.AbovePair.{AbovePair}
 use Rattle.minorder_c.specs.Answers.{pairs_given}
-use Rattle.order_model.specs.Pairs.{Pair}
+use Rattle.definitions.specs.Pairs.{Pair}
 use Rattle.minorder_c.proofs.above.numbers_of.Goals as goal
 
 -- the numbers of one pair more

@@ -1,6 +1,6 @@
 use Rattle.std.proofs.Common.{subst}
-use Rattle.order_model.specs.OrderFaults.{IsNoOrder}
-use Rattle.order_model.proofs.Precedence.Greedy.{in_range}
+use Rattle.definitions.specs.OrderFaults.{IsNoOrder}
+use Rattle.definitions.proofs.Precedence.Greedy.{in_range}
 use Rattle.minorder_c.proofs.arguments.order_of.Goals as goal
 
 pub returns-in-Err-OutOfRange-clause-refused : goal.returns-in-Err-OutOfRange-clause-refused

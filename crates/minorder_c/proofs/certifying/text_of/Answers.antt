@@ -1,7 +1,7 @@
 use Rattle.std.proofs.Common.{ap, refl, string_bytes, subst, sym}
-use Rattle.order_model.specs.Diagrams.{IsFirstKeeping}
-use Rattle.order_model.specs.KeptPairs.{KeptPairs}
-use Rattle.order_model.specs.Problems.{TruthTables, functions}
+use Rattle.definitions.specs.Diagrams.{IsFirstKeeping}
+use Rattle.definitions.specs.KeptPairs.{KeptPairs}
+use Rattle.definitions.specs.Problems.{TruthTables, functions}
 use Rattle.minorder_c.proofs.Certificates.{solution_text}
 use Rattle.minorder_c.proofs.certifying.text_of.Goals as goal
 

@@ -1,6 +1,6 @@
 use Rattle.std.proofs.Common.{length, rules, ap, ◌∙◌}
-use Rattle.order_model.specs.Problems.{functions}
-use Rattle.order_model.proofs.Widths.SizeBounds.{order_length}
+use Rattle.definitions.specs.Problems.{functions}
+use Rattle.definitions.proofs.Widths.SizeBounds.{order_length}
 use Rattle.minorder_c.proofs.Counts.{order_counts_long}
 use Rattle.minorder_c.proofs.exact.optimum.Goals as goal
 

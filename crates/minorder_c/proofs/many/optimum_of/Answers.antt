@@ -1,5 +1,5 @@
 use Rattle.std.proofs.Common.{ap, ◌∙◌}
-use Rattle.order_model.specs.Problems.{TruthTables}
+use Rattle.definitions.specs.Problems.{TruthTables}
 use Rattle.minorder_c.proofs.many.optimum_of.Goals as goal
 
 pub returns-clause-long : goal.returns-clause-long

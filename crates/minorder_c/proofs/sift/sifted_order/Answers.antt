@@ -1,9 +1,9 @@
 use Rattle.std.proofs.Common.{◌≡◌, List, sym, ◌∙◌, subst}
-use Rattle.order_model.specs.Pairs.{Pair, Keeps}
-use Rattle.order_model.specs.Problems.{functions, packed_tables}
-use Rattle.order_model.specs.Levels.{level_counts, size_under}
-use Rattle.order_model.specs.Sifting.{sifted}
-use Rattle.order_model.proofs.Precedence.Lists.{nothing_to_keep}
+use Rattle.definitions.specs.Pairs.{Pair, Keeps}
+use Rattle.definitions.specs.Problems.{functions, packed_tables}
+use Rattle.definitions.specs.Levels.{level_counts, size_under}
+use Rattle.definitions.specs.Sifting.{sifted}
+use Rattle.definitions.proofs.Precedence.Lists.{nothing_to_keep}
 use Rattle.minorder_c.specs.Answers.{functions_in}
 use Rattle.minorder_c.proofs.Counts.{counts_read}
 use Rattle.minorder_c.proofs.sift.sifted_order.Goals as goal

@@ -1,5 +1,5 @@
 use Rattle.std.proofs.Common.{◌∙◌}
-use Rattle.order_model.proofs.Widths.SizeBounds.{order_length}
+use Rattle.definitions.proofs.Widths.SizeBounds.{order_length}
 use Rattle.minorder_c.proofs.sifting_from.bound_of.Goals as goal
 
 pub sifted_from-requires-clause-long : goal.sifted_from-requires-clause-long

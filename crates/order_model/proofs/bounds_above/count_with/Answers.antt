@@ -1,5 +1,5 @@
 use Rattle.std.proofs.Common.{arith, length-take}
-use Rattle.order_model.proofs.Lists.Ranges.{filter_at_most}
+use Rattle.definitions.proofs.Lists.Ranges.{filter_at_most}
 use Rattle.order_model.proofs.bounds_above.count_with.Goals as goal
 
 pub overflow_add-count : goal.overflow_add-count

@@ -1,6 +1,6 @@
 use Rattle.std.proofs.Common.{◌∙◌, arith}
 use Rattle.std.proofs.lemmas.List.{length-set}
-use Rattle.order_model.proofs.Bits.BoundsAbove.{supports_next, supports_all}
+use Rattle.definitions.proofs.Bits.BoundsAbove.{supports_next, supports_all}
 use Rattle.order_model.proofs.bounds_above.supports.Goals as goal
 
 pub loop-output-preserved : goal.loop-output-preserved

@@ -1,6 +1,6 @@
 use Rattle.std.proofs.Common.{◌≡◌, length, map, take}
-use Rattle.order_model.specs.Functions.{from_table}
-use Rattle.order_model.specs.BoundsAbove.{support}
+use Rattle.definitions.specs.Functions.{from_table}
+use Rattle.definitions.specs.BoundsAbove.{support}
 use Rattle.order_model.proofs.bounds_above.supports.Given as goal
 
 abbrev pub invariant-loop-output : goal.invariant-loop-output

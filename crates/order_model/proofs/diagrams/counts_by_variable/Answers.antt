@@ -1,6 +1,6 @@
 use Rattle.std.proofs.Common.{◌∙◌}
 use Rattle.std.proofs.lemmas.List.{length-set}
-use Rattle.order_model.proofs.Nodes.Counts.{counts_more}
+use Rattle.definitions.proofs.Nodes.Counts.{counts_more}
 use Rattle.order_model.proofs.diagrams.counts_by_variable.Goals as goal
 
 pub loop-node-preserved : goal.loop-node-preserved

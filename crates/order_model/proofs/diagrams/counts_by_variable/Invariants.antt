@@ -1,5 +1,5 @@
 use Rattle.std.proofs.Common.{◌≡◌, length}
-use Rattle.order_model.proofs.Nodes.Counts.{CountsFirst}
+use Rattle.definitions.proofs.Nodes.Counts.{CountsFirst}
 use Rattle.order_model.proofs.diagrams.counts_by_variable.Given as goal
 
 abbrev pub invariant-loop-node : goal.invariant-loop-node

@@ -1,4 +1,4 @@
-use Rattle.order_model.proofs.Widths.BoundsAbove.{bounded_step, bounded_bound}
+use Rattle.definitions.proofs.Widths.BoundsAbove.{bounded_step, bounded_bound}
 use Rattle.order_model.proofs.laws.bounds_above_are_lower_bounds.Goals as goal
 
 pub returns-clause-step : goal.returns-clause-step

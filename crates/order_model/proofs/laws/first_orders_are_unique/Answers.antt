@@ -1,4 +1,4 @@
-use Rattle.order_model.proofs.Lists.Firsts.{first_order_unique, first_keeping_unique, cert_unique}
+use Rattle.definitions.proofs.Lists.Firsts.{first_order_unique, first_keeping_unique, cert_unique}
 use Rattle.order_model.proofs.laws.first_orders_are_unique.Goals as goal
 
 pub returns-clause-kept : goal.returns-clause-kept

@@ -1,6 +1,6 @@
 use Rattle.std.proofs.Common.{map}
-use Rattle.order_model.specs.Functions.{from_table, table}
-use Rattle.order_model.proofs.Functions.Same.{tables_same, level_counts_same}
+use Rattle.definitions.specs.Functions.{from_table, table}
+use Rattle.definitions.proofs.Functions.Same.{tables_same, level_counts_same}
 use Rattle.order_model.proofs.laws.truth_tables_keep_functions.Goals as goal
 
 pub returns-clause-same : goal.returns-clause-same

@@ -1,7 +1,7 @@
 use Rattle.std.proofs.Common.{◌≡◌, ◌<◌, ℕ, length, get_or, subst, arith}
 use Rattle.std.proofs.lemmas.Bool.{iff_false}
 use Rattle.std.proofs.lemmas.Nat.Bits.{bit_at_set_same, bit_at_set_other}
-use Rattle.order_model.proofs.Lists.Accepted.{Seen, seen_none, seen_repeated, seen_more, seen_all}
+use Rattle.definitions.proofs.Lists.Accepted.{Seen, seen_none, seen_repeated, seen_more, seen_all}
 use Rattle.order_model.proofs.orders.has_repeat.Goals as goal
 
 pub loop-x-init : goal.loop-x-init

@@ -1,4 +1,4 @@
-use Rattle.order_model.proofs.Lists.Accepted.{Seen}
+use Rattle.definitions.proofs.Lists.Accepted.{Seen}
 use Rattle.order_model.proofs.orders.has_repeat.Given as goal
 
 abbrev pub invariant-loop-x : goal.invariant-loop-x

@@ -1,6 +1,6 @@
 use Rattle.std.proofs.Common.{arith}
-use Rattle.order_model.proofs.Lists.Orders.{place_get}
-use Rattle.order_model.proofs.Lists.Accepted.{index_of}
+use Rattle.definitions.proofs.Lists.Orders.{place_get}
+use Rattle.definitions.proofs.Lists.Accepted.{index_of}
 use Rattle.order_model.proofs.orders.place_in_list.Goals as goal
 
 pub returns-then-y-x-clause-place : goal.returns-then-y-x-clause-place

@@ -1,5 +1,5 @@
 use Rattle.std.proofs.Common.{ℕ, ◌<◌}
-use Rattle.order_model.specs.KeptPairs.{HasBit}
+use Rattle.definitions.specs.KeptPairs.{HasBit}
 use Rattle.order_model.proofs.pairs.are_within.Given as goal
 
 abbrev pub invariant-loop-a : goal.invariant-loop-a

@@ -1,6 +1,6 @@
 use Rattle.std.proofs.Common.{◌≡◌, ◌<◌, ◌+◌, length, sym, ◌∙◌, subst, arith}
 use Rattle.std.proofs.lemmas.List.{set-get_or}
-use Rattle.order_model.proofs.Precedence.Closure.{JoinedTo, joined_none, joined_set, joined_all}
+use Rattle.definitions.proofs.Precedence.Closure.{JoinedTo, joined_none, joined_set, joined_all}
 use Rattle.order_model.proofs.pairs.join_through.Goals as goal
 use Rattle.order_model.proofs.pairs.join_through.Goals.{then-contains, else-contains}
 

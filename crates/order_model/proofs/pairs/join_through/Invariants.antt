@@ -1,4 +1,4 @@
-use Rattle.order_model.proofs.Precedence.Closure.{JoinedTo}
+use Rattle.definitions.proofs.Precedence.Closure.{JoinedTo}
 use Rattle.order_model.proofs.pairs.join_through.Given as goal
 
 abbrev pub invariant-loop-mask : goal.invariant-loop-mask

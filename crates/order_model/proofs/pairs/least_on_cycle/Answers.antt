@@ -1,8 +1,8 @@
 use Rattle.std.proofs.Common.{◌≡◌, ◌<◌, ℕ, List, true, arith}
-use Rattle.order_model.specs.Pairs.{has_pair}
-use Rattle.order_model.specs.KeptPairs.{pairs_in}
-use Rattle.order_model.proofs.Precedence.Masks.{within_16, same_in, same_at, has_in}
-use Rattle.order_model.proofs.Precedence.Closure.{start, one_more, all_reached}
+use Rattle.definitions.specs.Pairs.{has_pair}
+use Rattle.definitions.specs.KeptPairs.{pairs_in}
+use Rattle.definitions.proofs.Precedence.Masks.{within_16, same_in, same_at, has_in}
+use Rattle.definitions.proofs.Precedence.Closure.{start, one_more, all_reached}
 use Rattle.order_model.proofs.pairs.least_on_cycle.Goals as goal
 
 small : (below : List ℕ) (a b : ℕ) → has_pair (pairs_in 16 below) a b ≡ true → (a < 16) × (b < 16)

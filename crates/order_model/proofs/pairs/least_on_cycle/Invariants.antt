@@ -1,6 +1,6 @@
 use Rattle.std.proofs.Common.{ℕ, ◌<◌}
-use Rattle.order_model.specs.KeptPairs.{pairs_in, HasBit}
-use Rattle.order_model.proofs.Precedence.Closure.{Reaches}
+use Rattle.definitions.specs.KeptPairs.{pairs_in, HasBit}
+use Rattle.definitions.proofs.Precedence.Closure.{Reaches}
 use Rattle.order_model.proofs.pairs.least_on_cycle.Given as goal
 
 abbrev pub invariant-loop-k : goal.invariant-loop-k

@@ -3,8 +3,8 @@ use Rattle.std.specs.List.{slice_split}
 use Rattle.std.proofs.lemmas.List.{length_push}
 use Rattle.std.proofs.lemmas.Iterator.Consumers.{YieldsList-turn, YieldsList-end}
 use Rattle.std.proofs.lemmas.Iterator.Splits.{YieldsList-from_slice_split}
-use Rattle.order_model.proofs.Precedence.Masks.{no_masks, zeros_empty}
-use Rattle.order_model.proofs.Precedence.Texts.{read_none, read_more, read_all, read_fails, pair_small}
+use Rattle.definitions.proofs.Precedence.Masks.{no_masks, zeros_empty}
+use Rattle.definitions.proofs.Precedence.Texts.{read_none, read_more, read_all, read_fails, pair_small}
 use Rattle.order_model.proofs.pairs.listed_masks.Goals as goal
 
 pub loop-part-init : goal.loop-part-init

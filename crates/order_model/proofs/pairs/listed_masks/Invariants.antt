@@ -1,6 +1,6 @@
 use Rattle.std.proofs.Common.{length, eqb}
 use Rattle.std.specs.List.{slice_split}
-use Rattle.order_model.proofs.Precedence.Texts.{ReadTo}
+use Rattle.definitions.proofs.Precedence.Texts.{ReadTo}
 use Rattle.order_model.proofs.pairs.listed_masks.Given as goal
 
 abbrev pub invariant-loop-part : goal.invariant-loop-part

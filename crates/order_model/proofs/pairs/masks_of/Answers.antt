@@ -1,6 +1,6 @@
 use Rattle.std.proofs.Common.{refl}
-use Rattle.order_model.proofs.Precedence.Masks.{no_masks, zeros_empty}
-use Rattle.order_model.proofs.Precedence.Texts.{masks_none, masks_more, masks_all}
+use Rattle.definitions.proofs.Precedence.Masks.{no_masks, zeros_empty}
+use Rattle.definitions.proofs.Precedence.Texts.{masks_none, masks_more, masks_all}
 use Rattle.order_model.proofs.pairs.masks_of.Goals as goal
 
 pub loop-i-init : goal.loop-i-init

@@ -1,5 +1,5 @@
 use Rattle.std.proofs.Common.{sym, arith}
-use Rattle.order_model.proofs.Precedence.Texts.{number_digit, number_teen, number_refused}
+use Rattle.definitions.proofs.Precedence.Texts.{number_digit, number_teen, number_refused}
 use Rattle.order_model.proofs.pairs.number.Goals as goal
 
 pub returns-in-48-to-57 : goal.returns-in-48-to-57

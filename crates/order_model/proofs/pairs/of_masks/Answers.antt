@@ -1,8 +1,8 @@
 use Rattle.std.proofs.Common.{Some, refl}
 use Rattle.std.proofs.lemmas.Bool.{false≢true}
-use Rattle.order_model.specs.KeptPairs.{pairs_in}
-use Rattle.order_model.proofs.Precedence.Masks.{same_at, same_in}
-use Rattle.order_model.proofs.Precedence.Texts.{out_of_range, cycle, accepted, holds}
+use Rattle.definitions.specs.KeptPairs.{pairs_in}
+use Rattle.definitions.proofs.Precedence.Masks.{same_at, same_in}
+use Rattle.definitions.proofs.Precedence.Texts.{out_of_range, cycle, accepted, holds}
 use Rattle.order_model.proofs.pairs.of_masks.Goals as goal
 
 pub returns-then-not-are_within : goal.returns-then-not-are_within

@@ -1,5 +1,5 @@
 use Rattle.std.proofs.Common.{◌≡◌, ◌+◌, ◌-◌, ℕ, List, length, take, drop, take_all, length-drop, sym, ◌∙◌, arith}
-use Rattle.order_model.proofs.Precedence.Texts.{pair_without_comma}
+use Rattle.definitions.proofs.Precedence.Texts.{pair_without_comma}
 use Rattle.order_model.proofs.pairs.pair.Goals as goal
 
 -- the rest of a part, as it is cut

@@ -1,8 +1,8 @@
 use Rattle.std.proofs.Common.{List, subst}
 use Rattle.std.proofs.lemmas.Result.{IfOk-weaker}
-use Rattle.order_model.specs.KeptPairs.{KeptPairs}
-use Rattle.order_model.specs.Pairs.{Pair}
-use Rattle.order_model.specs.Problems.{TruthTables, functions}
+use Rattle.definitions.specs.KeptPairs.{KeptPairs}
+use Rattle.definitions.specs.Pairs.{Pair}
+use Rattle.definitions.specs.Problems.{TruthTables, functions}
 use Rattle.symmetries.specs.SymmetricPairs.{IsHarmless}
 use Rattle.solutions.specs.Solutions.{IsOptimumFor}
 use Rattle.solutions.proofs.Harmless.{optimum_harmless}

@@ -1,8 +1,8 @@
 use Rattle.std.proofs.Common.{List, IfOk, subst}
 use Rattle.std.proofs.lemmas.Result.{IfOk-weaker}
-use Rattle.order_model.specs.KeptPairs.{KeptPairs}
-use Rattle.order_model.specs.Pairs.{Pair}
-use Rattle.order_model.specs.Problems.{TruthTables, functions}
+use Rattle.definitions.specs.KeptPairs.{KeptPairs}
+use Rattle.definitions.specs.Pairs.{Pair}
+use Rattle.definitions.specs.Problems.{TruthTables, functions}
 use Rattle.symmetries.specs.SymmetricPairs.{IsHarmless}
 use Rattle.layer_core.specs.Instances.{Instance}
 use Rattle.solutions.specs.Solutions.{IsOptimumFor}

@@ -1,5 +1,5 @@
 use Rattle.std.proofs.Common.{sym, subst}
-use Rattle.order_model.specs.Problems.{functions}
+use Rattle.definitions.specs.Problems.{functions}
 use Rattle.symmetries.specs.SymmetricPairs.{IsHarmless}
 use Rattle.symmetries.proofs.FirstSorted.{harmless_same}
 use Rattle.order_solve.proofs.solving.solve_alone.Goals as goal

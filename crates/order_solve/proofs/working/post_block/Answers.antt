@@ -8,7 +8,7 @@ use Rattle.layer_core.specs.Instances.{cell_for}
 use Rattle.layer_core.specs.Pairing.{pair_of}
 use Rattle.order_solve.specs.Gains.{IsPosted}
 use Rattle.order_solve.proofs.Posts.{stays_trans, posted_stays}
-use Rattle.order_model.proofs.Lists.Accepted.{index_of}
+use Rattle.definitions.proofs.Lists.Accepted.{index_of}
 use Rattle.order_solve.proofs.working.post_block.Goals as goal
 
 pub post_cell-requires-clause-cell : goal.post_cell-requires-clause-cell

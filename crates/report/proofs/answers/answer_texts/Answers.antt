@@ -1,6 +1,6 @@
 use Rattle.std.proofs.Common.{Bool, refl, subst, sum}
-use Rattle.order_model.specs.Levels.{level_counts}
-use Rattle.order_model.specs.Problems.{functions}
+use Rattle.definitions.specs.Levels.{level_counts}
+use Rattle.definitions.specs.Problems.{functions}
 use Rattle.run_texts.specs.Answers.{IsCertifiedBy}
 use Rattle.run_texts.specs.Texts.{file_order_levels}
 use Rattle.run_texts.proofs.Certified.{certified_if_asked}

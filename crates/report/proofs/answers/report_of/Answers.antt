@@ -1,9 +1,9 @@
 use Rattle.std.proofs.Common.{ℕ, List, length, sym, subst, ap, ◌∙◌, arith}
 use Rattle.std.proofs.lemmas.List.FromFn.{length-map-range_with_len}
-use Rattle.order_model.specs.Levels.{level_count, level_counts}
-use Rattle.order_model.specs.Orders.{IsOrder}
-use Rattle.order_model.specs.Problems.{functions}
-use Rattle.order_model.proofs.Lists.Accepted.{member_at}
+use Rattle.definitions.specs.Levels.{level_count, level_counts}
+use Rattle.definitions.specs.Orders.{IsOrder}
+use Rattle.definitions.specs.Problems.{functions}
+use Rattle.definitions.proofs.Lists.Accepted.{member_at}
 use Rattle.report.proofs.Leveled.{one_length}
 use Rattle.report.proofs.answers.report_of.Goals as goal
 

@@ -1,6 +1,6 @@
 use Rattle.std.proofs.Common.{◌∙◌, sym}
-use Rattle.order_model.specs.Problems.{functions}
-use Rattle.order_model.proofs.Widths.SizeBounds.{order_length}
+use Rattle.definitions.specs.Problems.{functions}
+use Rattle.definitions.proofs.Widths.SizeBounds.{order_length}
 use Rattle.dd_builder.specs.Building.{IsDiagramOf}
 use Rattle.pla_reader.specs.Covers.{functions_of}
 use Rattle.dd_builder.proofs.SessionSteps.{ok_same}

@@ -1,12 +1,12 @@
 use Rattle.std.proofs.Common.{◌≡◌, ap, sym, subst, ◌∙◌}
 use Rattle.std.proofs.lemmas.Bool.Decides.{Decides-eqb}
 use Rattle.std.proofs.lemmas.Slice.Eq.{slice_eq-Decides}
-use Rattle.order_model.specs.Levels.{level_counts}
-use Rattle.order_model.specs.Orders.{variables}
+use Rattle.definitions.specs.Levels.{level_counts}
+use Rattle.definitions.specs.Orders.{variables}
 use Rattle.pla_reader.specs.Covers.{functions_of}
 use Rattle.report.proofs.Leveled.{counts_read}
-use Rattle.order_model.specs.Orders.{IsOrder}
-use Rattle.order_model.proofs.Lists.Accepted.{order_variables}
+use Rattle.definitions.specs.Orders.{IsOrder}
+use Rattle.definitions.proofs.Lists.Accepted.{order_variables}
 use Rattle.report.proofs.diagrams.file_order_levels_of.Goals as goal
 
 pub diagram_under-requires-clause-order : goal.diagram_under-requires-clause-order

@@ -1,9 +1,9 @@
 use Rattle.std.proofs.Common.{length, sym, subst, ap, ◌∙◌}
-use Rattle.order_model.specs.Diagrams.{Represents}
-use Rattle.order_model.specs.Pairs.{IsFirstOrder}
+use Rattle.definitions.specs.Diagrams.{Represents}
+use Rattle.definitions.specs.Pairs.{IsFirstOrder}
 use Rattle.dd_builder.specs.Building.{HasLevelCounts}
 use Rattle.pla_reader.specs.Covers.{functions_of}
-use Rattle.order_model.proofs.Widths.SizeBounds.{order_length}
+use Rattle.definitions.proofs.Widths.SizeBounds.{order_length}
 use Rattle.report.proofs.diagrams.first_diagram.Goals as goal
 
 pub diagram_under-requires-clause-order : goal.diagram_under-requires-clause-order

@@ -1,6 +1,6 @@
 use Rattle.std.proofs.Common.{sym, ap, ◌∙◌, subst, arith}
-use Rattle.order_model.specs.KeptPairs.{KeptPairs}
-use Rattle.order_model.specs.Pairs.{IsFirstOrder}
+use Rattle.definitions.specs.KeptPairs.{KeptPairs}
+use Rattle.definitions.specs.Pairs.{IsFirstOrder}
 use Rattle.pla_reader.specs.Covers.{functions_of}
 use Rattle.report.proofs.Leveled.{functions_long}
 use Rattle.truth_table.proofs.OfCovers.{tables_value}

@@ -1,6 +1,6 @@
 use Rattle.std.proofs.Common.{sym, ◌∙◌}
-use Rattle.order_model.specs.Levels.{size_under}
-use Rattle.order_model.specs.Problems.{functions}
+use Rattle.definitions.specs.Levels.{size_under}
+use Rattle.definitions.specs.Problems.{functions}
 use Rattle.report.proofs.search.sift.Goals as goal
 
 pub returns : goal.returns

@@ -1,7 +1,7 @@
 use Rattle.std.proofs.Common.{length, sym, ap, ◌∙◌, arith}
 use Rattle.std.proofs.lemmas.List.FromFn.{length-range_with_len, length-map-range_with_len}
-use Rattle.order_model.specs.Levels.{level_counts, level_count}
-use Rattle.order_model.specs.Problems.{functions}
+use Rattle.definitions.specs.Levels.{level_counts, level_count}
+use Rattle.definitions.specs.Problems.{functions}
 use Rattle.run_texts.proofs.counts.file_order_counts.Goals as goal
 
 pub widths_of-requires : goal.widths_of-requires

@@ -1,5 +1,5 @@
 use Rattle.std.proofs.Common.{◌^◌, arith}
-use Rattle.order_model.proofs.Nodes.Paths.{before_more}
+use Rattle.definitions.proofs.Nodes.Paths.{before_more}
 use Rattle.sifting.proofs.build.first_cut.Goals as goal
 
 pub number_roots-requires-clause-inside : goal.number_roots-requires-clause-inside

@@ -1,12 +1,12 @@
 use Rattle.std.proofs.Common.{ℕ, Bool, false, true, length, sym, ap, subst, ◌∙◌, arith, nat_eq}
-use Rattle.order_model.specs.declared.diagrams.Ref.{Ref}
-use Rattle.order_model.specs.declared.diagrams.Ref.TheVariants.{Terminal}
-use Rattle.order_model.specs.Diagrams.{IsBefore}
-use Rattle.order_model.proofs.Nodes.Paths.{before_more}
+use Rattle.definitions.specs.declared.nodes.Ref.{Ref}
+use Rattle.definitions.specs.declared.nodes.Ref.TheVariants.{Terminal}
+use Rattle.definitions.specs.Diagrams.{IsBefore}
+use Rattle.definitions.proofs.Nodes.Paths.{before_more}
 use Rattle.sifting.specs.Cuts.{code_of, split_ref, ref_at}
 use Rattle.sifting.proofs.Making.{numbers_step}
 use Rattle.sifting.proofs.Cutting.{half, split_before}
-use Rattle.order_model.proofs.Lists.Sets.{nat_decides}
+use Rattle.definitions.proofs.Lists.Sets.{nat_decides}
 use Rattle.sifting.proofs.build.number_halves.Goals as goal
 
 pub code-requires : goal.code-requires

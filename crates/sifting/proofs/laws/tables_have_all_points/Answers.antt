@@ -1,5 +1,5 @@
 use Rattle.std.proofs.Common.{length, sym, ap, ◌∙◌, below_more}
-use Rattle.order_model.proofs.Bits.Problems.{length-table_in}
+use Rattle.definitions.proofs.Bits.Problems.{length-table_in}
 use Rattle.sifting.proofs.laws.tables_have_all_points.Goals as goal
 
 pub loop-output-preserved : goal.loop-output-preserved

@@ -1,5 +1,5 @@
 use Rattle.std.proofs.Common.{◌≡◌, ◌<◌, ◌^◌, ℕ, length}
-use Rattle.order_model.specs.Problems.{table_at}
+use Rattle.definitions.specs.Problems.{table_at}
 use Rattle.sifting.proofs.laws.tables_have_all_points.Given as goal
 
 abbrev pub invariant-loop-output : goal.invariant-loop-output

@@ -2,12 +2,12 @@ use Rattle.std.proofs.Common.{◌≡◌, ℕ, ◌+◌, ◌-◌, ◌*◌, ◌%◌
 use Rattle.std.proofs.lemmas.Bool.{iff_false}
 use Rattle.std.proofs.lemmas.Nat.{one_shl, pow_pos}
 use Rattle.std.proofs.lemmas.Nat.Bits.{shr_and_one}
-use Rattle.order_model.specs.Orders.{members}
-use Rattle.order_model.specs.Problems.{functions}
-use Rattle.order_model.specs.KeptPairs.{KeptPairs}
-use Rattle.order_model.specs.BoundsAbove.{BoundsAboveOf}
-use Rattle.order_model.specs.Cells.{AreForCell, cell_of}
-use Rattle.order_model.specs.declared.bounds_above.Limit.{Limit}
+use Rattle.definitions.specs.Orders.{members}
+use Rattle.definitions.specs.Problems.{functions}
+use Rattle.definitions.specs.KeptPairs.{KeptPairs}
+use Rattle.definitions.specs.BoundsAbove.{BoundsAboveOf}
+use Rattle.definitions.specs.Cells.{AreForCell, cell_of}
+use Rattle.definitions.specs.declared.limits.Limit.{Limit}
 use Rattle.subfunction_classes.proofs.Counted.{width_is_dependent_classes}
 use Rattle.subset_layers.specs.Costs.{as_pair}
 use Rattle.subset_layers.proofs.CostLists.{bit_from_member, member_from_bit}

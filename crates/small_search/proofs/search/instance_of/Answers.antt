@@ -1,10 +1,10 @@
 use Rattle.std.proofs.Common.{ℕ, ◌≤◌, length, sym, subst, arith}
 use Rattle.std.proofs.lemmas.List.{length-map}
-use Rattle.order_model.specs.Functions.{from_table}
-use Rattle.order_model.specs.Orders.{IsOrder}
-use Rattle.order_model.specs.Problems.{functions}
-use Rattle.order_model.proofs.Precedence.Cycles.{acyclic_kept}
-use Rattle.order_model.proofs.Widths.SizeBounds.{size_bound}
+use Rattle.definitions.specs.Functions.{from_table}
+use Rattle.definitions.specs.Orders.{IsOrder}
+use Rattle.definitions.specs.Problems.{functions}
+use Rattle.definitions.proofs.Precedence.Cycles.{acyclic_kept}
+use Rattle.definitions.proofs.Widths.SizeBounds.{size_bound}
 use Rattle.layer_core.specs.Instances.{Instance}
 use Rattle.solutions.specs.Bounded.{IsBounded}
 use Rattle.small_search.proofs.search.instance_of.Goals as goal

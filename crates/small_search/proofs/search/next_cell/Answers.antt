@@ -1,7 +1,7 @@
 use Rattle.std.proofs.Common.{◌≡◌, ℕ, List, count_ones, length, get_or, sym, ap, subst, arith}
 use Rattle.std.proofs.lemmas.Nat.{ones-le}
-use Rattle.order_model.specs.Orders.{members}
-use Rattle.order_model.specs.Problems.{TruthTables, functions}
+use Rattle.definitions.specs.Orders.{members}
+use Rattle.definitions.specs.Problems.{TruthTables, functions}
 use Rattle.subfunction_classes.specs.Dependence.{AreMasks}
 use Rattle.subfunction_classes.specs.Table.{classes_of}
 use Rattle.subfunction_classes.proofs.Extended.{few_masks}

@@ -1,8 +1,8 @@
 use Rattle.std.proofs.Common.{◌≡◌, ℕ, ◌+◌, ◌-◌, ◌*◌, ◌%◌, ◌^◌, ◌<◌, ◌≤◌, true, length, get_or, List, [], ◌∷◌, ◌++◌, sym, ap, ◌∙◌, subst, arith}
 use Rattle.std.proofs.lemmas.Nat.{one_shl}
-use Rattle.order_model.specs.Orders.{has, members}
-use Rattle.order_model.specs.Problems.{functions}
-use Rattle.order_model.specs.Cells.{IsReadFrom, cell_cost}
+use Rattle.definitions.specs.Orders.{has, members}
+use Rattle.definitions.specs.Problems.{functions}
+use Rattle.definitions.specs.Cells.{IsReadFrom, cell_cost}
 use Rattle.layer_core.specs.Instances.{Instance}
 use Rattle.solutions.specs.Bounded.{IsBounded}
 use Rattle.solutions.proofs.ReadOrders.{CountedTo, counted_start, counted_small, counted_member, counted_fall, counted_next, counted_whole, less_member}

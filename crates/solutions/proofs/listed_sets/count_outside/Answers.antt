@@ -1,5 +1,5 @@
 use Rattle.std.proofs.Common.{arith}
-use Rattle.order_model.proofs.Widths.Outside.{outside_count}
+use Rattle.definitions.proofs.Widths.Outside.{outside_count}
 use Rattle.solutions.proofs.listed_sets.count_outside.Goals as goal
 
 pub returns-clause-exact : goal.returns-clause-exact

@@ -1,6 +1,6 @@
 use Rattle.std.proofs.Common.{ℕ, ◌^◌, List, sym, ap, subst, arith}
 use Rattle.std.proofs.lemmas.Nat.{one_shl}
-use Rattle.order_model.specs.declared.listed_cells.ListedCell.{ListedCell}
+use Rattle.definitions.specs.declared.listed_cells.ListedCell.{ListedCell}
 use Rattle.solutions.proofs.ListedSets.{ListedTo, listed_start, listed_yes, listed_no, listed_whole}
 use Rattle.solutions.proofs.listed_sets.listed_cells.Goals as goal
 use Rattle.solutions.proofs.listed_sets.listed_cells.Goals.{then-from+in_ok-push, else-from}

@@ -1,10 +1,10 @@
 use Rattle.std.proofs.Common.{◌≡◌, ℕ, ◌+◌, ◌-◌, ◌<◌, unwrap_or, sym, ap, ◌∙◌, subst, arith}
 use Rattle.std.proofs.lemmas.Bool.{iff_false}
 use Rattle.std.proofs.lemmas.Nat.{one_shl}
-use Rattle.order_model.specs.Orders.{has}
-use Rattle.order_model.proofs.Bits.Problems.{MaskOfFirst, mask_none, mask_with_next, mask_without_next}
-use Rattle.order_model.proofs.Precedence.Greedy.{pow_le_bit}
-use Rattle.order_model.proofs.Precedence.MaskLaws.{member_from}
+use Rattle.definitions.specs.Orders.{has}
+use Rattle.definitions.proofs.Bits.Problems.{MaskOfFirst, mask_none, mask_with_next, mask_without_next}
+use Rattle.definitions.proofs.Precedence.Greedy.{pow_le_bit}
+use Rattle.definitions.proofs.Precedence.MaskLaws.{member_from}
 use Rattle.subset_layers.specs.Layers.{masks_of, layer_with}
 use Rattle.subset_layers.specs.Costs.{cost_at, cost_without}
 use Rattle.subset_layers.proofs.CostLists.{less_one}

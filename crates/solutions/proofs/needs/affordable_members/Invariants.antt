@@ -1,4 +1,4 @@
-use Rattle.order_model.proofs.Bits.Problems.{MaskOfFirst}
+use Rattle.definitions.proofs.Bits.Problems.{MaskOfFirst}
 use Rattle.subset_layers.specs.Costs.{cost_without}
 use Rattle.solutions.proofs.Wanted.{is_affordable}
 use Rattle.solutions.proofs.needs.affordable_members.Given as goal

@@ -1,8 +1,8 @@
 use Rattle.std.proofs.Common.{◌≡◌, ℕ, sym, ap, ◌∙◌}
-use Rattle.order_model.specs.Orders.{mask_of}
-use Rattle.order_model.specs.Cells.{asked}
-use Rattle.order_model.specs.declared.bounds_above.BoundAbove.{BoundAbove}
-use Rattle.order_model.specs.declared.bounds_above.BoundAbove.TheVariants.{Variables, Widths}
+use Rattle.definitions.specs.Orders.{mask_of}
+use Rattle.definitions.specs.Cells.{asked}
+use Rattle.definitions.specs.declared.limits.BoundAbove.{BoundAbove}
+use Rattle.definitions.specs.declared.limits.BoundAbove.TheVariants.{Variables, Widths}
 use Rattle.solutions.proofs.Wanted.{asked_variables, asked_none, asked_some}
 use Rattle.solutions.proofs.needs.asked_members.Goals as goal
 

@@ -1,6 +1,6 @@
 use Rattle.std.proofs.Common.{◌+◌, sym, ap, ◌∙◌, subst}
-use Rattle.order_model.specs.Orders.{members}
-use Rattle.order_model.specs.Pairs.{is_lawful}
+use Rattle.definitions.specs.Orders.{members}
+use Rattle.definitions.specs.Pairs.{is_lawful}
 use Rattle.subset_layers.specs.Costs.{cost_without}
 use Rattle.subset_layers.proofs.BlockLists.{has_masks}
 use Rattle.layer_core.specs.Instances.{Instance}

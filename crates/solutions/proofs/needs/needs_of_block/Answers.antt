@@ -1,7 +1,7 @@
 use Rattle.std.proofs.Common.{◌≡◌, ℕ, true, List, slice_get, get_or, Some, subst, arith}
 use Rattle.std.proofs.lemmas.List.{map_more}
 use Rattle.std.proofs.lemmas.Option.{slice_get-get_or}
-use Rattle.order_model.specs.Orders.{has}
+use Rattle.definitions.specs.Orders.{has}
 use Rattle.subset_layers.specs.Layers.{LayerOf, masks_of}
 use Rattle.solutions.proofs.BlockPlaces.{block_has}
 use Rattle.solutions.proofs.needs.needs_of_block.Goals as goal

@@ -1,6 +1,6 @@
 use Rattle.std.proofs.Common.{◌≡◌, ℕ, ◌-◌, ◌^◌, ap, ◌∙◌}
-use Rattle.order_model.specs.Problems.{functions}
-use Rattle.order_model.specs.Cells.{cell_cost}
+use Rattle.definitions.specs.Problems.{functions}
+use Rattle.definitions.specs.Cells.{cell_cost}
 use Rattle.layer_core.specs.Instances.{Instance}
 use Rattle.solutions.proofs.ReadOrders.{order_first}
 use Rattle.solutions.proofs.Solved.{total_size, total_small, total_fewest}

@@ -1,8 +1,8 @@
 use Rattle.std.proofs.Common.{◌≡◌, ◌+◌, ◌-◌, ◌<◌, ◌^◌, ℕ, List, inl, inr, false, get_or, ap, subst, sym, ◌∙◌, arith}
 use Rattle.std.proofs.lemmas.Bool.{cases_eq}
-use Rattle.order_model.specs.Problems.{TruthTables, packed_bit, table_at, table_in, value_at}
-use Rattle.order_model.proofs.Bits.PointNumbers.{room_above}
-use Rattle.order_model.proofs.Bits.Tables.{table_value}
+use Rattle.definitions.specs.Problems.{TruthTables, packed_bit, table_at, table_in, value_at}
+use Rattle.definitions.proofs.Bits.PointNumbers.{room_above}
+use Rattle.definitions.proofs.Bits.Tables.{table_value}
 use Rattle.symmetries.proofs.SymmetricPoints.{symmetric_by_points}
 use Rattle.solutions.proofs.symmetric.are_symmetric.Goals as goal
 

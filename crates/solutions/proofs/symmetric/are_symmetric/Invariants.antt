@@ -1,6 +1,6 @@
 use Rattle.std.proofs.Common.{◌≡◌, ◌+◌, ◌-◌, ◌<◌, ◌^◌, ℕ}
 use Rattle.std.specs.Int.{bit_at}
-use Rattle.order_model.specs.Problems.{value_at}
+use Rattle.definitions.specs.Problems.{value_at}
 use Rattle.solutions.proofs.symmetric.are_symmetric.Given as goal
 
 abbrev pub invariant-loop-output : goal.invariant-loop-output

@@ -1,7 +1,7 @@
 use Rattle.std.proofs.Common.{◌≡◌, true, List, ap, ap₂, ◌∙◌, subst}
-use Rattle.order_model.specs.KeptPairs.{KeptPairs}
-use Rattle.order_model.specs.Pairs.{Pair, has_pair, sorted_pairs}
-use Rattle.order_model.proofs.Precedence.Sets.{pair_among, sorted_from}
+use Rattle.definitions.specs.KeptPairs.{KeptPairs}
+use Rattle.definitions.specs.Pairs.{Pair, has_pair, sorted_pairs}
+use Rattle.definitions.proofs.Precedence.Sets.{pair_among, sorted_from}
 use Rattle.solutions.proofs.symmetric.symmetric_pairs.Goals as goal
 
 pub returns-in-Ok-clause-pairs : goal.returns-in-Ok-clause-pairs

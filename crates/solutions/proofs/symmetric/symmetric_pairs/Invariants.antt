@@ -1,4 +1,4 @@
-use Rattle.order_model.specs.Problems.{functions}
+use Rattle.definitions.specs.Problems.{functions}
 use Rattle.symmetries.specs.SymmetricPairs.{AreSymmetricPairs}
 use Rattle.solutions.proofs.symmetric.symmetric_pairs.Given as goal
 

@@ -1,5 +1,5 @@
 use Rattle.std.proofs.Common.{arith}
-use Rattle.order_model.proofs.Bits.Words.{step_is}
+use Rattle.definitions.proofs.Bits.Words.{step_is}
 use Rattle.solutions.proofs.SymmetricWords.{same_shifted, place_without}
 use Rattle.solutions.proofs.symmetric_words.changes_across.Goals as goal
 

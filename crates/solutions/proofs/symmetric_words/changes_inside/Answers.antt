@@ -1,6 +1,6 @@
 use Rattle.std.proofs.Common.{◌≡◌, ◌+◌, ◌-◌, ◌%◌, ◌*◌, ◌^◌, ◌≤◌, sym, ap, ap₂, ◌∙◌, arith, pow_mono, bit_and, bit_xor}
 use Rattle.std.specs.Int.{bit_at}
-use Rattle.order_model.proofs.Bits.Words.{step_is}
+use Rattle.definitions.proofs.Bits.Words.{step_is}
 use Rattle.solutions.proofs.SymmetricWords.{same_shifted, places_with, place_without}
 use Rattle.solutions.proofs.symmetric_words.changes_inside.Goals as goal
 

@@ -3,7 +3,7 @@ use Rattle.std.specs.Int.{bit_at}
 use Rattle.std.proofs.lemmas.Bool.{cases_eq}
 use Rattle.std.proofs.lemmas.Nat.{one_shl}
 use Rattle.std.proofs.lemmas.Nat.Bits.{shr_and_one}
-use Rattle.order_model.proofs.Precedence.Greedy.{pow_le_bit}
+use Rattle.definitions.proofs.Precedence.Greedy.{pow_le_bit}
 use Rattle.solutions.proofs.symmetric_words.is_symmetric_between.Goals as goal
 use Rattle.solutions.proofs.symmetric_words.is_symmetric_between.Goals.{then-i-r-eq1+then-i-s-eq0+else-words-i, else-i-r-eq1, else-i-r-eq1-via-then-i-r-eq1+else-i-s-eq0, else-i-r-eq1-via-else-i-r-eq1}
 

@@ -1,5 +1,5 @@
 use Rattle.std.proofs.Common.{arith}
-use Rattle.order_model.proofs.Bits.Tables.{rows_room}
+use Rattle.definitions.proofs.Bits.Tables.{rows_room}
 use Rattle.solutions.proofs.SymmetricWords.{inside_value, across_value, between_value}
 use Rattle.solutions.proofs.symmetric_words.is_symmetric_in.Goals as goal
 

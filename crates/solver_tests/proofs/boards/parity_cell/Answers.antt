@@ -1,8 +1,8 @@
 use Rattle.std.proofs.Common.{◌∙◌, sym, ap}
-use Rattle.order_model.specs.Problems.{functions}
-use Rattle.order_model.specs.Cells.{cell_of}
-use Rattle.order_model.specs.declared.bounds_above.Limit.{Limit}
-use Rattle.order_model.specs.declared.bounds_above.BoundAbove.TheVariants.{Variables}
+use Rattle.definitions.specs.Problems.{functions}
+use Rattle.definitions.specs.Cells.{cell_of}
+use Rattle.definitions.specs.declared.limits.Limit.{Limit}
+use Rattle.definitions.specs.declared.limits.BoundAbove.TheVariants.{Variables}
 use Rattle.layer_core.specs.Instances.{cell_for, instance_of}
 use Rattle.solver_tests.proofs.boards.parity_cell.Goals as goal
 

@@ -1,6 +1,6 @@
 use Rattle.std.proofs.Common.{rules, ◌≡◌, length, ap, ◌∙◌}
 use Rattle.std.proofs.lemmas.List.FromFn.{length-range_with_len}
-use Rattle.order_model.specs.Orders.{variables as all_variables}
+use Rattle.definitions.specs.Orders.{variables as all_variables}
 use Rattle.store_tests.proofs.building.read_input.Goals as goal
 
 pub invariant_of-result-clause-is_its_order : goal.invariant_of-result-clause-is_its_order

@@ -1,6 +1,6 @@
 use Rattle.std.proofs.Common.{rules, ◌≡◌, length, ap, sym, ◌∙◌}
 use Rattle.std.proofs.lemmas.List.FromFn.{length-range_with_len}
-use Rattle.order_model.specs.Orders.{variables as all_variables}
+use Rattle.definitions.specs.Orders.{variables as all_variables}
 use Rattle.store_tests.proofs.fresh.fresh_store.Goals as goal
 
 pub new-requires-clause-inputs : goal.new-requires-clause-inputs

@@ -1,5 +1,5 @@
 use Rattle.std.proofs.Common.{◌≡◌, ℕ, Bool, true, false, ◌&&◌, List, length, sym, refl, ap, ◌∙◌, arith}
-use Rattle.order_model.specs.Functions.{Point, SameFunction}
+use Rattle.definitions.specs.Functions.{Point, SameFunction}
 use Rattle.node_words.specs.Meaning.{function_of, along}
 use Rattle.node_words.specs.Entries.{combine}
 use Rattle.node_words.proofs.Meaning.{value_terminal}

@@ -2,7 +2,7 @@ use Rattle.std.proofs.Common.{◌≡◌, ◌<◌, ◌++◌, ◌∷◌, [], ◌^�
 use Rattle.std.specs.List.{range_with_len}
 use Rattle.std.proofs.lemmas.Nat.{one_shl}
 use Rattle.std.proofs.lemmas.List.FromFn.{map-range_with_len_more}
-use Rattle.order_model.specs.Problems.{table_in}
+use Rattle.definitions.specs.Problems.{table_in}
 use Rattle.subfunction_classes.specs.Values.{number_of, row}
 use Rattle.subfunction_classes.proofs.ValueRows.{bit_in, one_more}
 use Rattle.subfunction_classes.proofs.values.push_values.Goals as goal

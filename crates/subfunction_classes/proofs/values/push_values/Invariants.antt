@@ -1,6 +1,6 @@
 use Rattle.std.proofs.Common.{◌≡◌, ◌++◌, map, get_or, false}
 use Rattle.std.specs.List.{range_with_len}
-use Rattle.order_model.specs.Problems.{table_in}
+use Rattle.definitions.specs.Problems.{table_in}
 use Rattle.subfunction_classes.specs.Values.{number_of}
 use Rattle.subfunction_classes.proofs.values.push_values.Given as goal
 

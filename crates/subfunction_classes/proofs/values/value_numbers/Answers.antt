@@ -1,7 +1,7 @@
 use Rattle.std.proofs.Common.{◌++◌, map, take, ap, ◌∙◌, arith}
 use Rattle.std.specs.List.{flat_map}
 use Rattle.std.proofs.lemmas.List.{take_all}
-use Rattle.order_model.specs.Problems.{value_at, table_in}
+use Rattle.definitions.specs.Problems.{value_at, table_in}
 use Rattle.subfunction_classes.specs.Values.{number_of, row, values_of}
 use Rattle.subfunction_classes.proofs.StartClasses.{rows_more}
 use Rattle.subfunction_classes.proofs.values.value_numbers.Goals as goal

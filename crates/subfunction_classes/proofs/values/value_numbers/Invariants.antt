@@ -1,6 +1,6 @@
 use Rattle.std.proofs.Common.{◌≡◌, map, take}
 use Rattle.std.specs.List.{flat_map}
-use Rattle.order_model.specs.Problems.{value_at}
+use Rattle.definitions.specs.Problems.{value_at}
 use Rattle.subfunction_classes.specs.Values.{number_of, row}
 use Rattle.subfunction_classes.proofs.values.value_numbers.Given as goal
 

@@ -3,8 +3,8 @@ use Rattle.std.proofs.lemmas.List.{length-set}
 use Rattle.std.proofs.lemmas.List.Edits.{fill_by_more}
 use Rattle.std.proofs.lemmas.List.FromFn.{fill_by_all}
 use lib.Count.{ones}
-use Rattle.order_model.specs.Orders.{members}
-use Rattle.order_model.proofs.Bits.Ones.{ones-members}
+use Rattle.definitions.specs.Orders.{members}
+use Rattle.definitions.proofs.Bits.Ones.{ones-members}
 use Rattle.subset_layers.proofs.layers.size_flags.Goals as goal
 
 pub loop-mask-preserved : goal.loop-mask-preserved

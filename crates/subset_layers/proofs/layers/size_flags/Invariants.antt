@@ -1,5 +1,5 @@
 use Rattle.std.proofs.Common.{◌≡◌, ℕ, ◌<◌, ◌^◌, length, nat_eq, get_or, false}
-use Rattle.order_model.specs.Orders.{members}
+use Rattle.definitions.specs.Orders.{members}
 use Rattle.subset_layers.proofs.layers.size_flags.Given as goal
 
 abbrev pub invariant-loop-mask : goal.invariant-loop-mask

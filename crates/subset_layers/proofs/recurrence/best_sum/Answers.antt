@@ -1,9 +1,9 @@
 use Rattle.std.proofs.Common.{ℕ, ◌+◌, ◌<◌, Option, Some, None, IfSome, IsNone, IsTrue, slice_index, refl, sym, ◌∙◌, subst, arith}
 use Rattle.std.proofs.lemmas.Bool.{iff_false, true≢false}
 use Rattle.std.proofs.lemmas.Nat.Bits.{shr_and_one}
-use Rattle.order_model.proofs.Bits.Masks.{members_small}
+use Rattle.definitions.proofs.Bits.Masks.{members_small}
 use Rattle.subset_layers.specs.declared.recurrence.Sum.{Sum}
-use Rattle.order_model.specs.Orders.{has, members}
+use Rattle.definitions.specs.Orders.{has, members}
 use Rattle.subset_layers.specs.Sums.{IsBest}
 use Rattle.subset_layers.proofs.CostLists.{member_from_bit, bit_from_member}
 use Rattle.subset_layers.proofs.BestSums.{IsBestBelow, best_skipped, best_taken, best_all}

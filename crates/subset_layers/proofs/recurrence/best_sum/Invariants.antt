@@ -1,5 +1,5 @@
 use Rattle.std.proofs.Common.{slice_index, IsTrue}
-use Rattle.order_model.specs.Orders.{has, members}
+use Rattle.definitions.specs.Orders.{has, members}
 use Rattle.subset_layers.proofs.BestSums.{IsBestBelow}
 use Rattle.subset_layers.proofs.recurrence.best_sum.Given as goal
 

@@ -1,11 +1,11 @@
 use Rattle.std.proofs.Common.{◌≡◌, ℕ, List, true, refl, ap, sym, ◌∙◌, subst, arith}
 use Rattle.std.proofs.lemmas.Bool.{true≢false}
-use Rattle.order_model.specs.Orders.{IsOrder, members}
-use Rattle.order_model.specs.Pairs.{Pair, Keeps, is_lawful}
-use Rattle.order_model.specs.KeptPairs.{CanBeKept}
-use Rattle.order_model.specs.Problems.{functions}
-use Rattle.order_model.specs.Cells.{first_of}
-use Rattle.order_model.proofs.Precedence.Cycles.{acyclic_kept}
+use Rattle.definitions.specs.Orders.{IsOrder, members}
+use Rattle.definitions.specs.Pairs.{Pair, Keeps, is_lawful}
+use Rattle.definitions.specs.KeptPairs.{CanBeKept}
+use Rattle.definitions.specs.Problems.{functions}
+use Rattle.definitions.specs.Cells.{first_of}
+use Rattle.definitions.proofs.Precedence.Cycles.{acyclic_kept}
 use Rattle.subset_layers.proofs.CellSteps.{cell_clipped, first_has_mask}
 use Rattle.subset_layers.proofs.recurrence.cell_from.Goals as goal
 

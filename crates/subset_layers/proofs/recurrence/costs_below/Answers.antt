@@ -2,8 +2,8 @@ use Rattle.std.proofs.Common.{◌≡◌, ℕ, ◌-◌, List, length, unwrap_or, 
 use Rattle.std.proofs.lemmas.Bool.{iff_false}
 use Rattle.std.proofs.lemmas.List.{length-set}
 use Rattle.std.proofs.lemmas.Nat.Bits.{shr_and_one}
-use Rattle.order_model.specs.Orders.{has, members}
-use Rattle.order_model.proofs.Bits.Masks.{members_small}
+use Rattle.definitions.specs.Orders.{has, members}
+use Rattle.definitions.proofs.Bits.Masks.{members_small}
 use Rattle.subset_layers.specs.Costs.{cost_at, cost_without}
 use Rattle.subset_layers.proofs.CostLists.{member_from_bit, bit_from_member, power_le_mask, shifted_bit, less_one}
 use Rattle.subset_layers.proofs.Rows.{row_passed, row_written}

@@ -1,5 +1,5 @@
 use Rattle.std.proofs.Common.{◌≡◌, ℕ, ◌<◌, slice_index, length, IsTrue}
-use Rattle.order_model.specs.Orders.{has, members}
+use Rattle.definitions.specs.Orders.{has, members}
 use Rattle.subset_layers.specs.Costs.{cost_without}
 use Rattle.subset_layers.proofs.recurrence.costs_below.Given as goal
 

@@ -1,7 +1,7 @@
 use Rattle.std.proofs.Common.{ℕ, ◌^◌, ◌<◌, IsTrue, slice_index, refl, sym, ◌∙◌, subst, arith}
-use Rattle.order_model.specs.Orders.{has, members}
-use Rattle.order_model.specs.Problems.{functions}
-use Rattle.order_model.specs.Cells.{first_of}
+use Rattle.definitions.specs.Orders.{has, members}
+use Rattle.definitions.specs.Problems.{functions}
+use Rattle.definitions.specs.Cells.{first_of}
 use Rattle.subset_layers.specs.Sums.{IsBest}
 use Rattle.subset_layers.proofs.CellSteps.{members_widths, cell_found, cell_clipped, first_has_mask}
 use Rattle.subset_layers.proofs.recurrence.lawful_cell.Goals as goal

@@ -1,6 +1,6 @@
 use Rattle.std.proofs.Common.{◌≡◌, ℕ, ◌+◌, ◌^◌, ◌<◌, slice_index, sym, ◌∙◌, subst}
-use Rattle.order_model.specs.Problems.{functions}
-use Rattle.order_model.specs.Cells.{AreForCell, cell_of}
+use Rattle.definitions.specs.Problems.{functions}
+use Rattle.definitions.specs.Cells.{AreForCell, cell_of}
 use Rattle.subset_layers.specs.Costs.{as_pair}
 use Rattle.subset_layers.proofs.BlockLists.{has_masks}
 use Rattle.subset_layers.proofs.CellSteps.{costs_for_cell, some_member}

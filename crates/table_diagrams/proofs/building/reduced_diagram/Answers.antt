@@ -1,8 +1,8 @@
 use Rattle.std.proofs.Common.{◌-◌, ℕ, List, take, get_or, map, sym, ap, ◌∙◌, subst, arith}
-use Rattle.order_model.specs.declared.diagrams.Node.{Node}
-use Rattle.order_model.specs.Levels.{reach}
-use Rattle.order_model.specs.Orders.{IsOrder}
-use Rattle.order_model.specs.Problems.{functions, outputs_of}
+use Rattle.definitions.specs.declared.nodes.Node.{Node}
+use Rattle.definitions.specs.Levels.{reach}
+use Rattle.definitions.specs.Orders.{IsOrder}
+use Rattle.definitions.specs.Problems.{functions, outputs_of}
 use Rattle.table_diagrams.specs.Levels.{IsLevelAbove, ref_named}
 use Rattle.table_diagrams.proofs.Leveled.{Leveled, few_leaves, leveled_leaves, leveled_step, leveled_top}
 use Rattle.table_diagrams.proofs.building.reduced_diagram.Goals as goal

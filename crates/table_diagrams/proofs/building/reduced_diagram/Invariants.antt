@@ -1,6 +1,6 @@
 use Rattle.std.proofs.Common.{◌≤◌, ◌+◌, length, take}
-use Rattle.order_model.specs.Levels.{reach}
-use Rattle.order_model.specs.Problems.{functions}
+use Rattle.definitions.specs.Levels.{reach}
+use Rattle.definitions.specs.Problems.{functions}
 use Rattle.table_diagrams.proofs.Leveled.{Leveled}
 use Rattle.table_diagrams.proofs.building.reduced_diagram.Given as goal
 

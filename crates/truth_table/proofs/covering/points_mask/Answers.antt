@@ -1,5 +1,5 @@
 use Rattle.std.proofs.Common.{arith}
-use Rattle.order_model.proofs.Bits.Words.{step_is}
+use Rattle.definitions.proofs.Bits.Words.{step_is}
 use Rattle.truth_table.proofs.TermWords.{mask_step, free_bits_few, free_bits_all}
 use Rattle.truth_table.proofs.covering.points_mask.Goals as goal
 

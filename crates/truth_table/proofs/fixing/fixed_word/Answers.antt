@@ -1,5 +1,5 @@
 use Rattle.std.proofs.Common.{arith}
-use Rattle.order_model.proofs.Bits.Words.{step_is}
+use Rattle.definitions.proofs.Bits.Words.{step_is}
 use Rattle.truth_table.proofs.FixedBits.{upper_bit, lower_bit}
 use Rattle.truth_table.proofs.fixing.fixed_word.Goals as goal
 use Rattle.truth_table.proofs.fixing.fixed_word.Goals.{then-upper, else-upper}

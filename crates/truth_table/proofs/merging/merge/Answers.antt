@@ -1,6 +1,6 @@
 use Rattle.std.proofs.Common.{◌≡◌, ◌+◌, ◌&&◌, ◌∷◌, ◌++◌, cond, not, List, ℕ, [], sym, ap, ◌∙◌, subst, eq-eqb, ne_eqb}
 use Rattle.std.specs.List.{list_any}
-use Rattle.order_model.specs.Widths.{same_pair}
+use Rattle.definitions.specs.Widths.{same_pair}
 use Rattle.truth_table.specs.Numberings.{pair_at, is_unequal}
 use Rattle.truth_table.proofs.PairNumbers.{Merging, merging_none, merging_step, merging_end}
 use Rattle.truth_table.proofs.merging.merge.Goals as goal

@@ -1,5 +1,5 @@
 use Rattle.std.proofs.Common.{◌≡◌, ◌++◌, cond, map, take}
-use Rattle.order_model.specs.Problems.{packed_bit}
+use Rattle.definitions.specs.Problems.{packed_bit}
 use Rattle.truth_table.proofs.merging.push_values.Given as goal
 
 abbrev pub invariant-loop-point : goal.invariant-loop-point

@@ -1,7 +1,7 @@
 use Rattle.std.proofs.Common.{◌≡◌, ◌-◌, ◌^◌, ℕ, refl, subst, [], map, length, codes, get_or, Err, arith}
 use Rattle.std.proofs.lemmas.List.{length-append, map-append}
-use Rattle.order_model.specs.Listed.{listed}
-use Rattle.order_model.specs.Texts.{number_of}
+use Rattle.definitions.specs.Listed.{listed}
+use Rattle.definitions.specs.Texts.{number_of}
 use Rattle.certificate.specs.Faults.{field_fault, is_cell, cell_key_of}
 use Rattle.certificate.specs.Parsing.{Asks}
 use Rattle.certificate.specs.Decoded.{read_cell, mask_key}

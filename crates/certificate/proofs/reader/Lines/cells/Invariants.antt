@@ -1,5 +1,5 @@
 use Rattle.std.proofs.Common.{◌≤◌, ◌-◌, ◌^◌, refl, map, length, codes}
-use Rattle.order_model.specs.Listed.{listed}
+use Rattle.definitions.specs.Listed.{listed}
 use Rattle.certificate.specs.Faults.{is_cell, cell_key_of}
 use Rattle.certificate.specs.Reading.{FitsCount, StaysWithin}
 use Rattle.certificate.specs.Decoded.{read_cell, mask_key}

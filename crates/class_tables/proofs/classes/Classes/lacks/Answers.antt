@@ -1,7 +1,7 @@
 use Rattle.std.proofs.Common.{◌<◌, not, ap, sym, ◌∙◌, subst, arith}
 use Rattle.std.proofs.lemmas.Bool.{iff_false, not-true, false_from_ne_true}
 use Rattle.std.proofs.lemmas.Nat.Bits.{shr_and_one, bit_at-lt}
-use Rattle.order_model.specs.Orders.{has}
+use Rattle.definitions.specs.Orders.{has}
 use Rattle.subfunction_classes.specs.Table.{ClassesOf, set_of}
 use Rattle.subfunction_classes.proofs.LowSets.{bit_unset, unset_bit}
 use Rattle.class_tables.proofs.classes.Classes.lacks.Goals as goal

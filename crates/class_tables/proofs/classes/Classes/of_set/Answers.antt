@@ -1,7 +1,7 @@
 use Rattle.std.proofs.Common.{ap, ◌∙◌, arith}
 use Rattle.std.proofs.lemmas.Bool.{iff_false}
 use Rattle.std.proofs.lemmas.Nat.Bits.{shr_and_one}
-use Rattle.order_model.specs.Orders.{has}
+use Rattle.definitions.specs.Orders.{has}
 use Rattle.subfunction_classes.specs.Table.{ClassesOf, set_of}
 use Rattle.subfunction_classes.proofs.LowSets.{low_more, low_same, low_new, low_all}
 use Rattle.class_tables.proofs.classes.Classes.of_set.Goals as goal

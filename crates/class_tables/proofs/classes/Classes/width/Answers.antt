@@ -1,6 +1,6 @@
 use Rattle.std.proofs.Common.{◌≡◌, true, sym, ap, ◌∙◌, subst}
-use Rattle.order_model.specs.Orders.{has, without}
-use Rattle.order_model.specs.Widths.{width}
+use Rattle.definitions.specs.Orders.{has, without}
+use Rattle.definitions.specs.Widths.{width}
 use Rattle.subfunction_classes.specs.Table.{ClassesOf, set_of, functions_of}
 use Rattle.subfunction_classes.proofs.Extended.{width_into}
 use Rattle.class_tables.proofs.classes.Classes.width.Goals as goal

@@ -5,8 +5,8 @@ use Rattle.subfunction_classes.specs.Table.{ClassesOf, HoldsClasses, with_variab
 use Rattle.subfunction_classes.proofs.Counted.{width_is_dependent_classes}
 use Rattle.subfunction_classes.specs.Numbering.{ranks}
 use Rattle.subfunction_classes.specs.Places.{pairs}
-use Rattle.order_model.specs.Widths.{same_pair, width}
-use Rattle.order_model.specs.Orders.{has}
+use Rattle.definitions.specs.Widths.{same_pair, width}
+use Rattle.definitions.specs.Orders.{has}
 use Rattle.subfunction_classes.proofs.Extended.{is_ready, ready_table, few_masks, few_of_most, holds_more, width_into}
 use Rattle.class_tables.proofs.classes.Classes.width_in.Goals as goal
 

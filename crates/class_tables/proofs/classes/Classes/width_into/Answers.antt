@@ -1,7 +1,7 @@
 use Rattle.std.proofs.Common.{eqb, length, sym, ap, ◌∙◌, subst, arith}
 use Rattle.std.specs.Int.{bit_at}
 use Rattle.std.specs.List.{filter}
-use Rattle.order_model.proofs.Bits.Masks.{members_small}
+use Rattle.definitions.proofs.Bits.Masks.{members_small}
 use Rattle.subfunction_classes.specs.Table.{ClassesOf, HoldsClasses, set_of, functions_of}
 use Rattle.subfunction_classes.proofs.Counted.{width_is_dependent_classes}
 use Rattle.subfunction_classes.proofs.Extended.{few_masks}

@@ -1,6 +1,6 @@
 use Rattle.std.proofs.Common.{◌≡◌, ◌++◌, Bool, true, false, All, List, if◌then◌else◌, is_ok, sym, ap, ◌∙◌, subst, arith}
 use Rattle.std.proofs.lemmas.List.Elements.{All-append}
-use Rattle.order_model.specs.Problems.{TruthTables}
+use Rattle.definitions.specs.Problems.{TruthTables}
 use Rattle.compaction.specs.Ahead.{AheadOf}
 use Rattle.compaction.specs.Rows.{HoldsRows, RowsOf}
 use Rattle.compaction.proofs.ahead.WidthsAhead.append.Goals as goal

@@ -2,7 +2,7 @@ use Rattle.std.proofs.Common.{◌≡◌, ◌+◌, ◌/◌, ◌%◌, ◌^◌, ◌
 use Rattle.std.proofs.lemmas.Grind.{common_steps}
 use Rattle.std.specs.Int.{bit_at}
 use Rattle.std.proofs.lemmas.List.{get_or_default}
-use Rattle.order_model.specs.Problems.{TruthTables}
+use Rattle.definitions.specs.Problems.{TruthTables}
 use Rattle.subset_layers.specs.Layers.{BlockOf, block_masks}
 use Rattle.compaction.specs.Requests.{Asks, asked}
 use Rattle.compaction.specs.Rows.{HoldsRows, IsWidthRow, RowsOf}

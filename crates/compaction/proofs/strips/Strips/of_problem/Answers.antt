@@ -1,5 +1,6 @@
 use Rattle.std.proofs.Common.{◌^◌, sym, subst, arith}
-use Rattle.compaction.specs.Strips.{HoldsStrips, HoldsValues, low_variables}
+use Rattle.value_strips.specs.ValueStrips.{HoldsValues}
+use Rattle.compaction.specs.Strips.{HoldsStrips, low_variables}
 use Rattle.subfunction_classes.specs.Table.{classes_of}
 use Rattle.compaction.proofs.HeldStrips.{holds_values}
 use Rattle.compaction.proofs.strips.Strips.of_problem.Goals as goal

@@ -1,9 +1,9 @@
 use Rattle.std.proofs.Common.{ℕ, map, max, sym, ap, ◌∙◌, subst}
 use Rattle.std.specs.List.{fold}
-use Rattle.order_model.specs.Orders.{members}
-use Rattle.order_model.specs.Problems.{TruthTables, functions}
-use Rattle.order_model.specs.BoundsAbove.{BoundsAboveOf, HoldsBoundsAbove, asked_by, nodes_above}
-use Rattle.order_model.specs.declared.bounds_above.BoundAbove.{BoundAbove}
+use Rattle.definitions.specs.Orders.{members}
+use Rattle.definitions.specs.Problems.{TruthTables, functions}
+use Rattle.definitions.specs.BoundsAbove.{BoundsAboveOf, HoldsBoundsAbove, asked_by, nodes_above}
+use Rattle.definitions.specs.declared.limits.BoundAbove.{BoundAbove}
 use Rattle.order_model.proofs.bounds_above.BoundsAbove.above.Goals as goal
 
 pub returns-in-Variables-clause-nodes : goal.returns-in-Variables-clause-nodes

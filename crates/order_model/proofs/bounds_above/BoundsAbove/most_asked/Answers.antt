@@ -1,5 +1,5 @@
 use Rattle.std.proofs.Common.{arith}
-use Rattle.order_model.proofs.Bits.BoundsAbove.{most_none, most_with, most_without, member_has}
+use Rattle.definitions.proofs.Bits.BoundsAbove.{most_none, most_with, most_without, member_has}
 use Rattle.order_model.proofs.bounds_above.BoundsAbove.most_asked.Goals as goal
 use Rattle.order_model.proofs.bounds_above.BoundsAbove.most_asked.Goals.{then-contains, else-contains}
 

@@ -1,8 +1,8 @@
 use Rattle.std.proofs.Common.{◌≡◌, ◌^◌, ◌<◌, map, max}
 use Rattle.std.specs.List.{fold}
-use Rattle.order_model.specs.Orders.{members}
-use Rattle.order_model.specs.Problems.{functions}
-use Rattle.order_model.specs.BoundsAbove.{asked_by, AreMembersWidths}
+use Rattle.definitions.specs.Orders.{members}
+use Rattle.definitions.specs.Problems.{functions}
+use Rattle.definitions.specs.BoundsAbove.{asked_by, AreMembersWidths}
 use Rattle.order_model.proofs.bounds_above.BoundsAbove.most_asked.Given as goal
 
 abbrev pub invariant-loop-x : goal.invariant-loop-x

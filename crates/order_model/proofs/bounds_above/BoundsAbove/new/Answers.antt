@@ -1,9 +1,9 @@
 use Rattle.std.proofs.Common.{◌≡◌, ◌<◌, length, map, take, ap, ◌∙◌, arith}
 use Rattle.std.proofs.lemmas.List.{length-set}
-use Rattle.order_model.specs.Problems.{functions}
-use Rattle.order_model.specs.Widths.{essential_mask}
-use Rattle.order_model.specs.BoundsAbove.{support, functions_with, functions_without}
-use Rattle.order_model.proofs.Bits.BoundsAbove.{entry_written, count_is, union_without_is}
+use Rattle.definitions.specs.Problems.{functions}
+use Rattle.definitions.specs.Widths.{essential_mask}
+use Rattle.definitions.specs.BoundsAbove.{support, functions_with, functions_without}
+use Rattle.definitions.proofs.Bits.BoundsAbove.{entry_written, count_is, union_without_is}
 use Rattle.order_model.proofs.bounds_above.BoundsAbove.new.Goals as goal
 
 pub loop-x-preserved : goal.loop-x-preserved

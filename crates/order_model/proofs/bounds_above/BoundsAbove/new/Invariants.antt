@@ -1,7 +1,7 @@
 use Rattle.std.proofs.Common.{◌≡◌, ◌<◌, ℕ, length, slice_index}
-use Rattle.order_model.specs.Problems.{functions}
-use Rattle.order_model.specs.Widths.{essential_mask}
-use Rattle.order_model.specs.BoundsAbove.{functions_with, functions_without}
+use Rattle.definitions.specs.Problems.{functions}
+use Rattle.definitions.specs.Widths.{essential_mask}
+use Rattle.definitions.specs.BoundsAbove.{functions_with, functions_without}
 use Rattle.order_model.proofs.bounds_above.BoundsAbove.new.Given as goal
 
 abbrev pub invariant-loop-x : goal.invariant-loop-x

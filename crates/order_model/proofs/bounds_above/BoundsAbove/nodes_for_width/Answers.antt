@@ -1,6 +1,6 @@
 use Rattle.std.proofs.Common.{◌+◌, ◌-◌, ap, ap₂, ◌∙◌, subst}
-use Rattle.order_model.specs.Problems.{TruthTables, functions}
-use Rattle.order_model.specs.BoundsAbove.{BoundsAboveOf, HoldsBoundsAbove, asked_by, functions_without}
+use Rattle.definitions.specs.Problems.{TruthTables, functions}
+use Rattle.definitions.specs.BoundsAbove.{BoundsAboveOf, HoldsBoundsAbove, asked_by, functions_without}
 use Rattle.order_model.proofs.bounds_above.BoundsAbove.nodes_for_width.Goals as goal
 
 pub returns-clause-nodes : goal.returns-clause-nodes

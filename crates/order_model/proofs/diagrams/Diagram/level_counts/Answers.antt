@@ -1,6 +1,6 @@
 use Rattle.std.proofs.Common.{◌<◌, ℕ, List, sym, arith, subst}
 use Rattle.std.specs.List.{All}
-use Rattle.order_model.specs.Diagrams.{nodes_at}
+use Rattle.definitions.specs.Diagrams.{nodes_at}
 use Rattle.order_model.proofs.diagrams.Diagram.level_counts.Goals as goal
 
 pub in_order-requires-clause-variables : goal.in_order-requires-clause-variables

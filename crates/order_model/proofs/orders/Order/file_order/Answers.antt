@@ -1,7 +1,7 @@
 use Rattle.std.proofs.Common.{◌++◌, ◌∷◌, [], sym, ap, ◌∙◌, subst, arith}
-use Rattle.order_model.specs.Orders.{variables}
-use Rattle.order_model.specs.OrderFaults.{Accepts}
-use Rattle.order_model.proofs.Lists.Accepted.{accepts_variables, variables_more}
+use Rattle.definitions.specs.Orders.{variables}
+use Rattle.definitions.specs.OrderFaults.{Accepts}
+use Rattle.definitions.proofs.Lists.Accepted.{accepts_variables, variables_more}
 use Rattle.order_model.proofs.orders.Order.file_order.Goals as goal
 
 pub loop-x-preserved : goal.loop-x-preserved

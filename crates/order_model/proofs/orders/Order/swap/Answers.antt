@@ -1,6 +1,6 @@
 use Rattle.std.proofs.Common.{◌+◌, ◌<◌, List, ℕ, length, swap, sym, ap, subst, ◌∙◌}
-use Rattle.order_model.specs.OrderFaults.{Accepts}
-use Rattle.order_model.proofs.Lists.Swaps.{accepts_swap}
+use Rattle.definitions.specs.OrderFaults.{Accepts}
+use Rattle.definitions.proofs.Lists.Swaps.{accepts_swap}
 use Rattle.order_model.proofs.orders.Order.swap.Goals as goal
 
 pub invariant_of-self : goal.invariant_of-self

@@ -1,6 +1,6 @@
 use Rattle.std.proofs.Common.{◌≡◌, refl, subst, sym, rules}
-use Rattle.order_model.specs.OrderFaults.{Accepts}
-use Rattle.order_model.proofs.Lists.Accepted.{accepts_distinct}
+use Rattle.definitions.specs.OrderFaults.{Accepts}
+use Rattle.definitions.proofs.Lists.Accepted.{accepts_distinct}
 use Rattle.order_model.proofs.orders.Order.try_from_slice.Goals as goal
 
 pub returns-in-Ok-clause-accepted : goal.returns-in-Ok-clause-accepted

@@ -1,6 +1,6 @@
 use Rattle.std.proofs.Common.{◌<◌, ℕ, List, subst}
 use Rattle.std.specs.List.{All}
-use Rattle.order_model.proofs.Lists.Accepted.{member_small}
+use Rattle.definitions.proofs.Lists.Accepted.{member_small}
 use Rattle.order_model.proofs.orders.Order.variables.Goals as goal
 
 pub returns-clause-small : goal.returns-clause-small

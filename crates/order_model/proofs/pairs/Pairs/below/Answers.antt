@@ -1,9 +1,9 @@
 use Rattle.std.proofs.Common.{◌≡◌, ◌↔◌, ℕ, ◌^◌, ◌<◌, get_or, subst, IsTrue}
 use Rattle.std.specs.Int.{bit_at}
-use Rattle.order_model.specs.Pairs.{has_pair}
-use Rattle.order_model.specs.KeptPairs.{KeptPairs}
-use Rattle.order_model.proofs.Precedence.Masks.{same_in, same_at, small_mask}
-use Rattle.order_model.specs.KeptPairs.{pairs_in}
+use Rattle.definitions.specs.Pairs.{has_pair}
+use Rattle.definitions.specs.KeptPairs.{KeptPairs}
+use Rattle.definitions.proofs.Precedence.Masks.{same_in, same_at, small_mask}
+use Rattle.definitions.specs.KeptPairs.{pairs_in}
 use Rattle.order_model.proofs.pairs.Pairs.below.Goals as goal
 
 pub returns-clause-pairs : goal.returns-clause-pairs

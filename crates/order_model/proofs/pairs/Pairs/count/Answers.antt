@@ -1,6 +1,6 @@
 use Rattle.std.proofs.Common.{arith, sym}
-use Rattle.order_model.proofs.Precedence.Masks.{row_small}
-use Rattle.order_model.proofs.Precedence.MaskLaws.{rows_all, rows_none, rows_more, row_few}
+use Rattle.definitions.proofs.Precedence.Masks.{row_small}
+use Rattle.definitions.proofs.Precedence.MaskLaws.{rows_all, rows_none, rows_more, row_few}
 use Rattle.order_model.proofs.pairs.Pairs.count.Goals as goal
 
 pub loop-a-init : goal.loop-a-init

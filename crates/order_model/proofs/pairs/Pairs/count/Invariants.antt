@@ -1,5 +1,5 @@
 use Rattle.std.proofs.Common.{◌≡◌, length, ◌*◌, ◌≤◌}
-use Rattle.order_model.proofs.Precedence.MaskLaws.{rows_to}
+use Rattle.definitions.proofs.Precedence.MaskLaws.{rows_to}
 use Rattle.order_model.proofs.pairs.Pairs.count.Given as goal
 
 abbrev pub invariant-loop-a : goal.invariant-loop-a

@@ -1,11 +1,11 @@
 use Rattle.std.proofs.Common.{◌≡◌, ◌+◌, ◌-◌, ◌/◌, ◌^◌, ◌≤◌, ℕ, List, take, set, replicate, refl, sym, ap, ◌∙◌, subst, arith}
 use Rattle.std.proofs.lemmas.Nat.{one_shl}
-use Rattle.order_model.specs.OrderFaults.{Accepts}
-use Rattle.order_model.specs.Pairs.{IsFirstOrder}
-use Rattle.order_model.specs.KeptPairs.{KeptPairs, CanBeKept}
-use Rattle.order_model.proofs.Precedence.MaskLaws.{member_bit}
-use Rattle.order_model.proofs.Precedence.Greedy.{GreedyTo, top_parts, greedy_start, greedy_some, greedy_step, greedy_end, first_accepted}
-use Rattle.order_model.proofs.Bits.Masks.{all_ones}
+use Rattle.definitions.specs.OrderFaults.{Accepts}
+use Rattle.definitions.specs.Pairs.{IsFirstOrder}
+use Rattle.definitions.specs.KeptPairs.{KeptPairs, CanBeKept}
+use Rattle.definitions.proofs.Precedence.MaskLaws.{member_bit}
+use Rattle.definitions.proofs.Precedence.Greedy.{GreedyTo, top_parts, greedy_start, greedy_some, greedy_step, greedy_end, first_accepted}
+use Rattle.definitions.proofs.Bits.Masks.{all_ones}
 use Rattle.order_model.proofs.pairs.Pairs.first_order.Goals as goal
 
 same : (v w : KeptPairs) → v ≡ w → v.inputs ≡ w.inputs

@@ -1,4 +1,4 @@
-use Rattle.order_model.proofs.Precedence.Greedy.{GreedyTo}
+use Rattle.definitions.proofs.Precedence.Greedy.{GreedyTo}
 use Rattle.order_model.proofs.pairs.Pairs.first_order.Given as goal
 
 abbrev pub invariant-loop-place : goal.invariant-loop-place

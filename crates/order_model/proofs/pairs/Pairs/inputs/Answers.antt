@@ -1,7 +1,7 @@
 use Rattle.std.proofs.Common.{◌≡◌, subst}
-use Rattle.order_model.specs.Pairs.{sorted_pairs}
-use Rattle.order_model.specs.KeptPairs.{KeptPairs}
-use Rattle.order_model.proofs.Precedence.Masks.{sorted_in}
+use Rattle.definitions.specs.Pairs.{sorted_pairs}
+use Rattle.definitions.specs.KeptPairs.{KeptPairs}
+use Rattle.definitions.proofs.Precedence.Masks.{sorted_in}
 use Rattle.order_model.proofs.pairs.Pairs.inputs.Goals as goal
 
 pub returns-clause-sorted : goal.returns-clause-sorted

@@ -1,8 +1,8 @@
 use Rattle.std.proofs.Common.{ℕ, ◌<◌, List, length, get_or, arith, sym, subst}
 use Rattle.std.proofs.lemmas.Nat.Bits.{bit_at_set_same, bit_at_set_other}
-use Rattle.order_model.specs.Orders.{IsOrder}
-use Rattle.order_model.proofs.Lists.Accepted.{seen_more, seen_none, seen_repeated}
-use Rattle.order_model.proofs.Precedence.MaskLaws.{keeps_in, broken_at, kept_more}
+use Rattle.definitions.specs.Orders.{IsOrder}
+use Rattle.definitions.proofs.Lists.Accepted.{seen_more, seen_none, seen_repeated}
+use Rattle.definitions.proofs.Precedence.MaskLaws.{keeps_in, broken_at, kept_more}
 use Rattle.order_model.proofs.pairs.Pairs.keeps.Goals as goal
 
 pub loop-x-init : goal.loop-x-init

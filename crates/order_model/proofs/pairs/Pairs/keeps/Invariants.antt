@@ -1,5 +1,5 @@
-use Rattle.order_model.proofs.Lists.Accepted.{Seen}
-use Rattle.order_model.proofs.Precedence.MaskLaws.{KeptTo}
+use Rattle.definitions.proofs.Lists.Accepted.{Seen}
+use Rattle.definitions.proofs.Precedence.MaskLaws.{KeptTo}
 use Rattle.order_model.proofs.pairs.Pairs.keeps.Given as goal
 
 abbrev pub invariant-loop-x : goal.invariant-loop-x

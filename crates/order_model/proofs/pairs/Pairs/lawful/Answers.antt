@@ -1,5 +1,5 @@
 use Rattle.std.proofs.Common.{arith}
-use Rattle.order_model.proofs.Precedence.MaskLaws.{lawful_in, unlawful_in, bits_inside, bit_beyond}
+use Rattle.definitions.proofs.Precedence.MaskLaws.{lawful_in, unlawful_in, bits_inside, bit_beyond}
 use Rattle.order_model.proofs.pairs.Pairs.lawful.Goals as goal
 use Rattle.order_model.proofs.pairs.Pairs.lawful.Goals.{else-contains-via-then-contains+else-below-set-ne0, else-contains-via-else-contains}
 

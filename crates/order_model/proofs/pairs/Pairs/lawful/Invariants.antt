@@ -1,6 +1,6 @@
 use Rattle.std.proofs.Common.{◌≡◌, ℕ, ◌<◌}
 use Rattle.std.specs.Int.{bit_at}
-use Rattle.order_model.specs.KeptPairs.{HasBit}
+use Rattle.definitions.specs.KeptPairs.{HasBit}
 use Rattle.order_model.proofs.pairs.Pairs.lawful.Given as goal
 
 abbrev pub invariant-loop-a : goal.invariant-loop-a

@@ -1,6 +1,6 @@
 use Rattle.std.proofs.Common.{[], refl}
 use Rattle.std.proofs.lemmas.Bool.{false≢true}
-use Rattle.order_model.proofs.Precedence.Masks.{nothing_in, zeros_empty, no_masks, holds_masks, same_from, nowhere}
+use Rattle.definitions.proofs.Precedence.Masks.{nothing_in, zeros_empty, no_masks, holds_masks, same_from, nowhere}
 use Rattle.order_model.proofs.pairs.Pairs.none.Goals as goal
 
 pub returns-clause-pairs : goal.returns-clause-pairs

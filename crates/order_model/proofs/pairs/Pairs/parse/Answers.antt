@@ -1,4 +1,4 @@
-use Rattle.order_model.specs.PairTexts.{listed}
+use Rattle.definitions.specs.PairTexts.{listed}
 use Rattle.order_model.proofs.pairs.Pairs.parse.Goals as goal
 
 pub returns : goal.returns

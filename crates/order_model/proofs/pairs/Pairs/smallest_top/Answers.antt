@@ -1,10 +1,10 @@
 use Rattle.std.proofs.Common.{◌≡◌, ◌*◌, ◌%◌, ◌^◌, ◌<◌, ◌≤◌, ℕ, inl, inr, subst, arith, IsTrue}
 use Rattle.std.proofs.lemmas.Bool.{cases_eq, cases_lt}
 use Rattle.std.proofs.lemmas.Nat.{one_shl}
-use Rattle.order_model.specs.Orders.{has, members}
-use Rattle.order_model.specs.Pairs.{tops}
-use Rattle.order_model.proofs.Precedence.MaskLaws.{member_bit}
-use Rattle.order_model.proofs.Precedence.Greedy.{top_from, top_parts, some_top_below}
+use Rattle.definitions.specs.Orders.{has, members}
+use Rattle.definitions.specs.Pairs.{tops}
+use Rattle.definitions.proofs.Precedence.MaskLaws.{member_bit}
+use Rattle.definitions.proofs.Precedence.Greedy.{top_from, top_parts, some_top_below}
 use Rattle.order_model.proofs.pairs.Pairs.smallest_top.Goals as goal
 use Rattle.order_model.proofs.pairs.Pairs.smallest_top.Goals.{else-contains-via-then-contains+else-lawful, else-contains-via-else-contains}
 

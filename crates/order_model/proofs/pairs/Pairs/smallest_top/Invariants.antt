@@ -1,6 +1,6 @@
 use Rattle.std.proofs.Common.{ℕ, ◌<◌, IsTrue}
-use Rattle.order_model.specs.Orders.{has, members}
-use Rattle.order_model.specs.Pairs.{tops}
+use Rattle.definitions.specs.Orders.{has, members}
+use Rattle.definitions.specs.Pairs.{tops}
 use Rattle.order_model.proofs.pairs.Pairs.smallest_top.Given as goal
 
 abbrev pub invariant-loop-x : goal.invariant-loop-x

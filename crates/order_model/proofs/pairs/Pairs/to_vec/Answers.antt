@@ -1,5 +1,5 @@
 use Rattle.std.proofs.Common.{sym, ◌∙◌, arith}
-use Rattle.order_model.proofs.Precedence.MaskLaws.{rows_start, rows_all, row_start, row_pair, row_skip, row_end}
+use Rattle.definitions.proofs.Precedence.MaskLaws.{rows_start, rows_all, row_start, row_pair, row_skip, row_end}
 use Rattle.order_model.proofs.pairs.Pairs.to_vec.Goals as goal
 use Rattle.order_model.proofs.pairs.Pairs.to_vec.Goals.{then-contains+in_ok-push, else-contains}
 

@@ -1,5 +1,5 @@
 use Rattle.std.proofs.Common.{◌≡◌}
-use Rattle.order_model.proofs.Precedence.MaskLaws.{rows_to, row_to}
+use Rattle.definitions.proofs.Precedence.MaskLaws.{rows_to, row_to}
 use Rattle.order_model.proofs.pairs.Pairs.to_vec.Given as goal
 
 abbrev pub invariant-loop-a : goal.invariant-loop-a

@@ -1,5 +1,5 @@
 use Rattle.std.proofs.Common.{◌<◌, length, get_or, ap, arith}
-use Rattle.order_model.proofs.Lists.Orders.{has_at}
+use Rattle.definitions.proofs.Lists.Orders.{has_at}
 use Rattle.sifting.specs.Managed.{Managed}
 use Rattle.sifting.proofs.manager.Manager.may_swap.Goals as goal
 

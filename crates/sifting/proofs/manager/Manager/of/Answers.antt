@@ -1,5 +1,5 @@
 use Rattle.std.proofs.Common.{refl, sym, subst}
-use Rattle.order_model.specs.Pairs.{keeps, Keeps}
+use Rattle.definitions.specs.Pairs.{keeps, Keeps}
 use Rattle.sifting.proofs.manager.Manager.of.Goals as goal
 
 pub with_pairs-requires-clause-kept : goal.with_pairs-requires-clause-kept

@@ -1,5 +1,5 @@
 use Rattle.std.proofs.Common.{◌≤◌, ◌<◌, ap, subst, ◌∙◌}
-use Rattle.order_model.specs.Orders.{place_in}
+use Rattle.definitions.specs.Orders.{place_in}
 use Rattle.sifting.specs.Moves.{IsMoved}
 use Rattle.sifting.proofs.BestPlace.{best_is, passes_back, moved_on, finds_from}
 use Rattle.sifting.proofs.manager.Manager.put_best.Goals as goal

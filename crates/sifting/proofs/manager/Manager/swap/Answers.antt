@@ -1,5 +1,5 @@
 use Rattle.std.proofs.Common.{◌≡◌, ◌+◌, ◌<◌, length, get_or, sym, ap, subst, ◌∙◌, arith, false}
-use Rattle.order_model.specs.Pairs.{has_pair}
+use Rattle.definitions.specs.Pairs.{has_pair}
 use Rattle.sifting.specs.declared.levels.Level.{Level}
 use Rattle.sifting.specs.Leveled.{Exchanges}
 use Rattle.sifting.specs.Managed.{Managed}

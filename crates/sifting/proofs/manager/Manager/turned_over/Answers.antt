@@ -1,5 +1,5 @@
 use Rattle.std.proofs.Common.{◌<◌, length, ap, ◌∙◌, get_or, arith}
-use Rattle.order_model.proofs.Lists.Orders.{has_at}
+use Rattle.definitions.proofs.Lists.Orders.{has_at}
 use Rattle.sifting.proofs.manager.Manager.turned_over.Goals as goal
 
 pub place_of-place-requires : goal.place_of-place-requires

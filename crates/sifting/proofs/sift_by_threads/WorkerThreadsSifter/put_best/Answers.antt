@@ -1,5 +1,5 @@
 use Rattle.std.proofs.Common.{ap, subst, ◌∙◌}
-use Rattle.order_model.specs.Orders.{place_in}
+use Rattle.definitions.specs.Orders.{place_in}
 use Rattle.sifting.specs.Moves.{WalksUp, WalksDown}
 use Rattle.sifting.proofs.BothWalks.{upper_passes, upper_best, lower_passes, lower_best}
 use Rattle.sifting.proofs.sift_by_threads.WorkerThreadsSifter.put_best.Goals as goal

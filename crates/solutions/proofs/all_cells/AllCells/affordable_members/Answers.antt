@@ -1,8 +1,8 @@
 use Rattle.std.proofs.Common.{◌≡◌, ℕ, ◌+◌, ◌-◌, ◌<◌, sym, ap, ◌∙◌, subst, arith}
 use Rattle.std.proofs.lemmas.Bool.{iff_false}
 use Rattle.std.proofs.lemmas.Nat.{one_shl}
-use Rattle.order_model.specs.declared.bounds_above.Limit.{Limit}
-use Rattle.order_model.proofs.Bits.Problems.{MaskOfFirst, mask_with_next, mask_without_next}
+use Rattle.definitions.specs.declared.limits.Limit.{Limit}
+use Rattle.definitions.proofs.Bits.Problems.{MaskOfFirst, mask_with_next, mask_without_next}
 use Rattle.layer_core.specs.Instances.{Instance}
 use Rattle.solutions.specs.Solutions.{cost_for, cost_for_without}
 use Rattle.solutions.proofs.Wanted.{is_affordable, affordable_is, affordable_yes, affordable_dear, affordable_absent}

@@ -1,4 +1,4 @@
-use Rattle.order_model.proofs.Bits.Problems.{MaskOfFirst}
+use Rattle.definitions.proofs.Bits.Problems.{MaskOfFirst}
 use Rattle.solutions.specs.Solutions.{cost_for_without}
 use Rattle.solutions.proofs.Wanted.{is_affordable}
 use Rattle.solutions.proofs.all_cells.AllCells.affordable_members.Given as goal

@@ -1,10 +1,10 @@
 use Rattle.std.proofs.Common.{◌≡◌, ℕ, Bool, refl, sym, ap, ap₂, ◌∙◌}
-use Rattle.order_model.specs.KeptPairs.{KeptPairs}
-use Rattle.order_model.specs.Orders.{mask_of, members}
-use Rattle.order_model.specs.Pairs.{is_lawful}
-use Rattle.order_model.specs.Cells.{asked}
-use Rattle.order_model.specs.declared.bounds_above.BoundAbove.{BoundAbove}
-use Rattle.order_model.specs.declared.bounds_above.Limit.{Limit}
+use Rattle.definitions.specs.KeptPairs.{KeptPairs}
+use Rattle.definitions.specs.Orders.{mask_of, members}
+use Rattle.definitions.specs.Pairs.{is_lawful}
+use Rattle.definitions.specs.Cells.{asked}
+use Rattle.definitions.specs.declared.limits.BoundAbove.{BoundAbove}
+use Rattle.definitions.specs.declared.limits.Limit.{Limit}
 use Rattle.layer_core.specs.Instances.{Instance}
 use Rattle.solutions.specs.Solutions.{cost_for_without}
 use Rattle.solutions.proofs.Wanted.{needed_lawful, needed_unlawful}

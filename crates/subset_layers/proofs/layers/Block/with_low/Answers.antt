@@ -1,10 +1,10 @@
 use Rattle.std.proofs.Common.{◌≡◌, ◌≤◌, ℕ, ◌+◌, ◌*◌, ◌-◌, ◌/◌, ◌%◌, ◌^◌, arith, sym, ap, ◌∙◌}
 use Rattle.std.proofs.lemmas.List.{length-set}
-use Rattle.order_model.proofs.Bits.Ones.{ones-members}
+use Rattle.definitions.proofs.Bits.Ones.{ones-members}
 use Rattle.subset_layers.proofs.BlockLists.{block_masks_are, mask_small, high_mask, high_no_mask}
 use Rattle.subset_layers.proofs.layers.Block.with_low.Goals as goal
 use Rattle.subset_layers.proofs.layers.Block.with_low.Goals.{then-mask-size, else-mask-size}
-use Rattle.order_model.proofs.Bits.Masks.{power_small}
+use Rattle.definitions.proofs.Bits.Masks.{power_small}
 
 -- the end of the loop
 highs_are : (n : ℕ) → n ≤ 16 → (1 * 2 ^ n % 18446744073709551616 + 256 - 1) / 256 ≡ (2 ^ n + 255) / 256

@@ -1,6 +1,6 @@
 use Rattle.std.proofs.Common.{◌≡◌, ◌≤◌, ◌+◌, ◌*◌, take, map, length, nat_eq}
 use Rattle.std.specs.List.{filter, range_with_len}
-use Rattle.order_model.specs.Orders.{members}
+use Rattle.definitions.specs.Orders.{members}
 use Rattle.subset_layers.proofs.layers.Block.with_low.Given as goal
 
 abbrev pub invariant-loop-high : goal.invariant-loop-high

@@ -1,5 +1,5 @@
 use Rattle.std.proofs.Common.{◌≡◌, ◌<◌, ℕ, List, ◌%◌, true, length, get_or, sym, ap, ◌∙◌, arith}
-use Rattle.order_model.specs.Orders.{has, place_in}
+use Rattle.definitions.specs.Orders.{has, place_in}
 use Rattle.subset_layers.specs.Layers.{LayerOf, layer_with, low_bytes, masks_of, blocks_of, block_place}
 use Rattle.subset_layers.specs.Selections.{ArePlaced}
 use Rattle.subset_layers.proofs.BlockLists.{default_free, low_of_mask, table_place, blocks_length}

@@ -3,7 +3,7 @@ use Rattle.std.specs.List.{range_with_len, list_any}
 use Rattle.std.proofs.lemmas.List.FromFn.{length-map-range_with_len}
 use Rattle.subset_layers.specs.Selections.{chosen}
 use Rattle.subset_layers.proofs.BlockLists.{masks_chosen, lows_chosen}
-use Rattle.order_model.proofs.Bits.Masks.{power_small}
+use Rattle.definitions.proofs.Bits.Masks.{power_small}
 use Rattle.subset_layers.proofs.layers.Layer.of.Goals as goal
 
 pub of-requires : goal.of-requires

@@ -1,5 +1,5 @@
 use Rattle.std.proofs.Common.{IsNone, IsFalse, ◌↔◌, subst}
-use Rattle.order_model.specs.Orders.{has}
+use Rattle.definitions.specs.Orders.{has}
 use Rattle.subset_layers.specs.Layers.{masks_of}
 use Rattle.subset_layers.proofs.BlockLists.{position_none}
 use Rattle.subset_layers.proofs.layers.Layer.position.Goals as goal

@@ -1,9 +1,9 @@
 use Rattle.std.proofs.Common.{◌≡◌, length, sym, ap, ◌∙◌, subst, eq-eqb, ne_eqb, eqb-true}
 use Rattle.std.proofs.lemmas.Bool.{iff_false}
 use Rattle.std.proofs.lemmas.List.{with_items_is}
-use Rattle.order_model.specs.Functions.{from_table, table}
-use Rattle.order_model.specs.Problems.{IsClean, table_at, table_in}
-use Rattle.order_model.proofs.Lists.Orders.{same_bool}
+use Rattle.definitions.specs.Functions.{from_table, table}
+use Rattle.definitions.specs.Problems.{IsClean, table_at, table_in}
+use Rattle.definitions.proofs.Lists.Orders.{same_bool}
 use Rattle.truth_table.specs.Restrictions.{fixed}
 use Rattle.truth_table.proofs.Cofactors.{cofactor_start, cofactor_step, members_less}
 use Rattle.truth_table.proofs.tables.Tables.cofactor.Goals as goal

@@ -1,7 +1,7 @@
 use Rattle.std.proofs.Common.{◌≡◌, length}
-use Rattle.order_model.specs.Functions.{from_table, table}
-use Rattle.order_model.specs.Orders.{members}
-use Rattle.order_model.specs.Problems.{IsClean, table_at, table_in, words_per_table}
+use Rattle.definitions.specs.Functions.{from_table, table}
+use Rattle.definitions.specs.Orders.{members}
+use Rattle.definitions.specs.Problems.{IsClean, table_at, table_in, words_per_table}
 use Rattle.truth_table.specs.Restrictions.{fixed}
 use Rattle.truth_table.proofs.tables.Tables.cofactor.Given as goal
 

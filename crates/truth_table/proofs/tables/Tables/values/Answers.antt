@@ -1,5 +1,5 @@
 use Rattle.std.proofs.Common.{◌≡◌, ◌++◌, sym, ◌∙◌, subst, arith}
-use Rattle.order_model.specs.Problems.{TruthTables, table_at, table_in}
+use Rattle.definitions.specs.Problems.{TruthTables, table_at, table_in}
 use Rattle.truth_table.specs.Assignments.{values_at}
 use Rattle.truth_table.proofs.LeafClasses.{values_packed, values_more}
 use Rattle.truth_table.proofs.tables.Tables.values.Goals as goal

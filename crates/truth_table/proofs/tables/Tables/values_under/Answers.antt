@@ -1,6 +1,6 @@
 use Rattle.std.proofs.Common.{◌≡◌, ◌<◌, ◌^◌, ℕ, List, sym, ap, ◌∙◌, subst}
 use Rattle.std.specs.List.{All}
-use Rattle.order_model.specs.Orders.{IsOrder}
+use Rattle.definitions.specs.Orders.{IsOrder}
 use Rattle.truth_table.specs.Assignments.{assignments}
 use Rattle.truth_table.proofs.LeafClasses.{assignments_below}
 use Rattle.truth_table.proofs.tables.Tables.values_under.Goals as goal

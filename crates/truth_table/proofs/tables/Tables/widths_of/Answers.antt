@@ -1,8 +1,8 @@
 use Rattle.std.proofs.Common.{ℕ, ap, ◌∙◌, subst, arith}
 use Rattle.std.proofs.lemmas.List.{length-map}
-use Rattle.order_model.specs.Functions.{from_table}
-use Rattle.order_model.specs.Orders.{IsOrder}
-use Rattle.order_model.specs.Problems.{functions, outputs_of}
+use Rattle.definitions.specs.Functions.{from_table}
+use Rattle.definitions.specs.Orders.{IsOrder}
+use Rattle.definitions.specs.Problems.{functions, outputs_of}
 use Rattle.truth_table.specs.Assignments.{assignments}
 use Rattle.truth_table.proofs.LeafClasses.{assignments_below, start_tells}
 use Rattle.truth_table.proofs.LevelSteps.{level_step, counts_whole, few_classes}

@@ -1,6 +1,6 @@
 use Rattle.std.proofs.Common.{◌≡◌, ℕ, ◌<◌, ◌≤◌, length, get_or, take}
-use Rattle.order_model.specs.Levels.{level_count, reach}
-use Rattle.order_model.specs.Problems.{functions}
+use Rattle.definitions.specs.Levels.{level_count, reach}
+use Rattle.definitions.specs.Problems.{functions}
 use Rattle.truth_table.proofs.LevelSteps.{Tells}
 use Rattle.truth_table.proofs.tables.Tables.widths_of.Given as goal
 

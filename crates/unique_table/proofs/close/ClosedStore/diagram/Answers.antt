@@ -1,8 +1,8 @@
 use Rattle.std.proofs.Common.{◌≡◌, ℕ, List, map, take, length, ◌∙◌, sym, ap, subst}
 use Rattle.std.specs.List.{All}
 use Rattle.std.specs.Slots.{slots_items}
-use Rattle.order_model.specs.Diagrams.{Graph, Represents}
-use Rattle.order_model.specs.Problems.{functions}
+use Rattle.definitions.specs.Diagrams.{Graph, Represents}
+use Rattle.definitions.specs.Problems.{functions}
 use Rattle.node_words.specs.Nodes.{IsKnown}
 use Rattle.node_words.specs.Meaning.{function_of}
 use Rattle.unique_table.specs.declared.close.ClosedStore.TheInside as closed

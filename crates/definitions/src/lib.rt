@@ -1,0 +1,23 @@
+//! What orders, Boolean functions, decision diagrams, their sizes and certificates are: the
+//! definitions, their laws as lemmas, and the plain types that the definitions speak of.
+#![tactic(auto)]
+
+// Variables, sets of variables, product terms and truth tables in words.
+pub mod packed;
+mod problem;
+mod terms;
+mod variables;
+
+// Nodes, listed sets, what prunes a search, and faults.
+mod faults;
+mod limits;
+mod listed_cells;
+mod nodes;
+
+pub use faults::{BadOrder, PairsFault};
+pub use limits::{BoundAbove, Limit};
+pub use listed_cells::ListedCell;
+pub use nodes::{Node, Ref};
+pub use problem::Problem;
+pub use terms::Term;
+pub use variables::{Mask, VarIx, Workers, contains};

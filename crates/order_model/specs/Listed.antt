@@ -1,7 +1,0 @@
--- Listed sets, as a certificate has them.
-use Rattle.order_model.specs.Certificates.{Cell}
-use Rattle.order_model.specs.declared.listed_cells.ListedCell.{ListedCell}
-
--- a listed set with its cost, as a certificate has it
-abbrev pub listed : ListedCell → Cell
-listed c = record { mask = c.mask; cost = c.cost }

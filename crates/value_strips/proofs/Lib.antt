@@ -1,0 +1,3 @@
+pub mod Unrolled
+pub mod Expanded
+pub mod KeptRuns

@@ -1,0 +1,2 @@
+pub mod ValueStrips
+pub mod Columns

@@ -1,0 +1,238 @@
+//! The numbers of a problem's values, in strips: runs of 256 points are four words of a function,
+//! and equal ones are kept once.
+
+ghost use Rattle.std.specs.Prelude.{◌≡◌, ◌==◌, ℕ, ◌+◌, ◌*◌, ◌/◌, ◌^◌, ◌<◌, ◌≤◌, ◌++◌, Bool, List, length, slice_index, IfOk, IfSome, OnOk};
+ghost use Rattle.std.specs.Int.{bit_at};
+ghost use Rattle.definitions.specs.Problems.{outputs_of};
+ghost use Rattle.value_strips.specs.Columns.{AddsRuns, AreByteRows, IsChained, KeepsValues, low_numbers, packed_numbers};
+ghost use Rattle.subfunction_classes.specs.Strips.{AreNamed, unrolled};
+ghost use Rattle.value_strips.specs.ValueStrips.{HoldsValues};
+ghost use Rattle.subfunction_classes.specs.PairTables.{AllBelow};
+ghost use Rattle.subfunction_classes.specs.Values.{values_of, number_of as number};
+
+use definitions::Problem;
+use std::alloc::{AllocError, Global};
+use subfunction_classes::value_numbers;
+
+/// How many chains there are.
+const SLOTS: usize = 4096;
+
+/// The numbers of a problem's values in strips. Equal runs of points may share a strip: `outer`
+/// names the strip of each run, function by function, and `numbers` has the strips that are kept,
+/// one after the other.
+#[derive(Drop)]
+pub struct ValueStrips {
+    pub outer: Vec<u32>,
+    pub numbers: Vec<u32>,
+}
+
+/// Runs of 256 points. `outer` names the kept run that each is equal to, and `kept` has the words
+/// of these, four each. The kept runs of a slot are chained from its head on: there stands one more
+/// than a run's number, or 0.
+#[derive(Drop)]
+struct Columns {
+    outer: Vec<u32>,
+    kept: Vec<u64>,
+    next: Vec<u32>,
+    heads: Vec<u32>,
+}
+
+/// The slot of a run.
+#[inline(always)]
+fn slot_of(run: &[u64]) -> usize
+    requires { length run.now ≡ 4 }
+    ensures { result < 4096 }
+{
+    let mixed = run[0]
+        .wrapping_mul(0x9e37_79b9_7f4a_7c15)
+        .wrapping_add(run[1].wrapping_mul(0xc2b2_ae3d_27d4_eb4f))
+        .wrapping_add(run[2].wrapping_mul(0x1656_67b1_9e37_79f9))
+        .wrapping_add(run[3].wrapping_mul(0x27d4_eb2f_1656_67c5));
+    let spread = (mixed ^ (mixed >> 32)).wrapping_mul(0x9fb2_1c65_1e98_df25);
+    (spread >> 52) as usize % SLOTS
+}
+
+/// The number of a kept run that is equal to this one.
+#[inline(always)]
+fn find_run(kept: &[u64], next: &[u32], head: u32, run: &[u64]) -> Option<u32>
+    requires whole { length kept.now ≡ length next.now * 4 }
+    requires earlier { (k : ℕ) → k < length next.now → slice_index next.now k ≤ k }
+    requires start { head ≤ length next.now }
+    requires run { length run.now ≡ 4 }
+    ensures within { IfSome result (λ k. k < length next.now) }
+    ensures same { IfSome result
+        (λ k. (a : ℕ) → a < 4 → slice_index kept.now (k * 4 + a) ≡ slice_index run.now a) }
+{
+    let mut link = head;
+    while link > 0 {
+        let number = link - 1;
+        let place = number as usize * 4;
+        if kept[place] == run[0]
+            && kept[place + 1] == run[1]
+            && kept[place + 2] == run[2]
+            && kept[place + 3] == run[3]
+        {
+            return Some(number);
+        }
+        link = next[number as usize];
+    }
+    None
+}
+
+/// Adds a run.
+#[inline(always)]
+fn push_run(columns: &mut Columns, run: &[u64]) -> Result<(), AllocError>
+    requires chained { IsChained columns.old }
+    requires run { length run.now ≡ 4 }
+    requires room { length columns.old.next.items < 2 ^ 20 }
+    ensures chained { OnOk result (IsChained columns.new) }
+    ensures runs { OnOk result (AddsRuns columns.old columns.new run.now) }
+{
+    let slot = slot_of(run);
+    let head = columns.heads[slot];
+    let found = find_run(&columns.kept, &columns.next, head, run);
+    let number = match found {
+        Some(number) => number,
+        None => {
+            let number = columns.next.len() as u32;
+            columns.kept.extend_from_slice(run)?;
+            columns.next.push(head)?;
+            columns.heads[slot] = number + 1;
+            number
+        }
+    };
+    columns.outer.push(number)?;
+    Ok(())
+}
+
+/// Adds the runs of a function.
+fn push_runs(columns: &mut Columns, words: &[u64]) -> Result<(), AllocError>
+    requires chained { IsChained columns.old }
+    requires whole { (runs : ℕ) × (length words.now ≡ runs * 4) }
+    requires few { length words.now ≤ 2 ^ 10 }
+    requires room { length columns.old.next.items ≤ 2 ^ 16 }
+    ensures chained { OnOk result (IsChained columns.new) }
+    ensures runs { OnOk result (AddsRuns columns.old columns.new words.now) }
+{
+    for run in 0..words.len() / 4 {
+        push_run(columns, &words[run * 4..run * 4 + 4])?;
+    }
+    Ok(())
+}
+
+/// The runs of a problem.
+fn columns_of(alloc: Global, problem: &Problem) -> Result<Columns, AllocError>
+    requires { 8 ≤ problem.now.inputs }
+    ensures some { 0 < outputs_of problem.now }
+    ensures long { IfOk result
+        (λ c. length c.outer.items * 256 ≡ outputs_of problem.now * 2 ^ problem.now.inputs) }
+    ensures few { IfOk result (λ c. length c.outer.items ≤ 2 ^ 12) }
+    ensures whole { IfOk result (λ c. length c.kept.items ≡ length c.next.items * 4) }
+    ensures keeps { IfOk result (λ c. KeepsValues c (values_of problem.now)) }
+{
+    let runs = (problem.outputs() as usize) << (problem.inputs() - 8);
+    let mut columns = Columns {
+        outer: Vec::with_capacity(alloc, runs)?,
+        kept: Vec::new(alloc),
+        next: Vec::new(alloc),
+        heads: vec![in alloc; 0u32; SLOTS]?,
+    };
+    for output in 0..problem.outputs() {
+        push_runs(&mut columns, problem.words(output))?;
+    }
+    Ok(columns)
+}
+
+/// The number of the value in bit b.
+#[inline(always)]
+fn number_at(byte: u32, b: u32, first: bool) -> u32
+    requires { b < 32 }
+    ensures { result ≡ number first (bit_at byte b == 1) }
+{
+    let value = (byte >> b) & 1 == 1;
+    if value == first { 0 } else { 1 }
+}
+
+/// The numbers of each byte's eight values, one byte after the other.
+fn byte_numbers(alloc: Global, first: bool) -> Result<Vec<u32>, AllocError>
+    ensures long { IfOk result (λ rows. length rows.items ≡ 2048) }
+    ensures rows { IfOk result (λ rows. AreByteRows first rows.items) }
+    ensures below { IfOk result (λ rows. AllBelow rows.items 2) }
+{
+    let mut rows = Vec::with_capacity(alloc, 2048)?;
+    for place in 0..2048u32 {
+        rows.push(number_at(place / 8, place % 8, first))?;
+    }
+    Ok(rows)
+}
+
+/// Adds the bytes of a word, the lowest first.
+#[inline(always)]
+fn push_bytes(bytes: &mut Vec<u8>, word: u64) -> Result<(), AllocError>
+    requires { AllBelow bytes.old.items 256 }
+    ensures small { OnOk result (AllBelow bytes.new.items 256) }
+    ensures numbers { OnOk result ((first : Bool) (rows : List ℕ) → AreByteRows first rows →
+        unrolled bytes.new.items rows 8 ≡ unrolled bytes.old.items rows 8
+        ++ low_numbers first word 64) }
+{
+    for place in 0..8u32 {
+        bytes.push(((word >> (place * 8)) % 256) as u8)?;
+    }
+    Ok(())
+}
+
+/// The bytes of words.
+fn bytes_of(alloc: Global, words: &[u64]) -> Result<Vec<u8>, AllocError>
+    requires { length words.now ≤ 2 ^ 16 }
+    ensures small { IfOk result (λ v. AllBelow v.items 256) }
+    ensures numbers { IfOk result (λ v. (first : Bool) (rows : List ℕ) → AreByteRows first rows →
+        unrolled v.items rows 8 ≡ packed_numbers first words.now (length words.now * 64)) }
+{
+    let mut bytes = Vec::with_capacity(alloc, words.len() * 8)?;
+    for word in words {
+        push_bytes(&mut bytes, *word)?;
+    }
+    Ok(bytes)
+}
+
+/// A strip for each run of 2^low points, function by function.
+pub fn whole_strips(
+    alloc: Global,
+    problem: &Problem,
+    low: u8,
+) -> Result<ValueStrips, AllocError>
+    requires inside { low ≤ problem.now.inputs }
+    ensures { IfOk result (λ v. HoldsValues problem.now v.outer.items v.numbers.items (2 ^ low)) }
+{
+    let numbers = value_numbers(alloc, problem)?;
+    let runs = u32::from(problem.outputs()) << (problem.inputs() - low);
+    let mut outer = Vec::with_capacity(alloc, runs as usize)?;
+    for run in 0..runs {
+        outer.push(run)?;
+    }
+    Ok(ValueStrips { outer, numbers })
+}
+
+/// The strips of 256 points, whose numbers stand in rows of eight that bytes name: 0 for the first
+/// value met, and 1 for the other one.
+#[derive(Drop)]
+pub struct ByteStrips {
+    pub outer: Vec<u32>,
+    pub bytes: Vec<u8>,
+    pub rows: Vec<u32>,
+}
+
+/// The values of a problem as bytes of kept runs.
+pub fn byte_strips(alloc: Global, problem: &Problem) -> Result<ByteStrips, AllocError>
+    requires { 8 ≤ problem.now.inputs }
+    ensures named { IfOk result (λ v. AreNamed v.bytes.items v.rows.items 8) }
+    ensures values { IfOk result
+        (λ v. HoldsValues problem.now v.outer.items (unrolled v.bytes.items v.rows.items 8) 256) }
+    ensures long { IfOk result (λ v. length v.rows.items ≡ 2048) }
+    ensures below { IfOk result (λ v. AllBelow v.rows.items 2) }
+{
+    let Columns { outer, kept, .. } = columns_of(alloc, problem)?;
+    let bytes = bytes_of(alloc, &kept)?;
+    let rows = byte_numbers(alloc, problem.value(0, 0))?;
+    Ok(ByteStrips { outer, bytes, rows })
+}
