@@ -161,7 +161,7 @@ enum {
     MINORDER_LEVELS = 4,       /* its levels are not its order's level counts */
     MINORDER_TOTAL = 5,        /* its total is not the sum of its levels */
     MINORDER_START = 6,        /* the value of the empty set is not 0 */
-    MINORDER_CELL_TOO_BIG = 7, /* a listed cost, with its reserve, is above the total */
+    MINORDER_CELL_TOO_BIG = 7, /* a listed cost, with the nodes above its set, is above the total */
     MINORDER_EDGE = 8          /* from the set `mask` by `variable` the value rises by more than the width */
 };
 
