@@ -7,7 +7,6 @@
 
 mod checking;
 mod class_table;
-mod small_sources;
 mod edges;
 mod fewer_edges;
 mod head;
@@ -19,6 +18,7 @@ mod points;
 mod position;
 mod pruning;
 mod repeats;
+mod small_sources;
 mod top_tables;
 mod values;
 mod verdict;

@@ -6,7 +6,7 @@ ghost use Rattle.subfunction_classes.specs.PairTables.{IsPairTable};
 ghost use Rattle.subfunction_classes.specs.Places as places;
 ghost use Rattle.cert_check.specs.LowerClasses.{AreLowerMasks, pairs_with};
 
-use order_model::VarIx;
+use order_model::{Mask, VarIx};
 use pair_chains::pair_at;
 use std::alloc::{AllocError, Global};
 use subfunction_classes::{count_with, join_mask};
@@ -16,8 +16,8 @@ fn lower_masks(
     alloc: Global,
     numbers: &[u32],
     x: VarIx,
-    masks: &[u16],
-) -> Result<Vec<u16>, AllocError>
+    masks: &[Mask],
+) -> Result<Vec<Mask>, AllocError>
     requires { IsPairTable numbers.now x (length masks.now) }
     ensures long { IfOk result (λ v. length v.items ≡ length masks.now) }
     ensures labels { IfOk result
@@ -36,7 +36,7 @@ fn lower_masks(
 pub(crate) fn are_wide(
     alloc: Global,
     numbers: &[u32],
-    masks: &[u16],
+    masks: &[Mask],
     x: VarIx,
     needed: &[u32],
 ) -> Result<bool, AllocError>

@@ -5,9 +5,9 @@ ghost use Rattle.cert_check.specs.Edges.{IsFirstEdge, IsFirstOfParts, part_at};
 ghost use Rattle.cert_check.specs.Walks.{CanStart, FailsAmong, FailsInBlock};
 
 use crate::class_table::ClassTable;
-use crate::small_sources::edges_up_to;
 use crate::fewer_edges::fewer_edges;
 use crate::position::{Edge, Edges, Position};
+use crate::small_sources::edges_up_to;
 use crate::top_tables::{first_from_tops, top_tables};
 use crate::walk::{first_failing, first_of};
 use order_model::{Mask, VarIx};

@@ -24,7 +24,7 @@ pub struct Classes<'a> {
     problem: &'a Problem,
     set: Mask,
     numbers: Vec<u32>,
-    masks: Vec<u16>,
+    masks: Vec<Mask>,
 }
 
 impl<'a> Model for Classes<'a> {

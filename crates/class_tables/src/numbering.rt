@@ -7,6 +7,7 @@ ghost use Rattle.subfunction_classes.specs.Places as places;
 ghost use Rattle.subfunction_classes.specs.PairTables.{IsPairTable, NumbersPairs};
 ghost use Rattle.pair_numbering.specs.Numbers.{ArePairsNumbered};
 
+use definitions::{Mask, VarIx};
 use indexmap::IndexSet;
 use pair_numbering::{EntryPairs, Numbered, join_masks, number_with_masks};
 use std::alloc::{AllocError, Global};
@@ -51,8 +52,8 @@ pub fn number_pairs_with_masks(
     alloc: Global,
     numbers: &[u32],
     rank: u32,
-    x: u8,
-    masks: &[u16],
+    x: VarIx,
+    masks: &[Mask],
 ) -> Result<Numbered, AllocError>
     requires table { IsPairTable numbers.now rank (length masks.now) }
     requires variable { x < 16 }
@@ -71,8 +72,8 @@ pub fn number_pairs_by_index(
     alloc: Global,
     numbers: &[u32],
     rank: u32,
-    x: u8,
-    masks: &[u16],
+    x: VarIx,
+    masks: &[Mask],
 ) -> Result<Numbered, AllocError>
     requires table { IsPairTable numbers.now rank (length masks.now) }
     requires variable { x < 16 }

@@ -6,6 +6,7 @@ ghost use Rattle.subfunction_classes.specs.Places as places;
 ghost use Rattle.subfunction_classes.specs.PairTables.{IsPairTable};
 ghost use Rattle.pair_numbering.specs.Chains.{AreFirsts};
 
+use definitions::{Mask, VarIx};
 use order_model::{Problem, contains};
 use pair_numbering::{EntryPairs, MaskedPairs, first_pairs};
 use std::alloc::{AllocError, Global};
@@ -50,7 +51,7 @@ impl Scratch {
     }
 
     /// How many distinct pairs have a mask with `x`.
-    pub fn count_joined(&mut self, numbers: &[u32], rank: u32, x: u8, masks: &[u16]) -> u32
+    pub fn count_joined(&mut self, numbers: &[u32], rank: u32, x: VarIx, masks: &[Mask]) -> u32
         requires table { IsPairTable numbers.now rank (length masks.now) }
         requires variable { x < 16 }
         requires few { length masks.now ≤ length numbers.now }

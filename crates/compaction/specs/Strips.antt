@@ -14,17 +14,17 @@
 use Rattle.std.specs.Prelude.{◌≡◌, ℕ, ◌+◌, ◌*◌, ◌^◌, ◌<◌, ◌≤◌, Bool, IsFalse, IsTrue, min, List, Option, None, Some, map, length, reverse, slice_index, nat_eq}
 use Rattle.std.specs.List.{filter, range_with_len}
 use Rattle.definitions.specs.Orders.{has, variables}
-use Rattle.definitions.specs.Problems.{TruthTables, value_at}
+use Rattle.definitions.specs.Problems.{TruthTables}
 use Rattle.definitions.specs.Levels.{reach}
 use Rattle.definitions.specs.Widths.{class_numbers, outside}
 use Rattle.subfunction_classes.specs.Numbering.{ranks}
 use Rattle.subfunction_classes.specs.PairTables.{AllBelow}
 use Rattle.subfunction_classes.specs.Places.{pairs}
-use Rattle.subfunction_classes.specs.Values.{values_of, number_of}
 use Rattle.subfunction_classes.specs.Dependence.{dependence}
 use Rattle.subfunction_classes.specs.Table.{ClassesOf, classes_of, functions_of, set_of, free_below}
 use Rattle.pair_numbering.specs.Keys.{AreUsed, TellsPairs}
 use Rattle.subfunction_classes.specs.Strips.{AreNamed, unrolled}
+use Rattle.value_strips.specs.ValueStrips.{AreStrips}
 
 -- how many variables run inside a strip of the empty set
 abbrev pub low_variables : TruthTables → ℕ

@@ -6,7 +6,7 @@ ghost use Rattle.pair_numbering.specs.Keys.{AreUsed};
 ghost use Rattle.compaction.specs.Strips.{GrowsStrips};
 
 use crate::names::{NamePairs, number_names};
-use order_model::VarIx;
+use order_model::{Mask, VarIx};
 use pair_numbering::{label_pairs, label_strip_pairs};
 use std::alloc::{AllocError, Global};
 use std::marker::Model;
@@ -23,7 +23,7 @@ pub(crate) struct StripTable<'a> {
     /// How many variables stand inside a strip: it has 2^bits entries.
     pub(crate) bits: u32,
     /// The mask of each number.
-    pub(crate) masks: &'a [u16],
+    pub(crate) masks: &'a [Mask],
 }
 
 impl<'a> Model for StripTable<'a> {
@@ -48,7 +48,7 @@ impl<'a> Model for StripTable<'a> {
 pub(crate) struct StripParts {
     pub(crate) outer: Vec<u32>,
     pub(crate) numbers: Vec<u32>,
-    pub(crate) masks: Vec<u16>,
+    pub(crate) masks: Vec<Mask>,
     pub(crate) all_used: bool,
     ghost used: { IsTrue all_used → AreUsed numbers.items masks.items },
 }

@@ -12,7 +12,7 @@ use crate::request::{Sizes, WidthRequest};
 use crate::shared_tables::SharedTables;
 use crate::tally::{Tallies, Tally, count_wanted};
 use crate::walking::{ByteRows, walked_rows};
-use order_model::{Mask, Pairs, Problem};
+use order_model::{Mask, Pairs, Problem, WidthRow};
 use std::alloc::{AllocError, Global};
 use std::marker::Model;
 use subset_layers::Block;
@@ -199,7 +199,7 @@ impl<'a> WidthSource<'a> {
         byte: &ByteRows,
         block: &Block,
         needed: &[Mask],
-    ) -> Result<Option<Vec<[u32; 16]>>, AllocError>
+    ) -> Result<Option<Vec<WidthRow>>, AllocError>
         requires rows { HoldsRows self.now byte.now }
         requires inputs { block.now.inputs ≡ self.now.inputs }
         requires low { block.now.low ≡ byte.now.low }
@@ -220,7 +220,7 @@ impl<'a> WidthSource<'a> {
         alloc: Global,
         block: &Block,
         needed: &[Mask],
-    ) -> Result<Option<Vec<[u32; 16]>>, AllocError>
+    ) -> Result<Option<Vec<WidthRow>>, AllocError>
         requires inputs { block.now.inputs ≡ self.now.inputs }
         requires needed { length needed.now ≡ length (block_masks block.now) }
         ensures { IfOk result (λ found. IfSome found

@@ -10,7 +10,7 @@ use crate::request::WidthRequest;
 use crate::shared_tables::SharedTables;
 use crate::tally::Tally;
 use crate::walking::{ByteRows, walked_rows};
-use order_model::{Mask, Problem, contains};
+use order_model::{Mask, Problem, WidthRow, contains};
 use std::alloc::{AllocError, Global};
 use std::marker::Model;
 use subset_layers::Block;
@@ -18,7 +18,7 @@ use subset_layers::Block;
 /// The widths of the sets of a block: a row for each of its masks.
 #[derive(Drop)]
 pub struct BlockWidths {
-    rows: Vec<[u32; 16]>,
+    rows: Vec<WidthRow>,
     compactions: u32,
 }
 
@@ -32,7 +32,7 @@ impl Model for BlockWidths {
 
 impl BlockWidths {
     /// Rows, and how many tables were compacted for them.
-    pub(crate) fn new(rows: Vec<[u32; 16]>, compactions: u32) -> BlockWidths
+    pub(crate) fn new(rows: Vec<WidthRow>, compactions: u32) -> BlockWidths
         ensures rows { result.rows ≡ rows.items }
         ensures compactions { result.compactions ≡ compactions }
     {
@@ -41,7 +41,7 @@ impl BlockWidths {
 
     /// The widths of the set at a place of the block: at each variable that was wanted its width
     /// over the set without it, else 0.
-    pub fn row(&self, i: usize) -> [u32; 16]
+    pub fn row(&self, i: usize) -> WidthRow
         requires { i < length self.now.rows }
         ensures { slice_get self.now.rows i ≡ Some result }
     {
@@ -49,7 +49,7 @@ impl BlockWidths {
     }
 
     /// The rows alone.
-    pub fn into_rows(self) -> Vec<[u32; 16]>
+    pub fn into_rows(self) -> Vec<WidthRow>
         ensures { result.items ≡ self.rows }
     {
         self.rows
@@ -64,7 +64,7 @@ impl BlockWidths {
 }
 
 /// The widths of some members alone, and 0 of the others.
-fn members_only(row: [u32; 16], members: Mask) -> [u32; 16]
+fn members_only(row: WidthRow, members: Mask) -> WidthRow
     ensures { (x : ℕ) → x < 16 →
         slice_index result x ≡ (if bit_at members x == 1 then slice_index row x else 0) }
 {
@@ -85,7 +85,7 @@ impl<'a> SharedTables<'a> {
         byte: &ByteRows,
         block: &Block,
         needed: &[Mask],
-    ) -> Result<Vec<[u32; 16]>, AllocError>
+    ) -> Result<Vec<WidthRow>, AllocError>
         requires rows { HoldsRows self.now byte.now }
         requires inputs { block.now.inputs ≡ byte.now.inputs }
         requires low { block.now.low ≡ byte.now.low }

@@ -6,13 +6,13 @@ ghost use Rattle.definitions.specs.Orders.{has};
 ghost use Rattle.subfunction_classes.specs.Strips.{AreNamed, unrolled};
 
 use crate::add_variable::StripParts;
-use value_strips::{ByteStrips, byte_strips};
 use crate::strips::Strips;
 use order_model::{Mask, Problem, VarIx};
 use pair_numbering::label_pairs;
 use std::alloc::{AllocError, Global};
 use std::marker::Model;
 use subfunction_classes::rank_of;
+use value_strips::{ByteStrips, byte_strips};
 
 /// The keys of a set of the lowest three variables. A byte names a row, which has an entry for each
 /// assignment of those of the three outside the set.
@@ -23,7 +23,7 @@ pub(crate) struct ByteKeys<'a> {
     outer: Vec<u32>,
     bytes: Vec<u8>,
     rows: Vec<u32>,
-    masks: Vec<u16>,
+    masks: Vec<Mask>,
 }
 
 impl<'a> Model for ByteKeys<'a> {

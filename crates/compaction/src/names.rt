@@ -108,7 +108,7 @@ fn step_of(
     names: &[u32],
     steps: &[Option<NamePairs>],
     set: usize,
-    y: u8,
+    y: VarIx,
 ) -> Result<Option<NamePairs>, AllocError>
     requires { y < 8 }
 {

@@ -9,13 +9,13 @@ ghost use Rattle.subfunction_classes.specs.PairTables.{AllBelow, AreOwn};
 ghost use Rattle.compaction.specs.Strips.{masks_in_use, low_variables as low_of};
 
 use crate::add_variable::{StripParts, StripTable, add_above, are_in_order};
-use value_strips::{ValueStrips, whole_strips};
 use crate::names::NamePairs;
-use order_model::{Mask, Problem, VarIx, contains};
+use order_model::{Mask, Problem, VarIx, WidthRow, contains};
 use pair_numbering::label_pairs;
 use std::alloc::{AllocError, Global};
 use std::marker::Model;
 use subfunction_classes::{count_with, rank_of};
+use value_strips::{ValueStrips, whole_strips};
 
 /// The keys of a set in strips: equal subfunctions have one key, and each key that occurs has the
 /// mask of what its function depends on. A strip has an entry for each assignment of the low
@@ -30,7 +30,7 @@ pub(crate) struct Strips<'a> {
     all_used: bool,
     outer: Vec<u32>,
     numbers: Vec<u32>,
-    masks: Vec<u16>,
+    masks: Vec<Mask>,
 }
 
 impl<'a> Model for Strips<'a> {
@@ -54,7 +54,7 @@ pub(crate) fn low_variables(problem: &Problem) -> u8
 }
 
 /// At each wanted variable how many masks have its bit, else 0.
-fn row_of(masks: &[u16], wanted: Mask) -> [u32; 16]
+fn row_of(masks: &[Mask], wanted: Mask) -> WidthRow
     requires few { length masks.now ≤ 2 ^ 20 }
     ensures { (x : ℕ) → x < 16 →
         slice_index result x ≡ (if bit_at wanted x == 1
@@ -84,7 +84,7 @@ fn numbers_in_use(alloc: Global, numbers: &[u32], count: usize) -> Result<Vec<bo
 }
 
 /// The masks of the numbers that occur.
-fn used_masks(alloc: Global, numbers: &[u32], masks: &[u16]) -> Result<Vec<u16>, AllocError>
+fn used_masks(alloc: Global, numbers: &[u32], masks: &[Mask]) -> Result<Vec<Mask>, AllocError>
     requires below { AllBelow numbers.now (length masks.now) }
     ensures { IfOk result (λ v. v.items ≡ masks_in_use numbers.now masks.now) }
 {
@@ -99,7 +99,7 @@ fn used_masks(alloc: Global, numbers: &[u32], masks: &[u16]) -> Result<Vec<u16>,
 }
 
 /// Whether all masks are the same.
-fn are_all(masks: &[u16], mask: u16) -> bool
+fn are_all(masks: &[Mask], mask: Mask) -> bool
     ensures { IsTrue result → (i : ℕ) → i < length masks.now → slice_index masks.now i ≡ mask }
 {
     for own in masks {
@@ -111,7 +111,7 @@ fn are_all(masks: &[u16], mask: u16) -> bool
 }
 
 /// Whether all entries are distinct and have the mask of the whole set.
-fn all_distinct(outer: &[u32], numbers: &[u32], masks: &[u16], set: Mask) -> bool
+fn all_distinct(outer: &[u32], numbers: &[u32], masks: &[Mask], set: Mask) -> bool
     ensures exact { IsTrue result → length masks.now ≡ length numbers.now }
     ensures outer { IsTrue result → AreOwn outer.now }
     ensures numbers { IsTrue result → AreOwn numbers.now }
@@ -124,7 +124,7 @@ fn all_distinct(outer: &[u32], numbers: &[u32], masks: &[u16], set: Mask) -> boo
 }
 
 /// The same width at each wanted variable, else 0.
-fn same_row(width: u32, wanted: Mask) -> [u32; 16]
+fn same_row(width: u32, wanted: Mask) -> WidthRow
     ensures { (x : ℕ) → x < 16 →
         slice_index result x ≡ (if bit_at wanted x == 1 then width else 0) }
 {
@@ -273,7 +273,7 @@ impl<'a> Strips<'a> {
     }
 
     /// The widths of the wanted variables, each over the set without it, and 0 of the others.
-    pub(crate) fn width_row(&self, alloc: Global, wanted: Mask) -> Result<[u32; 16], AllocError>
+    pub(crate) fn width_row(&self, alloc: Global, wanted: Mask) -> Result<WidthRow, AllocError>
         requires { (x : ℕ) → bit_at wanted x ≡ 1 → IsTrue (has (set_of self.now) x) }
         ensures { IfOk result (λ row. IsWidthRow self.now.problem self.now.set wanted row) }
     {

@@ -13,7 +13,7 @@ use crate::names::AllNamePairs;
 use crate::request::WidthRequest;
 use crate::shared_tables::SharedTables;
 use crate::strips::{Strips, low_variables};
-use order_model::{Mask, Problem, VarIx, contains};
+use order_model::{Mask, Problem, VarIx, WidthRow, contains};
 use std::alloc::{AllocError, Global};
 use std::marker::Model;
 
@@ -90,7 +90,7 @@ fn fill_row(
     alloc: Global,
     table: &Strips<'_>,
     request: &WidthRequest,
-    rows: &mut [[u32; 16]],
+    rows: &mut [WidthRow],
 ) -> Result<(), AllocError>
     requires inputs { request.now.inputs ≡ table.now.problem.inputs }
     requires rows { length rows.old ≡ length request.now.needed.items }
@@ -112,7 +112,7 @@ fn walk(
     names: &AllNamePairs,
     branch: &Branch,
     request: &WidthRequest,
-    rows: &mut [[u32; 16]],
+    rows: &mut [WidthRow],
 ) -> Result<u32, AllocError>
     requires inputs { request.now.inputs ≡ table.now.problem.inputs }
     requires decided { HasDecided table.now branch.now.decided }
@@ -161,7 +161,7 @@ fn walk_from(
     shared: &SharedTables<'_>,
     table: &Strips<'_>,
     request: &WidthRequest,
-    rows: &mut [[u32; 16]],
+    rows: &mut [WidthRow],
 ) -> Result<u32, AllocError>
     requires inputs { request.now.inputs ≡ shared.now.inputs }
     requires table { table.now ≡ classes_of shared.now request.now.low }
@@ -185,7 +185,7 @@ fn fill_rows(
     alloc: Global,
     shared: &SharedTables<'_>,
     request: &WidthRequest,
-    rows: &mut [[u32; 16]],
+    rows: &mut [WidthRow],
 ) -> Result<u32, AllocError>
     requires inputs { request.now.inputs ≡ shared.now.inputs }
     requires rows { length rows.old ≡ length request.now.needed.items }
@@ -207,7 +207,7 @@ fn fill_rows(
 #[derive(Drop)]
 pub(crate) struct ByteRows {
     pub(crate) request: WidthRequest,
-    pub(crate) rows: Vec<[u32; 16]>,
+    pub(crate) rows: Vec<WidthRow>,
 }
 
 impl Model for ByteRows {

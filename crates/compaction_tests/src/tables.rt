@@ -5,7 +5,7 @@ ghost use Rattle.std.specs.Prelude.{◌≡◌};
 use crate::problems::{MULTIPLEXER, PROBLEMS, problem_of};
 use class_tables::{Classes, Scratch};
 use compaction::Tally;
-use order_model::{Mask, Problem};
+use order_model::{Mask, Problem, VarIx};
 use std::alloc::Global;
 use std::process::Abort;
 use subfunction_classes::count_with;
@@ -16,7 +16,7 @@ fn are_same(one: &Classes<'_>, other: &Classes<'_>) -> bool {
 }
 
 /// The classes with one more variable, which isn't in the set, found alike in both ways.
-fn with<'a>(rt: &impl Abort, alloc: Global, classes: &Classes<'a>, x: u8) -> Classes<'a> {
+fn with<'a>(rt: &impl Abort, alloc: Global, classes: &Classes<'a>, x: VarIx) -> Classes<'a> {
     assert!(rt; classes.lacks(x));
     let next = classes.compact(alloc, x).expect(rt, "memory");
     let indexed = classes.compact_indexed(alloc, x).expect(rt, "memory");
@@ -29,7 +29,7 @@ fn width_of(
     rt: &impl Abort,
     alloc: Global,
     classes: &Classes<'_>,
-    x: u8,
+    x: VarIx,
     tally: &mut Tally,
 ) -> u32 {
     assert!(rt; classes.lacks(x) && tally.count() < 1000);
@@ -64,7 +64,7 @@ fn are_of_first_variable(
 }
 
 /// Whether a table with one more variable has two numbers.
-fn has_two_with(rt: &impl Abort, alloc: Global, one: &Classes<'_>, x: u8) -> bool {
+fn has_two_with(rt: &impl Abort, alloc: Global, one: &Classes<'_>, x: VarIx) -> bool {
     with(rt, alloc, one, x).numbers() == [0, 1].as_slice()
 }
 
@@ -120,7 +120,7 @@ fn width_in_both_ways(
     alloc: Global,
     problem: &Problem,
     classes: &Classes<'_>,
-    x: u8,
+    x: VarIx,
 ) -> u32
     requires { classes.now.problem ≡ problem.now }
 {
@@ -139,7 +139,7 @@ pub(crate) fn width_alone(
     alloc: Global,
     problem: &Problem,
     without: Mask,
-    x: u8,
+    x: VarIx,
 ) -> u32 {
     assert!(rt; u32::from(without) < 1u32 << problem.inputs());
     let classes = Classes::of_set(alloc, problem, without).expect(rt, "memory");

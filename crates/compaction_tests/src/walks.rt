@@ -6,7 +6,7 @@ ghost use Rattle.compaction.specs.Walks.{AreAsked};
 
 use crate::problems::{MULTIPLEXER, five_bit_numbers, problem_of};
 use compaction::{SharedTables, Tallies, Tally, WidthSource, WidthsAhead, block_widths};
-use order_model::{Mask, Pairs, Problem};
+use order_model::{Mask, Pairs, Problem, WidthRow};
 use std::alloc::Global;
 use std::process::Abort;
 use subset_layers::{Block, Layer};
@@ -20,7 +20,7 @@ fn rows_by_walks(
     shared: &SharedTables<'_>,
     block: &Block,
     needed: &[Mask],
-) -> (Vec<[u32; 16]>, Tallies)
+) -> (Vec<WidthRow>, Tallies)
     requires shared { shared.now ≡ problem.now }
     requires asked { AreAsked problem.now block.now needed.now }
     requires room { wanted_count needed.now ≤ 2 ^ 32 }
@@ -35,7 +35,7 @@ fn rows_by_walks(
 }
 
 /// The row of a set that is alone in its block, for which two widths are taken.
-fn row_by_itself(rt: &impl Abort, alloc: Global, problem: &Problem, block: &Block) -> [u32; 16] {
+fn row_by_itself(rt: &impl Abort, alloc: Global, problem: &Problem, block: &Block) -> WidthRow {
     assert!(rt; problem.inputs() == block.inputs());
     assert!(rt; block.len() == 1);
     let needed = block.mask(0);
@@ -52,7 +52,7 @@ fn ahead_by_walks(
     alloc: Global,
     problem: &Problem,
     block: &Block,
-    row: [u32; 16],
+    row: WidthRow,
 ) -> u64 {
     assert!(rt; problem.inputs() == block.inputs());
     assert!(rt; block.len() == 1);
@@ -66,7 +66,7 @@ fn ahead_by_walks(
 
 /// The row of the set of the two lowest variables, alone in a block of the sets of two, by itself;
 /// and how many widths are found by walks that look ahead, which are to give the same row.
-fn row_at(rt: &impl Abort, alloc: Global, problem: &Problem, place: usize) -> ([u32; 16], u64) {
+fn row_at(rt: &impl Abort, alloc: Global, problem: &Problem, place: usize) -> (WidthRow, u64) {
     let layer = Layer::of(alloc, problem.inputs(), 2).expect(rt, "memory");
     assert!(rt; place < layer.blocks());
     let block = layer.block(place);

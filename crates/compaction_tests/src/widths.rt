@@ -6,13 +6,13 @@ ghost use Rattle.subset_layers.specs.Layers.{block_masks};
 use crate::problems::{MULTIPLEXER, PROBLEMS, cubes, five_bit_numbers, problem_of};
 use crate::tables::width_alone;
 use compaction::{BlockWidths, SharedTables, Tally, all_widths};
-use order_model::{Mask, Problem, contains};
+use order_model::{Mask, Problem, WidthRow, contains};
 use std::alloc::Global;
 use std::process::Abort;
 use subset_layers::{Block, Layer};
 
 /// The widths of a set's members, each by itself.
-fn row_alone(rt: &impl Abort, alloc: Global, problem: &Problem, mask: Mask) -> [u32; 16] {
+fn row_alone(rt: &impl Abort, alloc: Global, problem: &Problem, mask: Mask) -> WidthRow {
     let mut row = [0; 16];
     for x in 0..16u8 {
         if contains(mask, x) {
@@ -23,7 +23,7 @@ fn row_alone(rt: &impl Abort, alloc: Global, problem: &Problem, mask: Mask) -> [
 }
 
 /// The sum of a row.
-fn sum_of(row: &[u32; 16]) -> u64 {
+fn sum_of(row: &WidthRow) -> u64 {
     let mut sum = 0u64;
     for width in row {
         sum = sum.saturating_add(u64::from(*width));

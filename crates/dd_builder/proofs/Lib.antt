@@ -1,4 +1,4 @@
-pub mod Going
+pub mod SessionSteps
 pub mod Combining
 pub mod Restricting
 pub mod Pathways
@@ -12,6 +12,6 @@ pub mod Counting
 pub mod LevelBounds
 pub mod Ranks
 pub mod Bound
-pub mod Keeping
+pub mod SubfunctionNodes
 pub mod Halves
 pub mod Fullness

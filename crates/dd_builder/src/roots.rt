@@ -53,7 +53,11 @@ fn of_restrictions(
 {
     let top_variables = top_variables(store.order().variables());
     if level == top_variables {
-        return Ok(part_id(store, session, (usize::from(output) << top_variables) + path));
+        return Ok(part_id(
+            store,
+            session,
+            (usize::from(output) << top_variables) + path,
+        ));
     }
     let low = of_restrictions(store, session, output, level + 1, path)?;
     let high = of_restrictions(store, session, output, level + 1, path + (1 << level))?;

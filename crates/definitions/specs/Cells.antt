@@ -3,9 +3,10 @@
 --     cell_of n F P r bound mask, cell_cost n F P r bound mask      the cell (cost, variable) of a set; its cost, 0 for the empty set
 --     asked n r bound mask costs      the members of a set whose widths its cell takes
 --     cell_from n P bound left mask costs widths      the cell from the costs of the sets with one variable less
+--     IsFirstLeast S bound costs widths x      x gives the least sum within the bound, and is the first that does
 --     IsReadFrom n F P r bound mask order      the order that the cells give, from a set downward
 --     wanted n F P r bound mask, widths_taken n F P r bound      the members of a set whose widths are taken; how many widths all sets take
-use Rattle.std.specs.Prelude.{◌≡◌, ℕ, ◌+◌, ◌-◌, ◌^◌, ◌≤◌, Bool, not, if◌then◌else◌, ◌&&◌, List, [], ◌∷◌, length, map, slice_index, IsTrue, nat_eq, nat_le}
+use Rattle.std.specs.Prelude.{◌≡◌, ◌≢◌, ℕ, ◌+◌, ◌-◌, ◌^◌, ◌<◌, ◌≤◌, Bool, not, if◌then◌else◌, ◌&&◌, List, [], ◌∷◌, length, map, slice_index, IsTrue, nat_eq, nat_le}
 use Rattle.std.specs.List.{filter, sum, range_with_len}
 use Rattle.definitions.specs.Functions.{Function}
 use Rattle.definitions.specs.Orders.{has, members, without}
@@ -72,6 +73,13 @@ cell_from n P bound left mask costs widths =
           (candidates n bound mask costs)),
     )
     else (bound + 1, first_of (members n mask))
+
+-- x is a member within the bound whose sum of cost and width is least, and the first such one
+pub record IsFirstLeast (S : List ℕ) (bound : ℕ) (costs widths : ℕ → ℕ) (x : ℕ) : Type 0 where
+  pub member : IsTrue (has S x)
+  pub affordable : costs x ≤ bound
+  pub least : (y : ℕ) → IsTrue (has S y) → costs y ≤ bound → costs x + widths x ≤ costs y + widths y
+  pub first : (y : ℕ) → y < x → IsTrue (has S y) → costs y ≤ bound → costs y + widths y ≢ costs x + widths x
 
 -- an order read off cells, from a set downward: the cell's variable stands next from the top
 unfoldable pub IsReadFrom : ℕ → List Function → List Pair → BoundAbove → ℕ → ℕ → List ℕ → Type 0

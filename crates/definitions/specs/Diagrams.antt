@@ -11,9 +11,9 @@ use Rattle.std.specs.declared.option.Option.TheVariants.{Some, None}
 use Rattle.std.specs.Cmp.Lexicographic.{slice_cmp}
 use Rattle.std.specs.Ordering.{nat_cmp}
 use Rattle.std.specs.declared.cmp.Ordering.TheVariants.{Greater}
-use Rattle.definitions.specs.declared.nodes.Ref.{Ref}
-use Rattle.definitions.specs.declared.nodes.Ref.TheVariants.{Terminal, Place}
-use Rattle.definitions.specs.declared.nodes.Node.{Node}
+use Rattle.definitions.specs.declared.refs.Ref.{Ref}
+use Rattle.definitions.specs.declared.refs.Ref.TheVariants.{Terminal, Place}
+use Rattle.definitions.specs.declared.refs.Node.{Node}
 use Rattle.definitions.specs.Functions.{Point, Function, bit, SameFunction}
 use Rattle.definitions.specs.Orders.{IsOrder, place_in}
 use Rattle.definitions.specs.Pairs.{Pair, Keeps}

@@ -2,9 +2,9 @@
 --     OrderedGraph, IsOrderedGraph d      an order with nodes and roots, and what each diagram of the program holds
 --     root_value d j      the function of root j
 use Rattle.std.specs.Prelude.{ℕ, ◌<◌, ◌^◌, false, List, length, get_or}
-use Rattle.definitions.specs.declared.nodes.Ref.{Ref}
-use Rattle.definitions.specs.declared.nodes.Ref.TheVariants.{Terminal}
-use Rattle.definitions.specs.declared.nodes.Node.{Node}
+use Rattle.definitions.specs.declared.refs.Ref.{Ref}
+use Rattle.definitions.specs.declared.refs.Ref.TheVariants.{Terminal}
+use Rattle.definitions.specs.declared.refs.Node.{Node}
 use Rattle.definitions.specs.Functions.{Function}
 use Rattle.definitions.specs.OrderFaults.{Accepts}
 use Rattle.definitions.specs.Diagrams.{Graph, IsDiagram, value}

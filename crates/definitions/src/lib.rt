@@ -12,12 +12,12 @@ mod variables;
 mod faults;
 mod limits;
 mod listed_cells;
-mod nodes;
+mod refs;
 
 pub use faults::{BadOrder, PairsFault};
 pub use limits::{BoundAbove, Limit};
 pub use listed_cells::ListedCell;
-pub use nodes::{Node, Ref};
 pub use problem::Problem;
+pub use refs::{Node, Ref};
 pub use terms::Term;
-pub use variables::{Mask, VarIx, Workers, contains};
+pub use variables::{Mask, VarIx, WidthRow, Workers, contains};

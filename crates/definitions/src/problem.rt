@@ -8,7 +8,7 @@ ghost use Rattle.definitions.specs.Orders.{mask_of, variables};
 ghost use Rattle.definitions.specs.Widths.{essential_mask};
 
 use crate::packed::{bit_of, block, depends_on, words_per_table};
-use crate::variables::Mask;
+use crate::variables::{Mask, VarIx};
 use std::alloc::{AllocError, Global};
 use std::marker::Model;
 
@@ -123,7 +123,7 @@ impl Problem {
     }
 
     /// Whether some function depends on a variable.
-    fn has_dependence(&self, x: u8) -> bool
+    fn has_dependence(&self, x: VarIx) -> bool
         requires { x < self.now.inputs }
         ensures { result ≡ list_any (λ f. depends self.now.inputs f x) (functions self.now) }
     {

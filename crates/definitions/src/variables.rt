@@ -11,6 +11,9 @@ pub type VarIx = u8;
 /// A set of variables: bit x stands for variable x.
 pub type Mask = u16;
 
+/// Widths over a set: at each member its width over the set without it, or 0.
+pub type WidthRow = [u32; 16];
+
 /// Whether a set has a variable.
 #[inline(always)]
 pub fn contains(set: Mask, x: VarIx) -> bool

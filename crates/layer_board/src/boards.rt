@@ -9,9 +9,9 @@ ghost use Rattle.layer_core.specs.Pairing.{pair_of};
 ghost use Rattle.layer_board.specs.Closing.{IsFinalBoard};
 ghost use Rattle.layer_board.specs.Refusals.{RefusesPost, LacksCell, LacksMask};
 
+use crate::atomic_steps::{BoardRule, Claims, NewSeat, Posts, Reads};
 use crate::cell_words::{cell_of_word, word_of_cell};
 use crate::closed::{CloseError, ClosedBoard};
-use crate::atomic_steps::{BoardRule, Claims, NewSeat, Posts, Reads};
 use crate::seats::{BoardSeat, Claim};
 use crate::views::{Brief, Knowledge};
 use atomic_table::{Seat, Table};

@@ -5,6 +5,7 @@
 --     RefusesPairs shape keepable r      the same, or no order keeps the pairs
 --     IsPlainStatus s, IsOrderStatus s      the numbers of calls without an order and with one
 --     TellsShape shape s      the number says whether the arguments have their shape
+--     TellsOrder order s, TellsPairs keepable s      it says whether what is given is an order; whether some order keeps the pairs
 use Rattle.std.specs.Prelude.{ℕ, ◌≡◌, ◌⊎◌, ◌↔◌}
 use Rattle.minorder_c.specs.declared.status.Refusal.{Refusal}
 use Rattle.minorder_c.specs.declared.status.Refusal.TheVariants.{Shape, Certificate, OutOfMemory, Order, Pairs}
@@ -44,6 +45,14 @@ RefusesPairs shape keepable _ = ⊥
 -- 2 is the number of the calls whose arguments haven't their shape
 abbrev pub TellsShape : Type 0 → ℕ → Type 0
 TellsShape shape s = (s ≡ 2) ↔ (shape → ⊥)
+
+-- 5 is the number of calls that are given no order, 0 of calls that are given one
+abbrev pub TellsOrder : Type 0 → ℕ → Type 0
+TellsOrder order s = (s ≡ 5 → order → ⊥) × (s ≡ 0 → order)
+
+-- 8 is the number of calls with pairs that no order keeps, 0 of calls with pairs that some order keeps
+abbrev pub TellsPairs : Type 0 → ℕ → Type 0
+TellsPairs keepable s = (s ≡ 8 → keepable → ⊥) × (s ≡ 0 → keepable)
 
 -- the numbers of the calls that take an order
 abbrev pub IsOrderStatus : ℕ → Type 0

@@ -15,7 +15,7 @@ use crate::sifting_from::bound_of;
 use crate::status::Refusal;
 use certificate::certificate_text;
 use order_model::Pairs;
-use order_solve::{Optimum, Solution, solve_alone};
+use order_solve::{Solution, solve_alone};
 use small_search::{is_small, solve};
 use std::alloc::{AllocError, Global};
 use truth_table::Tables;
@@ -52,12 +52,7 @@ fn text_of(alloc: Global, tables: &Tables, pairs: Pairs) -> Result<String, Alloc
         cells,
         widths: _,
     } = solution(alloc, tables, pairs)?;
-    let Optimum {
-        order,
-        total,
-        levels,
-    } = optimum;
-    let text = certificate_text(alloc, problem, &kept, &order, levels, total, cells)?;
+    let text = certificate_text(alloc, problem, &kept, optimum, cells)?;
     Ok(text)
 }
 

@@ -4,24 +4,23 @@ ghost use Rattle.std.specs.Prelude.{◌≡◌, ◌≢◌, ◌⊎◌, [], length,
 ghost use Rattle.definitions.specs.Problems.{functions};
 ghost use Rattle.definitions.specs.KeptPairs.{CanBeKept};
 ghost use Rattle.definitions.specs.Pairs.{sorted_pairs};
-ghost use Rattle.minorder_c.specs.Answers.{AllStay, HasCallShape, functions_in, pairs_given};
+ghost use Rattle.minorder_c.specs.Answers.{AllStay, HasCallShape, HasLengths, functions_in, pairs_given};
 ghost use Rattle.solutions.specs.Solutions.{IsFirstFewest, IsOptimumFor};
-ghost use Rattle.minorder_c.specs.Statuses.{IsPlainStatus, RefusesShape, RefusesPairs, TellsShape};
+ghost use Rattle.minorder_c.specs.Statuses.{IsPlainStatus, RefusesShape, RefusesPairs, TellsPairs, TellsShape};
 
 use crate::above::{AbovePair, kept_pairs};
 use crate::arguments::tables_of;
 use crate::sifting_from::bound_of;
 use crate::status::Refusal;
-use order_model::Pairs;
+use order_model::{Pairs, SizedOrder};
 use order_solve::find_optimum_alone;
 use small_search::{find_optimum, is_small};
-use solutions::Optimum;
 use std::alloc::{AllocError, Global};
 use truth_table::Tables;
 
 /// The first order of the fewest nodes among those that keep the pairs; where the truth tables are
 /// not small, searched below the size of a sifted one.
-fn search(alloc: Global, tables: &Tables, pairs: Pairs) -> Result<Optimum, AllocError>
+fn search(alloc: Global, tables: &Tables, pairs: Pairs) -> Result<SizedOrder, AllocError>
     requires { pairs.inputs ≡ tables.now.inputs }
     ensures { IfOk result (IsOptimumFor tables.now pairs.pairs) }
 {
@@ -33,12 +32,14 @@ fn search(alloc: Global, tables: &Tables, pairs: Pairs) -> Result<Optimum, Alloc
 }
 
 /// The same, with as many variables and level counts as there are inputs.
-pub(crate) fn optimum(alloc: Global, tables: &Tables, pairs: Pairs) -> Result<Optimum, AllocError>
+pub(crate) fn optimum(
+    alloc: Global,
+    tables: &Tables,
+    pairs: Pairs,
+) -> Result<SizedOrder, AllocError>
     requires { pairs.inputs ≡ tables.now.inputs }
-    ensures optimum { IfOk result
-        (IsOptimumFor tables.now pairs.pairs) }
-    ensures long { IfOk result (λ s. length s.order ≡ tables.now.inputs) }
-    ensures counts { IfOk result (λ s. length s.levels.items ≡ tables.now.inputs) }
+    ensures optimum { IfOk result (IsOptimumFor tables.now pairs.pairs) }
+    ensures long { IfOk result (HasLengths tables.now.inputs tables.now.inputs) }
 {
     let optimum = search(alloc, tables, pairs)?;
     Ok(optimum)
@@ -52,13 +53,12 @@ fn exact(
     outputs: u32,
     places: usize,
     counts: usize,
-) -> Result<Optimum, Refusal>
+) -> Result<SizedOrder, Refusal>
     ensures shape { OnOk result (HasCallShape inputs outputs words.now places counts) }
     ensures optimum { IfOk result
         (λ s. IsFirstFewest inputs (functions_in inputs outputs words.now) [] s.order s.levels.items
         s.total) }
-    ensures long { IfOk result (λ s. length s.order ≡ inputs) }
-    ensures counts { IfOk result (λ s. length s.levels.items ≡ inputs) }
+    ensures long { IfOk result (HasLengths inputs inputs) }
     ensures refused { IfErr result (RefusesShape (HasCallShape inputs outputs words.now places counts)) }
 {
     if places != inputs as usize || counts != inputs as usize {
@@ -79,14 +79,13 @@ fn exact_above(
     above: &[AbovePair],
     places: usize,
     counts: usize,
-) -> Result<Optimum, Refusal>
+) -> Result<SizedOrder, Refusal>
     ensures shape { OnOk result (HasCallShape inputs outputs words.now places counts) }
     ensures kept { OnOk result (CanBeKept inputs (pairs_given above.now)) }
     ensures optimum { IfOk result
         (λ s. IsFirstFewest inputs (functions_in inputs outputs words.now)
         (sorted_pairs inputs (pairs_given above.now)) s.order s.levels.items s.total) }
-    ensures long { IfOk result (λ s. length s.order ≡ inputs) }
-    ensures counts { IfOk result (λ s. length s.levels.items ≡ inputs) }
+    ensures long { IfOk result (HasLengths inputs inputs) }
     ensures refused { IfErr result
         (RefusesPairs (HasCallShape inputs outputs words.now places counts)
         (CanBeKept inputs (pairs_given above.now))) }
@@ -148,8 +147,7 @@ pub extern "C" fn minorder_exact_above_with_lengths(
     ensures status { (result ≡ 8) ⊎ IsPlainStatus result }
     ensures shape { TellsShape
         (HasCallShape inputs outputs tables.now (length order.old) (length levels.old)) result }
-    ensures bad_pairs { result ≡ 8 → CanBeKept inputs (pairs_given above.now) → ⊥ }
-    ensures kept { result ≡ 0 → CanBeKept inputs (pairs_given above.now) }
+    ensures kept { TellsPairs (CanBeKept inputs (pairs_given above.now)) result }
     ensures optimum { result ≡ 0 →
         IsFirstFewest inputs (functions_in inputs outputs tables.now)
         (sorted_pairs inputs (pairs_given above.now)) order.new levels.new total.new }

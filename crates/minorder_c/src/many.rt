@@ -2,7 +2,7 @@
 
 ghost use Rattle.std.specs.Prelude.{◌≡◌, ◌≢◌, ◌*◌, ◌↔◌, ◌++◌, ◌∷◌, [], length, IsTrue, IfOk, IfErr, OnOk};
 ghost use Rattle.solutions.specs.Solutions.{IsFirstFewest};
-ghost use Rattle.minorder_c.specs.Answers.{AreTables, functions_in};
+ghost use Rattle.minorder_c.specs.Answers.{AreTables, HasLengths, ListsStay, functions_in};
 ghost use Rattle.minorder_c.specs.Many.{AreFirstFewest, HasManyShape};
 ghost use Rattle.minorder_c.specs.Statuses.{IsPlainStatus, RefusesShape, TellsShape};
 ghost use Rattle.minorder_c.specs.declared.status.Refusal.TheVariants.{OutOfMemory};
@@ -10,18 +10,21 @@ ghost use Rattle.minorder_c.specs.declared.status.Refusal.TheVariants.{OutOfMemo
 use crate::arguments::tables_of;
 use crate::exact::optimum;
 use crate::status::Refusal;
-use order_model::Pairs;
 use order_model::packed::{block, words_per_table};
-use solutions::Optimum;
+use order_model::{Pairs, SizedOrder};
 use std::alloc::{AllocError, Global};
 
 /// The first order of the fewest nodes of one problem.
-fn optimum_of(alloc: Global, words: &[u64], inputs: u32, outputs: u32) -> Result<Optimum, Refusal>
+fn optimum_of(
+    alloc: Global,
+    words: &[u64],
+    inputs: u32,
+    outputs: u32,
+) -> Result<SizedOrder, Refusal>
     ensures optimum { IfOk result
         (λ s. IsFirstFewest inputs (functions_in inputs outputs words.now) [] s.order s.levels.items
         s.total) }
-    ensures long { IfOk result (λ s. length s.order ≡ inputs) }
-    ensures counts { IfOk result (λ s. length s.levels.items ≡ inputs) }
+    ensures long { IfOk result (HasLengths inputs inputs) }
     ensures refused { IfErr result (RefusesShape (AreTables inputs outputs words.now)) }
 {
     let tables = tables_of(alloc, words, inputs, outputs)?;
@@ -68,7 +71,7 @@ fn is_shape(
 }
 
 /// Puts one problem's answers behind the others.
-fn put(answers: &mut Answers, best: &Optimum) -> Result<(), AllocError>
+fn put(answers: &mut Answers, best: &SizedOrder) -> Result<(), AllocError>
     ensures orders { OnOk result (answers.new.orders.items ≡ answers.old.orders.items ++ best.now.order) }
     ensures levels { OnOk result
         (answers.new.levels.items ≡ answers.old.levels.items ++ best.now.levels.items) }
@@ -131,9 +134,8 @@ pub extern "C" fn minorder_exact_many_with_lengths(
     ensures optima { result ≡ 0 →
         AreFirstFewest inputs outputs tables.now (length totals.old) orders.new levels.new
         totals.new }
-    ensures orders { result ≢ 0 → orders.new ≡ orders.old }
-    ensures levels { result ≢ 0 → levels.new ≡ levels.old }
-    ensures totals { result ≢ 0 → totals.new ≡ totals.old }
+    ensures refused { result ≢ 0 →
+        ListsStay orders.old orders.new levels.old levels.new totals.old totals.new }
 {
     let many = totals.len();
     if !is_shape(tables, inputs, outputs, orders.len(), levels.len(), many) {

@@ -4,23 +4,15 @@ ghost use Rattle.std.specs.Prelude.{◌≡◌, ◌≢◌, ◌<◌, ℕ, [], leng
 ghost use Rattle.definitions.specs.Orders.{IsOrder};
 ghost use Rattle.definitions.specs.Problems.{functions};
 ghost use Rattle.definitions.specs.Levels.{level_count};
-ghost use Rattle.minorder_c.specs.Answers.{AllStay, HasCallShape, IsSiftedFrom, functions_in};
-ghost use Rattle.minorder_c.specs.Statuses.{IsOrderStatus, RefusesOrder, TellsShape};
+ghost use Rattle.minorder_c.specs.Answers.{AllStay, HasCallShape, HasLengths, IsSiftedFrom, functions_in};
+ghost use Rattle.minorder_c.specs.Statuses.{IsOrderStatus, RefusesOrder, TellsOrder, TellsShape};
 
 use crate::arguments::arguments_of;
 use crate::sifting_from::sifted_from;
 use crate::status::Refusal;
-use order_model::{Order, Pairs};
+use order_model::{Pairs, SizedOrder};
 use sifting::Sifted;
 use std::alloc::{AllocError, Global};
-
-/// A sifted order, its level counts and its size.
-#[derive(Drop)]
-struct Found {
-    order: Order,
-    levels: Vec<u32>,
-    total: u32,
-}
 
 /// The level counts of a sifted order, one a level.
 fn levels_of(alloc: Global, sifted: &Sifted) -> Result<Vec<u32>, AllocError>
@@ -42,14 +34,13 @@ fn sifted_order(
     outputs: u32,
     order: &[u8],
     counts: usize,
-) -> Result<Found, Refusal>
+) -> Result<SizedOrder, Refusal>
     ensures shape { OnOk result (HasCallShape inputs outputs words.now (length order.now) counts) }
     ensures order { OnOk result (IsOrder inputs order.now) }
     ensures sifted { IfOk result
         (λ f. IsSiftedFrom inputs (functions_in inputs outputs words.now) [] order.now f.order
         f.levels.items f.total) }
-    ensures long { IfOk result (λ f. length f.order ≡ length order.now) }
-    ensures counts { IfOk result (λ f. length f.levels.items ≡ counts) }
+    ensures long { IfOk result (HasLengths (length order.now) counts) }
     ensures refused { IfErr result
         (RefusesOrder (HasCallShape inputs outputs words.now (length order.now) counts)
         (IsOrder inputs order.now)) }
@@ -57,7 +48,7 @@ fn sifted_order(
     let given = arguments_of(alloc, words, inputs, outputs, order, counts)?;
     let pairs = Pairs::none(inputs as u8);
     let sifted = sifted_from(alloc, &given.tables, &given.order, pairs)?;
-    Ok(Found {
+    Ok(SizedOrder {
         order: sifted.order().try_clone(alloc)?,
         levels: levels_of(alloc, &sifted)?,
         total: sifted.size(),
@@ -79,8 +70,7 @@ pub extern "C" fn minorder_sift_with_lengths(
     ensures status { IsOrderStatus result }
     ensures shape { TellsShape
         (HasCallShape inputs outputs tables.now (length order.old) (length levels.old)) result }
-    ensures no_order { result ≡ 5 → IsOrder inputs order.old → ⊥ }
-    ensures order { result ≡ 0 → IsOrder inputs order.old }
+    ensures order { TellsOrder (IsOrder inputs order.old) result }
     ensures sifted { result ≡ 0 →
         IsSiftedFrom inputs (functions_in inputs outputs tables.now) [] order.old order.new
         levels.new total.new }

@@ -9,7 +9,7 @@ ghost use Rattle.definitions.specs.Problems.{functions, outputs_of};
 ghost use Rattle.definitions.specs.Widths.{essential_mask, essentials_outside};
 ghost use Rattle.definitions.specs.BoundsAbove.{support};
 
-use definitions::{BoundAbove, Mask, Problem, VarIx, contains};
+use definitions::{BoundAbove, Mask, Problem, VarIx, WidthRow, contains};
 use std::marker::Model;
 
 /// Lower bounds on the nodes above the sets of a problem's variables.
@@ -127,7 +127,7 @@ impl<'a> BoundsAbove<'a> {
     }
 
     /// The lower bound on the nodes above a set. By widths it needs those of all members.
-    pub fn above(&self, mask: Mask, widths: &[u32; 16]) -> u64
+    pub fn above(&self, mask: Mask, widths: &WidthRow) -> u64
         requires { mask < 2 ^ self.now.problem.inputs }
         ensures few { result < 2 ^ 33 }
         ensures nodes { (self.now.bound_above ≡ Widths →
@@ -143,7 +143,7 @@ impl<'a> BoundsAbove<'a> {
     }
 
     /// The most nodes that the width of a member of a set asks for, or `least` if they are fewer.
-    fn most_asked(&self, mask: Mask, widths: &[u32; 16], least: u64) -> u64
+    fn most_asked(&self, mask: Mask, widths: &WidthRow, least: u64) -> u64
         requires { least < 2 ^ 33 }
         ensures few { result < 2 ^ 33 }
         ensures most { AreMembersWidths self.now.problem mask widths.now →

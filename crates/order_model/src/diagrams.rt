@@ -3,7 +3,7 @@
 ghost use Rattle.std.specs.Prelude.{◌≡◌, ◌<◌, ◌≤◌, ◌^◌, ℕ, length, slice_index, sum};
 ghost use Rattle.definitions.specs.Functions.{point_of};
 ghost use Rattle.definitions.specs.Diagrams.{AreNodes, IsBefore, child_at, value, nodes_at, variable_count};
-ghost use Rattle.definitions.specs.declared.nodes.Node.{Node};
+ghost use Rattle.definitions.specs.declared.refs.Node.{Node};
 ghost use Rattle.std.specs.List.{All};
 ghost use Rattle.definitions.specs.OrderedGraphs.{IsOrderedGraph, IsDiagramUnder, root_value};
 

@@ -4,7 +4,7 @@ ghost use Rattle.std.specs.Prelude.{◌≡◌, IsTrue, IfSome, IfNone, false};
 ghost use Rattle.definitions.specs.Texts.{is_number, number_of};
 
 /// The value of a word of one to nine decimal digits, or None for any other word.
-#[tactic(auto, using(crate::proofs::Lists::Digits::digit_is, crate::proofs::Lists::Digits::pow_small))]
+#[tactic(auto, using(definitions::proofs::Lists::Digits::digit_is, definitions::proofs::Lists::Digits::pow_small))]
 pub fn decimal_number(word: &[u8]) -> Option<u32>
     ensures some { IfSome result
         (λ value. IsTrue (is_number word.now) × (value ≡ number_of word.now)) }

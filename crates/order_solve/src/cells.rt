@@ -9,7 +9,7 @@ ghost use Rattle.solutions.specs.LayerCosts.{AreCells};
 
 use crate::context::LayerContext;
 use compaction::{Tallies, WidthsAhead, block_widths};
-use order_model::Mask;
+use order_model::{Mask, WidthRow};
 use solutions::needs_of_block;
 use std::alloc::{AllocError, Global};
 use subset_layers::{Block, Cell, least_cell};
@@ -22,7 +22,7 @@ fn widths_of(
     needed: &[Mask],
     found: &mut WidthsAhead<'_>,
     tallies: &mut Tallies,
-) -> Result<Vec<[u32; 16]>, AllocError>
+) -> Result<Vec<WidthRow>, AllocError>
     requires asked { AreAsked context.now.instance.problem block.now needed.now }
     requires found { found.old.problem ≡ context.now.instance.problem }
     requires room { HasRoom tallies.old (wanted_count needed.now) }
@@ -47,7 +47,7 @@ fn cells_by_rows(
     alloc: Global,
     block: &Block,
     context: &LayerContext<'_>,
-    rows: &[[u32; 16]],
+    rows: &[WidthRow],
 ) -> Result<Vec<Cell>, AllocError>
     requires layer { layer_of block.now ≡ context.now.layer }
     requires rows { AreWidthRows context.now.instance.problem (block_masks block.now)

@@ -18,6 +18,6 @@ mod working;
 pub use compaction::Preparation;
 pub use context::LayerContext;
 pub use preparing::prepare;
-pub use solutions::{Optimum, Instance, Solution};
+pub use solutions::{Instance, Solution};
 pub use solving::{find_optimum, find_optimum_alone, solve, solve_alone};
 pub use working::{WorkerResult, work_layer};

@@ -11,9 +11,9 @@ ghost use Rattle.solutions.specs.Solutions.{IsOptimumFor, IsSolution};
 use crate::alone::layers_alone;
 use crate::layering::layers_of;
 use compaction::Preparation;
-use order_model::{Crew, Gate, Limit, Pairs, Problem, BoundAbove, Workers};
+use order_model::{BoundAbove, Crew, Gate, Limit, Pairs, Problem, SizedOrder, Workers};
 use sifting::Sifted;
-use solutions::{AllCells, Optimum, Instance, Solution, optimum_of, pairs_to_keep, solution_of};
+use solutions::{AllCells, Instance, Solution, optimum_of, pairs_to_keep, solution_of};
 use std::alloc::{AllocError, Global};
 use std::thread::Threads;
 
@@ -44,22 +44,6 @@ fn instance_of<'a>(
     Instance::new(problem, pairs, limit)
 }
 
-/// The first order of the fewest nodes that a search is for.
-fn optimum_for<R: Threads + Sync, G: Gate>(
-    crew: &Crew<'_, R, G>,
-    alloc: Global,
-    instance: &Instance<'_>,
-    prepared: Preparation<'_>,
-) -> Result<Optimum, AllocError>
-    requires bounded { IsBounded instance.now }
-    requires problem { prepared.problem ≡ instance.now.problem }
-    ensures { IfOk result (IsOptimumFor instance.now.problem instance.now.pairs.pairs) }
-{
-    let layers = layers_of(crew, alloc, instance, prepared)?;
-    let cells = AllCells::of_layers(instance, layers);
-    optimum_of(alloc, &cells)
-}
-
 /// The first order of the fewest nodes among those that keep the pairs of a sifted order of the
 /// same functions. The size of that order bounds the search, which counts on the nodes above a set
 /// that the set's widths ask for, and begins with what was prepared. The gate is called by the
@@ -73,14 +57,16 @@ pub fn find_optimum<R: Threads + Sync, G: Gate>(
     sifted: Sifted,
     workers: Workers,
     gate: &G,
-) -> Result<Optimum, AllocError>
+) -> Result<SizedOrder, AllocError>
     requires { sifted.problem ≡ prepared.problem }
     ensures { IfOk result (IsOptimumFor prepared.entry.problem sifted.pairs) }
 {
     let problem = prepared.problem();
     let pairs = pairs_to_keep(alloc, problem, sifted.pairs())?;
     let instance = instance_of(problem, &sifted, &pairs, BoundAbove::Widths);
-    optimum_for(&Crew::new(rt, workers, gate), alloc, &instance, prepared)
+    let layers = layers_of(&Crew::new(rt, workers, gate), alloc, &instance, prepared)?;
+    let cells = AllCells::of_layers(&instance, layers);
+    optimum_of(alloc, &cells)
 }
 
 /// The same as `find_optimum`, by the calling thread alone.
@@ -88,7 +74,7 @@ pub fn find_optimum_alone(
     alloc: Global,
     problem: &Problem,
     sifted: Sifted,
-) -> Result<Optimum, AllocError>
+) -> Result<SizedOrder, AllocError>
     requires { sifted.problem ≡ problem.now }
     ensures { IfOk result (IsOptimumFor problem.now sifted.pairs) }
 {

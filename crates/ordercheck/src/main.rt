@@ -4,7 +4,7 @@
 
 ghost use Rattle.std.specs.Prelude.{◌<◌, ◌^◌};
 
-use checks::ordercheck;
+use check_runs::ordercheck;
 use counted_io::{CountedWrite, Counting};
 use outcomes::{texts_of, words_of_program};
 use std::env::Env;

@@ -8,6 +8,7 @@ ghost use Rattle.pair_numbering.specs.Cells.{AreCelled};
 use crate::entries::{Block, EntryPairs};
 use crate::masks::MaskedPairs;
 use crate::numbering::Numbered;
+use definitions::{Mask, VarIx};
 use std::alloc::{AllocError, Global};
 use subfunction_classes::join_mask;
 
@@ -22,7 +23,7 @@ fn number_block(
     block: usize,
     cells: &mut [u16],
     out: &mut [u32],
-    joined: &mut [u16],
+    joined: &mut [Mask],
     from: u32,
 ) -> u32
     requires table { IsPairTable pairs.now.entries.now.numbers pairs.now.entries.now.rank
@@ -61,7 +62,7 @@ fn number_block_evenly(
     block: usize,
     cells: &mut [u16],
     out: &mut [u32],
-    joined: &mut [u16],
+    joined: &mut [Mask],
     from: u32,
 ) -> u32
     requires table { IsPairTable pairs.now.entries.now.numbers pairs.now.entries.now.rank
@@ -100,7 +101,7 @@ fn number_blocks(
     pairs: &MaskedPairs<'_>,
     cells: &mut [u16],
     out: &mut [u32],
-    joined: &mut [u16],
+    joined: &mut [Mask],
 ) -> Option<u32>
     requires table { IsPairTable pairs.now.entries.now.numbers pairs.now.entries.now.rank
         (length pairs.now.masks.now) }
@@ -135,8 +136,8 @@ fn number_blocks(
 pub(crate) fn number_pairs_by_cells(
     alloc: Global,
     entries: &EntryPairs<'_>,
-    x: u8,
-    masks: &[u16],
+    x: VarIx,
+    masks: &[Mask],
     cells: &mut [u16],
 ) -> Result<Option<Numbered>, AllocError>
     requires table { IsPairTable entries.now.numbers entries.now.rank (length masks.now) }

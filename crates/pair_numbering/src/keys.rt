@@ -10,6 +10,7 @@ ghost use Rattle.subfunction_classes.specs.Strips.{AreNamed, names_of, unrolled}
 
 use crate::entries::{Block, EntryPairs};
 use crate::numbering::number_with_masks;
+use definitions::{Mask, VarIx};
 use std::alloc::{AllocError, Global};
 use subfunction_classes::join_mask;
 
@@ -21,7 +22,7 @@ const MOST_JOINED: usize = 16;
 #[derive(Drop)]
 pub struct PairKeys {
     pub numbers: Vec<u32>,
-    pub masks: Vec<u16>,
+    pub masks: Vec<Mask>,
     pub all_used: bool,
 }
 
@@ -64,7 +65,7 @@ fn join_keys(alloc: Global, entries: &EntryPairs<'_>, base: u32) -> Result<Vec<u
 }
 
 /// The masks of the keys of all pairs.
-fn join_key_masks(alloc: Global, masks: &[u16], x: u8) -> Result<Vec<u16>, AllocError>
+fn join_key_masks(alloc: Global, masks: &[Mask], x: VarIx) -> Result<Vec<Mask>, AllocError>
     requires variable { x < 16 }
     requires few { length masks.now ≤ 256 }
     ensures { IfOk result
@@ -86,8 +87,8 @@ fn join_key_masks(alloc: Global, masks: &[u16], x: u8) -> Result<Vec<u16>, Alloc
 fn tell_entries(
     alloc: Global,
     entries: &EntryPairs<'_>,
-    x: u8,
-    masks: &[u16],
+    x: VarIx,
+    masks: &[Mask],
 ) -> Result<PairKeys, AllocError>
     requires table { IsPairTable entries.now.numbers entries.now.rank (length masks.now) }
     requires variable { x < 16 }
@@ -121,8 +122,8 @@ pub fn label_pairs(
     alloc: Global,
     numbers: &[u32],
     rank: u32,
-    x: u8,
-    masks: &[u16],
+    x: VarIx,
+    masks: &[Mask],
 ) -> Result<PairKeys, AllocError>
     requires table { IsPairTable numbers.now rank (length masks.now) }
     requires variable { x < 16 }
@@ -143,8 +144,8 @@ pub fn label_strip_pairs(
     names: &[(u32, u32)],
     numbers: &[u32],
     bits: u32,
-    x: u8,
-    masks: &[u16],
+    x: VarIx,
+    masks: &[Mask],
 ) -> Result<PairKeys, AllocError>
     requires named { AreNamed (names_of names.now) numbers.now (2 ^ bits) }
     requires bits { bits < 16 }

@@ -5,6 +5,7 @@ ghost use Rattle.subfunction_classes.specs.Dependence.{joined_mask};
 ghost use Rattle.pair_numbering.specs.Numbers.{ArePairsBelow};
 
 use crate::entries::EntryPairs;
+use definitions::{Mask, VarIx};
 use std::alloc::{AllocError, Global};
 use subfunction_classes::join_mask;
 
@@ -12,8 +13,8 @@ use subfunction_classes::join_mask;
 #[derive(Drop)]
 pub struct MaskedPairs<'e> {
     pub entries: &'e EntryPairs<'e>,
-    pub masks: &'e [u16],
-    pub x: u8,
+    pub masks: &'e [Mask],
+    pub x: VarIx,
     ghost variable: { x < 16 },
 }
 
@@ -21,9 +22,9 @@ pub struct MaskedPairs<'e> {
 pub fn join_masks(
     alloc: Global,
     pairs: &[(u32, u32)],
-    x: u8,
-    masks: &[u16],
-) -> Result<Vec<u16>, AllocError>
+    x: VarIx,
+    masks: &[Mask],
+) -> Result<Vec<Mask>, AllocError>
     requires variable { x < 16 }
     requires classes { ArePairsBelow pairs.now (length masks.now) }
     ensures { IfOk result (λ v. v.items ≡ map (joined_mask masks.now x) pairs.now) }

@@ -10,13 +10,14 @@ use crate::chains::number_pairs_by_chains;
 use crate::entries::EntryPairs;
 use crate::masks::join_masks;
 use crate::slots::number_pairs_by_slots;
+use definitions::{Mask, VarIx};
 use std::alloc::{AllocError, Global};
 
 /// The number of each pair, and the mask of each number.
 #[derive(Drop)]
 pub struct Numbered {
     pub numbers: Vec<u32>,
-    pub masks: Vec<u16>,
+    pub masks: Vec<Mask>,
 }
 
 /// The number of each pair, and the pair of each number.
@@ -50,8 +51,8 @@ fn number_entries(
 pub fn number_with_masks(
     alloc: Global,
     entries: &EntryPairs<'_>,
-    x: u8,
-    masks: &[u16],
+    x: VarIx,
+    masks: &[Mask],
 ) -> Result<Numbered, AllocError>
     requires table { IsPairTable entries.now.numbers entries.now.rank (length masks.now) }
     requires variable { x < 16 }

@@ -4,9 +4,9 @@ use mathlib.Core.Logic.{dite}
 use native.Mathlib.Decide.{ℕ_discrete}
 use Rattle.std.proofs.lemmas.List.{get_or_past, get_or_read, length-replicate}
 use Rattle.std.proofs.lemmas.Option.{slice_get_within}
-use Rattle.definitions.specs.declared.nodes.Ref.{Ref}
-use Rattle.definitions.specs.declared.nodes.Ref.TheVariants.{Terminal, Place}
-use Rattle.definitions.specs.declared.nodes.Node.{Node}
+use Rattle.definitions.specs.declared.refs.Ref.{Ref}
+use Rattle.definitions.specs.declared.refs.Ref.TheVariants.{Terminal, Place}
+use Rattle.definitions.specs.declared.refs.Node.{Node}
 use Rattle.definitions.specs.Diagrams.{IsBefore}
 use Rattle.definitions.proofs.Nodes.Appended.{get_left, get_right}
 use Rattle.node_words.specs.Nodes.{IsKnown, Grows, AreNodeWords, level_of, low_of, high_of}

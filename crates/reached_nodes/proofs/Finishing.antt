@@ -3,9 +3,9 @@ use Rattle.std.proofs.Common.{◌≡◌, ◌≢◌, ℕ, zero, suc, ◌+◌, ◌
 use Rattle.std.specs.List.{All, AllZip}
 use Rattle.std.proofs.lemmas.Option.{slice_get_within, get_or_from_slice_get}
 use Rattle.std.proofs.lemmas.List.Elements.{Contains-append_left, Contains-push, All-from_get_or}
-use Rattle.definitions.specs.declared.nodes.Ref.{Ref}
-use Rattle.definitions.specs.declared.nodes.Ref.TheVariants.{Terminal, Place}
-use Rattle.definitions.specs.declared.nodes.Node.{Node}
+use Rattle.definitions.specs.declared.refs.Ref.{Ref}
+use Rattle.definitions.specs.declared.refs.Ref.TheVariants.{Terminal, Place}
+use Rattle.definitions.specs.declared.refs.Node.{Node}
 use Rattle.definitions.specs.Functions.{Point, bit, SameFunction}
 use Rattle.definitions.specs.Orders.{IsOrder, place_in}
 use Rattle.definitions.specs.Diagrams.{Graph, IsBefore, IsNodeAt, AreNodes, IsOrdered, IsOf, Reached, from_root, from_parent, value}

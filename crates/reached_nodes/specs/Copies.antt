@@ -7,9 +7,9 @@ use Rattle.std.specs.Prelude.{◌≡◌, ◌≢◌, ℕ, zero, suc, ◌+◌, ◌
 use Rattle.std.specs.Slots.{slots_items}
 use Rattle.std.proofs.Common.{Global}
 use Rattle.atomic_table.specs.declared.owned.Closed.{Closed}
-use Rattle.definitions.specs.declared.nodes.Ref.{Ref}
-use Rattle.definitions.specs.declared.nodes.Ref.TheVariants.{Terminal, Place}
-use Rattle.definitions.specs.declared.nodes.Node.{Node}
+use Rattle.definitions.specs.declared.refs.Ref.{Ref}
+use Rattle.definitions.specs.declared.refs.Ref.TheVariants.{Terminal, Place}
+use Rattle.definitions.specs.declared.refs.Node.{Node}
 use Rattle.definitions.specs.Functions.{Function}
 use Rattle.definitions.specs.Diagrams.{IsChild, Reached, Represents, IsReduced}
 use Rattle.node_words.specs.Nodes.{IsKnown, Grows, level_of, low_of, high_of}

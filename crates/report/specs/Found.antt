@@ -9,7 +9,7 @@ use Rattle.definitions.specs.Pairs.{Pair, IsFirstOrder}
 use Rattle.definitions.specs.Problems.{TruthTables, functions}
 use Rattle.definitions.specs.Sifting.{sifted}
 use Rattle.pla_reader.specs.Covers.{NamedCover}
-use Rattle.run_texts.specs.Texts.{file_order_levels}
+use Rattle.report_texts.specs.Texts.{file_order_levels}
 use Rattle.sifting.specs.Managed.{Managed}
 use Rattle.report.specs.Bests.{IsBestFor}
 use Rattle.report.specs.declared.instance.Instance.{Instance}

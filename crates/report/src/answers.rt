@@ -3,9 +3,9 @@
 ghost use Rattle.std.specs.Prelude.{◌≡◌, ◌≤◌, IfOk, is_some, string_bytes};
 ghost use Rattle.report.specs.Bests.{IsBestFor};
 ghost use Rattle.report.specs.Found.{IsFound};
-ghost use Rattle.run_texts.specs.Answers.{IsAnswer, IsCertified, IsCertifiedBy};
+ghost use Rattle.report_texts.specs.Answers.{IsAnswer, IsCertified, IsCertifiedBy};
 ghost use Rattle.outcomes.specs.Plans.{PairsAre};
-ghost use Rattle.run_texts.specs.Texts.{report_parts};
+ghost use Rattle.report_texts.specs.Texts.{report_parts};
 
 use crate::best::Best;
 use crate::instance::Instance;
@@ -13,9 +13,8 @@ use crate::search::{Found, search};
 use certificate::certificate_text;
 use command_line::RunPlan;
 use order_model::{Pairs, PairsFault, Problem, Workers};
-use order_solve::Optimum;
 use pla_reader::Cover;
-use run_texts::{Report, RunTexts, report_text};
+use report_texts::{Report, RunTexts, report_text};
 use std::alloc::{AllocError, Global};
 use std::thread::Threads;
 use truth_table::Tables;
@@ -69,12 +68,7 @@ fn certificate_of(
     let Some(cells) = cells else {
         return Ok(None);
     };
-    let Optimum {
-        order,
-        total,
-        levels,
-    } = optimum;
-    let text = certificate_text(alloc, problem, pairs, &order, levels, total, cells)?;
+    let text = certificate_text(alloc, problem, pairs, optimum, cells)?;
     Ok(Some(text))
 }
 

@@ -3,8 +3,8 @@
 ghost use Rattle.std.specs.Prelude.{◌≡◌, IfOk};
 ghost use Rattle.report.specs.Bests.{IsBestFor};
 
-use order_model::{ListedCell, NoGate, Pairs, Problem, Workers};
-use order_solve::{Optimum, Preparation, Solution, find_optimum, solve};
+use order_model::{ListedCell, NoGate, Pairs, Problem, SizedOrder, Workers};
+use order_solve::{Preparation, Solution, find_optimum, solve};
 use sifting::Sifted;
 use std::alloc::{AllocError, Global};
 use std::thread::Threads;
@@ -12,7 +12,7 @@ use std::thread::Threads;
 /// The first order of the fewest nodes, and the cells that its certificate lists if one is written.
 #[derive(Drop)]
 pub(crate) struct Best {
-    pub optimum: Optimum,
+    pub optimum: SizedOrder,
     pub cells: Option<Vec<ListedCell>>,
 }
 

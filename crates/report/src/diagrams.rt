@@ -6,7 +6,7 @@ ghost use Rattle.definitions.specs.Orders.{IsOrder};
 ghost use Rattle.dd_builder.specs.Building.{HasLevelCounts, IsDiagramOf};
 ghost use Rattle.pla_reader.specs.Covers.{functions_of};
 ghost use Rattle.report.specs.FirstDiagrams.{IsFirstDiagram};
-ghost use Rattle.run_texts.specs.Texts.{file_order_levels};
+ghost use Rattle.report_texts.specs.Texts.{file_order_levels};
 
 use crate::instance::Instance;
 use dd_builder::build;

@@ -16,5 +16,5 @@ mod search;
 
 pub use command_line::RunPlan;
 pub use program::minorder;
-pub use run_texts::laws;
+pub use report_texts::laws;
 pub use runs::run;

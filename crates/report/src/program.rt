@@ -3,7 +3,7 @@
 ghost use Rattle.std.specs.Prelude.{◌<◌, ◌^◌, None};
 ghost use Rattle.command_line.specs.Lines.{texts};
 ghost use Rattle.pla_reader.specs.Covers.{IsCover};
-ghost use Rattle.run_texts.specs.Runs.{DeliversReport, IsHindered, MinorderEnds};
+ghost use Rattle.report_texts.specs.Runs.{DeliversReport, IsHindered, MinorderEnds};
 ghost use Rattle.outcomes.specs.Messages.{writer};
 ghost use Rattle.outcomes.specs.Programs.{streams};
 

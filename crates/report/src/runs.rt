@@ -1,15 +1,15 @@
 //! Runs of minorder, over any reader and writers.
 
 ghost use Rattle.std.specs.Prelude.{◌+◌, ◌<◌, ◌^◌, IfOk, IfErr, option_map, string_bytes};
-ghost use Rattle.run_texts.specs.Answers.{HasCertificate, Hinders, IsTextOf};
-ghost use Rattle.run_texts.specs.Runs.{RunEnds, devices, failures_in, held};
+ghost use Rattle.report_texts.specs.Answers.{HasCertificate, Hinders, IsTextOf};
+ghost use Rattle.report_texts.specs.Runs.{RunEnds, devices, failures_in, held};
 
 use crate::answers::{answer_texts, pairs_of};
 use command_line::RunPlan;
 use counted_io::{CountedRead, CountedWrite};
 use outcomes::{Fault, Outcome};
 use pla_reader::{Cover, read_cover};
-use run_texts::{RunTexts, counts_of, write_texts};
+use report_texts::{RunTexts, counts_of, write_texts};
 use std::alloc::Global;
 use std::thread::Threads;
 

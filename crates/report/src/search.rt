@@ -4,12 +4,12 @@ ghost use Rattle.std.specs.Prelude.{◌≡◌, IfOk, sum};
 ghost use Rattle.std.specs.Thread.{IsSync};
 ghost use Rattle.report.specs.Found.{IsFirstManager, IsFound, IsSiftingFor, IsSiftingOf};
 ghost use Rattle.report.specs.FirstDiagrams.{IsFirstDiagram};
-ghost use Rattle.run_texts.specs.Texts.{file_order_levels};
+ghost use Rattle.report_texts.specs.Texts.{file_order_levels};
 
 use crate::best::{Best, best_order, small_best};
 use crate::diagrams::{file_order_levels_of, first_diagram};
 use crate::instance::Instance;
-use order_model::{Diagram, Limit, Order, BoundAbove, Workers, total};
+use order_model::{BoundAbove, Diagram, Limit, Order, Workers, total};
 use order_solve::{Preparation, prepare};
 use sifting::laws::diagrams_have_their_functions_tables;
 use sifting::{Manager, Sifted};

@@ -1,7 +1,7 @@
 //! Checks over devices that fail.
 
 use crate::devices::{FailingReader, FailingWriter, Room, holds};
-use checks::run_check;
+use check_runs::run_check;
 use counted_io::Counting;
 use outcomes::{Fault, Outcome};
 use std::io::{ErrorKind, Read};

@@ -23,13 +23,13 @@ use Rattle.outcomes.specs.declared.outcome.Outcome.{Outcome}
 use Rattle.outcomes.specs.declared.outcome.Outcome.TheVariants.{Done, Invalid, Refused}
 use Rattle.outcomes.specs.declared.outcome.Fault.TheVariants.{Line, TooLong, OutOfMemory, Device, StoreFull, Pairs, CertificateLine, CertificateTooLong}
 use Rattle.outcomes.specs.Headline.{IsPrinted}
-use Rattle.run_texts.specs.Answers.{IsAnswer, IsCertificate, IsText}
-use Rattle.run_texts.specs.Runs.{Certifies, whole}
-use Rattle.run_texts.specs.Texts.{levels_under, nodes_under, sizes_lines}
-use Rattle.run_texts.proofs.Determined.{pairs_unique}
-use Rattle.checks.specs.Judging.{ChecksAs, Judge}
-use Rattle.checks.specs.VerdictTexts.{valid_line}
-use Rattle.checks.proofs.OneVerdict.{judge_unique}
+use Rattle.report_texts.specs.Answers.{IsAnswer, IsCertificate, IsText}
+use Rattle.report_texts.specs.Runs.{Certifies, whole}
+use Rattle.report_texts.specs.Texts.{levels_under, nodes_under, sizes_lines}
+use Rattle.report_texts.proofs.Determined.{pairs_unique}
+use Rattle.check_runs.specs.Judging.{ChecksAs, Judge}
+use Rattle.check_runs.specs.VerdictTexts.{valid_line}
+use Rattle.check_runs.proofs.OneVerdict.{judge_unique}
 use Rattle.round_trip.specs.RoundTrip.{AcceptsWritten, Decides, Wrote}
 
 -- what a check that decides writes is what the bytes lead to

@@ -13,8 +13,8 @@ use Rattle.outcomes.specs.declared.outcome.Outcome.{Outcome}
 use Rattle.outcomes.specs.declared.outcome.Outcome.TheVariants.{Done}
 use Rattle.outcomes.specs.Headline.{IsPrinted}
 use Rattle.outcomes.specs.Statuses.{status_of}
-use Rattle.run_texts.specs.Runs.{Delivers, Tells, held}
-use Rattle.checks.specs.VerdictTexts.{valid_line}
+use Rattle.report_texts.specs.Runs.{Delivers, Tells, held}
+use Rattle.check_runs.specs.VerdictTexts.{valid_line}
 
 -- a run without count read the file and ended with 0, and its writers, empty before, got a report and a certificate
 pub record Wrote (plan : RunPlan) (file report cert : List ℕ) : Type 0 where

@@ -3,7 +3,7 @@
 ghost use Rattle.std.specs.Prelude.{ℕ, List, Option};
 ghost use Rattle.command_line.specs.declared.line.RunPlan.{RunPlan};
 ghost use Rattle.outcomes.specs.declared.outcome.Outcome.{Outcome};
-ghost use Rattle.checks.specs.Judging.{ChecksAs};
+ghost use Rattle.check_runs.specs.Judging.{ChecksAs};
 ghost use Rattle.round_trip.specs.RoundTrip.{AcceptsWritten, Decides, Wrote};
 
 /// A certificate that a run wrote is accepted: each check of it with the same file that decides,

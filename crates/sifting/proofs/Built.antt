@@ -4,9 +4,9 @@
 use Rattle.std.proofs.Common.{◌≡◌, ℕ, zero, suc, ◌+◌, ◌*◌, ◌^◌, ◌<◌, ◌≤◌, Bool, true, false, inl, inr, List, [], ◌∷◌, ◌++◌, map, length, get_or, take, refl, sym, ap, ap₂, ◌∙◌, subst, arith, add-one, pow-suc}
 use Rattle.std.proofs.lemmas.List.{length-map, length_push, take_more, take_all, length-take-le}
 use Rattle.std.proofs.lemmas.Option.{slice_get_cases}
-use Rattle.definitions.specs.declared.nodes.Ref.{Ref}
-use Rattle.definitions.specs.declared.nodes.Ref.TheVariants.{Terminal, Place}
-use Rattle.definitions.specs.declared.nodes.Node.{Node}
+use Rattle.definitions.specs.declared.refs.Ref.{Ref}
+use Rattle.definitions.specs.declared.refs.Ref.TheVariants.{Terminal, Place}
+use Rattle.definitions.specs.declared.refs.Node.{Node}
 use Rattle.definitions.specs.Functions.{Point, bit, SameFunction}
 use Rattle.definitions.specs.Orders.{has, IsOrder, place_in}
 use Rattle.definitions.specs.Diagrams.{Graph, IsDiagram, IsBefore, IsOrdered, IsReduced, value}

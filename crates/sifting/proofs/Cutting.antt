@@ -6,9 +6,9 @@ use Rattle.std.proofs.Common.{◌≡◌, ◌≢◌, ℕ, zero, suc, ◌+◌, ◌
 use Rattle.std.proofs.lemmas.Bool.{cases_eq}
 use Rattle.std.proofs.lemmas.List.{map-append, take_more}
 use Rattle.std.proofs.lemmas.Option.{slice_get_cases, same_Some}
-use Rattle.definitions.specs.declared.nodes.Ref.{Ref}
-use Rattle.definitions.specs.declared.nodes.Ref.TheVariants.{Terminal, Place}
-use Rattle.definitions.specs.declared.nodes.Node.{Node}
+use Rattle.definitions.specs.declared.refs.Ref.{Ref}
+use Rattle.definitions.specs.declared.refs.Ref.TheVariants.{Terminal, Place}
+use Rattle.definitions.specs.declared.refs.Node.{Node}
 use Rattle.definitions.specs.Functions.{Point, bit}
 use Rattle.definitions.specs.Orders.{place_in}
 use Rattle.definitions.specs.Diagrams.{Graph, AreNodes, IsDiagram, IsBefore, IsOrdered, IsReduced, value}

@@ -6,7 +6,7 @@ pub mod Inserted
 pub mod NodeSlots
 pub mod Making
 pub mod OrderSwaps
-pub mod Held
+pub mod ManagerFields
 pub mod Placements
 pub mod MoveSteps
 pub mod BestPlace

@@ -2,7 +2,7 @@
 use Rattle.std.proofs.Common.{◌≡◌, ℕ, ◌+◌, ◌<◌, if◌then◌else◌, inl, inr, List, [], ◌∷◌, ◌++◌, length, get_or, refl, sym, ap, ◌∙◌, subst, arith, nat_eq}
 use Rattle.std.proofs.lemmas.List.{length_push, get_or_append_left, get_or_at}
 use Rattle.std.specs.List.{list_any, position_or_len}
-use Rattle.definitions.specs.declared.nodes.Ref.{Ref}
+use Rattle.definitions.specs.declared.refs.Ref.{Ref}
 use Rattle.sifting.specs.Cuts.{code_of, ref_at, RootsFirst}
 use Rattle.sifting.specs.NodeTables.{Inserted}
 use Rattle.sifting.proofs.Inserted.{inserted}

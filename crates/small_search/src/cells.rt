@@ -15,7 +15,12 @@ use subset_layers::{Cell, cell_from};
 
 /// The cell of a set, from those of all smaller masks and the masks of the set's classes: one
 /// numbering gives the widths of all its members.
-pub(crate) fn cell_of_set(instance: &Instance<'_>, cells: &[Cell], masks: &[u16], set: Mask) -> Cell
+pub(crate) fn cell_of_set(
+    instance: &Instance<'_>,
+    cells: &[Cell],
+    masks: &[Mask],
+    set: Mask,
+) -> Cell
     requires some { 0 < set }
     requires within { set < 2 ^ instance.now.problem.inputs }
     requires cells { AreFirstCells instance.now set cells.now }

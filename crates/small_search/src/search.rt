@@ -13,9 +13,9 @@ ghost use Rattle.solutions.specs.Solutions.{IsOptimumFor, IsSolution};
 
 use crate::cells::cell_of_set;
 use crate::tables::{add_lowest, first_tables};
-use order_model::{Limit, Mask, Pairs, Problem, BoundAbove};
+use order_model::{BoundAbove, Limit, Mask, Pairs, Problem, SizedOrder};
 use pair_chains::{Numbered, PairNumbers};
-use solutions::{AllCells, Optimum, Instance, Solution, optimum_of, solution_of};
+use solutions::{AllCells, Instance, Solution, optimum_of, solution_of};
 use std::alloc::{AllocError, Global};
 use subset_layers::Cell;
 
@@ -101,7 +101,11 @@ fn all_cells(alloc: Global, instance: &Instance<'_>) -> Result<Vec<Cell>, AllocE
 
 /// The first order of the fewest nodes among those that keep the pairs. It takes a step for each
 /// entry of the class tables of all sets, so it is for small problems.
-pub fn find_optimum(alloc: Global, problem: &Problem, pairs: &Pairs) -> Result<Optimum, AllocError>
+pub fn find_optimum(
+    alloc: Global,
+    problem: &Problem,
+    pairs: &Pairs,
+) -> Result<SizedOrder, AllocError>
     requires { pairs.now.inputs ≡ problem.now.inputs }
     ensures { IfOk result (IsOptimumFor problem.now pairs.now.pairs) }
 {

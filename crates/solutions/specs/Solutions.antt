@@ -17,7 +17,7 @@ use Rattle.definitions.specs.Certificates.{certificate_of, least_listed, listed_
 use Rattle.definitions.specs.Listed.{listed}
 use Rattle.definitions.specs.declared.listed_cells.ListedCell.{ListedCell}
 use Rattle.layer_core.specs.Instances.{Instance}
-use Rattle.solutions.specs.declared.solution.Optimum.{Optimum}
+use Rattle.order_model.specs.declared.sized_orders.SizedOrder.{SizedOrder}
 use Rattle.solutions.specs.declared.solution.Solution.{Solution}
 
 -- the cost of a set
@@ -51,7 +51,7 @@ pub record IsFirstFewest (n : ℕ) (F : List Function) (P : List Pair) (order le
   pub levels_are : levels ≡ level_counts n F order
 
 -- the optimum holds them
-abbrev pub IsOptimumFor : TruthTables → List Pair → Optimum → Type 0
+abbrev pub IsOptimumFor : TruthTables → List Pair → SizedOrder → Type 0
 IsOptimumFor problem P o = IsFirstFewest problem.inputs (functions problem) P o.order o.levels.items o.total
 
 -- this, and the cells of its certificate

@@ -12,8 +12,8 @@ ghost use Rattle.solutions.specs.Solutions.{cost_for, cost_for_without};
 ghost use Rattle.solutions.specs.LayerCosts.{AreAllLayers, IsLayerFor};
 ghost use Rattle.solutions.specs.FlatCells.{AreFlatCells};
 
-use crate::needs::asked_members;
 use crate::instance::Instance;
+use crate::needs::asked_members;
 use order_model::{Mask, contains};
 use std::marker::Model;
 use subset_layers::{Cell, Costs};

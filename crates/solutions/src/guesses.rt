@@ -4,7 +4,7 @@ ghost use Rattle.std.specs.Prelude.{◌≡◌, ◌≤◌, length};
 
 use crate::instance::Instance;
 use crate::symmetric::pairs_to_keep;
-use order_model::{Limit, Pairs, Problem, BoundAbove, Workers};
+use order_model::{BoundAbove, Limit, Pairs, Problem, Workers};
 use std::alloc::{AllocError, Global};
 use subset_layers::{Costs, Layer};
 

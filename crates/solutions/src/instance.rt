@@ -3,7 +3,7 @@
 ghost use Rattle.std.specs.Prelude.{◌≡◌, ◌+◌, ◌^◌, ◌<◌, ◌≤◌};
 
 use layer_core::CellResult;
-use order_model::{Limit, Mask, Pairs, Problem, BoundsAbove};
+use order_model::{BoundsAbove, Limit, Mask, Pairs, Problem};
 use std::marker::Model;
 use subset_layers::Cell;
 

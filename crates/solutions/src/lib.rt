@@ -14,16 +14,16 @@ mod needs;
 
 // What is read off the cells of all sets.
 mod all_cells;
+mod first_order;
 mod listed_sets;
 mod optima;
-mod first_order;
 mod solution;
 
 pub use all_cells::AllCells;
 pub use guesses::{busy_workers, layers_to_prepare, likely_end};
+pub use instance::Instance;
 pub use making::{first_layer, place_cells};
 pub use needs::needs_of_block;
 pub use optima::{optimum_of, solution_of};
-pub use instance::Instance;
-pub use solution::{Optimum, Solution};
+pub use solution::Solution;
 pub use symmetric::pairs_to_keep;

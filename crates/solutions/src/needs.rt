@@ -8,7 +8,7 @@ ghost use Rattle.solutions.specs.LayerCosts.{AreCostsFor};
 ghost use Rattle.solutions.specs.Needs.{IsInNextLayer, affordable, needed};
 
 use crate::instance::Instance;
-use order_model::{Mask, BoundAbove, contains};
+use order_model::{BoundAbove, Mask, contains};
 use std::alloc::{AllocError, Global};
 use subset_layers::{Block, Costs};
 

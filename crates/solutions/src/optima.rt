@@ -5,21 +5,22 @@ ghost use Rattle.definitions.specs.declared.limits.BoundAbove.TheVariants.{Varia
 ghost use Rattle.solutions.specs.Solutions.{IsOptimumFor, IsSolution, widths_for_all};
 
 use crate::all_cells::AllCells;
-use crate::listed_sets::{count_widths, listed_cells};
 use crate::first_order::{all_variables, level_counts, read_order};
-use crate::solution::{Optimum, Solution};
+use crate::listed_sets::{count_widths, listed_cells};
+use crate::solution::Solution;
+use order_model::SizedOrder;
 use std::alloc::{AllocError, Global};
 
 /// The order that the cells of all sets give: the first one of the fewest nodes among those that
 /// keep the pairs.
-pub fn optimum_of(alloc: Global, cells: &AllCells<'_>) -> Result<Optimum, AllocError>
+pub fn optimum_of(alloc: Global, cells: &AllCells<'_>) -> Result<SizedOrder, AllocError>
     ensures optimum { IfOk result (IsOptimumFor cells.now.problem cells.now.pairs.pairs) }
     ensures bounded { IfOk result (λ o. o.total ≤ cells.now.bound) }
 {
     let total = cells.cost(all_variables(cells.inputs()));
     let order = read_order(alloc, cells)?;
     let levels = level_counts(alloc, cells, &order)?;
-    Ok(Optimum {
+    Ok(SizedOrder {
         order,
         total,
         levels,

@@ -8,7 +8,7 @@ ghost use Rattle.solver_tests.specs.Examples.{parity};
 
 use layer_board::{Board, BoardSeat, Claim, CloseError, PostRefused};
 use layer_core::{CellResult, Core, Event, Reply};
-use order_model::{Limit, Mask, Pairs, Problem, BoundAbove, Workers};
+use order_model::{BoundAbove, Limit, Mask, Pairs, Problem, Workers};
 use std::alloc::Global;
 use std::process::Abort;
 use std::thread;

@@ -3,7 +3,7 @@
 ghost use Rattle.std.specs.Prelude.{◌≡◌, ◌+◌, ◌<◌};
 
 use crate::searches::tables_of;
-use order_model::{Mask, Pairs, BoundAbove, BoundsAbove};
+use order_model::{BoundAbove, BoundsAbove, Mask, Pairs};
 use std::alloc::Global;
 use std::process::Abort;
 use subset_layers::{Cell, Costs, Layer, least_cell};

@@ -3,8 +3,8 @@
 ghost use Rattle.std.specs.Prelude.{◌≡◌};
 
 use counted_io::Counting;
-use order_model::{Gate, Limit, NoGate, Order, Pairs, BoundAbove, VarIx, Workers};
-use order_solve::{Optimum, Solution, find_optimum_alone, prepare, solve, solve_alone};
+use order_model::{BoundAbove, Gate, Limit, NoGate, Order, Pairs, SizedOrder, VarIx, Workers};
+use order_solve::{Solution, find_optimum_alone, prepare, solve, solve_alone};
 use pla_reader::read_cover;
 use sifting::laws::diagrams_have_their_problems_tables;
 use sifting::{Manager, Sifted};
@@ -86,12 +86,12 @@ fn widths_that_are_taken_are_counted(rt: HostRuntime) {
 }
 
 /// Whether an optimum is this one.
-fn is_optimum(found: &Optimum, order: &[VarIx], levels: &[u32], total: u32) -> bool {
+fn is_optimum(found: &SizedOrder, order: &[VarIx], levels: &[u32], total: u32) -> bool {
     found.order.variables() == order && found.levels.as_slice() == levels && found.total == total
 }
 
 /// Whether an optimum is that of the words below.
-fn is_of_words(found: &Optimum) -> bool {
+fn is_of_words(found: &SizedOrder) -> bool {
     is_optimum(found, &[0, 1, 2], &[1, 2, 2], 5)
 }
 

@@ -10,8 +10,8 @@ ghost use Rattle.order_solve.specs.LayerContexts.{IsContext, context_with};
 use crate::boards::{error_of_closing, is_stranger, lone_board};
 use crate::searches::tables_of;
 use layer_board::{Board, BoardSeat, CloseError, PostRefused};
-use order_model::{Limit, Mask, NoGate, Pairs, BoundAbove, Workers};
-use order_solve::{LayerContext, Instance, work_layer};
+use order_model::{BoundAbove, Limit, Mask, NoGate, Pairs, Workers};
+use order_solve::{Instance, LayerContext, work_layer};
 use std::alloc::Global;
 use std::process::Abort;
 use std::thread;
@@ -53,7 +53,14 @@ fn cells_by_one(
 {
     let context = LayerContext::new(instance, layer, before);
     let limit = instance.limit();
-    let (board, seat) = lone_board(rt, alloc, instance.problem(), instance.pairs(), limit, layer);
+    let (board, seat) = lone_board(
+        rt,
+        alloc,
+        instance.problem(),
+        instance.pairs(),
+        limit,
+        layer,
+    );
     let (seat, _) = worked(rt, alloc, &board, seat, 1, &context);
     board.close(alloc, seat).ok().expect(rt, "all cells")
 }
@@ -114,7 +121,14 @@ fn board_of_two(
 {
     let two = Workers::new(2).expect(rt, "two workers");
     let limit = instance.limit();
-    let made = Board::new(alloc, instance.problem(), limit, layer, two, instance.pairs());
+    let made = Board::new(
+        alloc,
+        instance.problem(),
+        limit,
+        layer,
+        two,
+        instance.pairs(),
+    );
     made.expect(rt, "memory")
 }
 

@@ -5,11 +5,11 @@ ghost use Rattle.std.specs.Int.{bit_at};
 ghost use Rattle.std.specs.List.{filter};
 ghost use Rattle.subfunction_classes.specs.Dependence.{joined_mask};
 
-use definitions::{VarIx, contains};
+use definitions::{Mask, VarIx, contains};
 
 /// The mask of a pair of classes: what its halves depend on, and `x` if they differ.
 #[inline(always)]
-pub fn join_mask(masks: &[u16], x: VarIx, pair: (u32, u32)) -> u16
+pub fn join_mask(masks: &[Mask], x: VarIx, pair: (u32, u32)) -> Mask
     requires variable { x < 16 }
     requires lower { pair.0 < length masks.now }
     requires upper { pair.1 < length masks.now }
@@ -25,7 +25,7 @@ pub fn join_mask(masks: &[u16], x: VarIx, pair: (u32, u32)) -> u16
 }
 
 /// How many masks have the bit of a variable.
-pub fn count_with(masks: &[u16], x: VarIx) -> u32
+pub fn count_with(masks: &[Mask], x: VarIx) -> u32
     requires variable { x < 16 }
     requires few { length masks.now ≤ 2 ^ 20 }
     ensures { result ≡ length (filter (λ m. bit_at m x == 1) masks.now) }

@@ -5,8 +5,8 @@ ghost use Rattle.std.specs.List.{list_any};
 ghost use Rattle.definitions.specs.Problems.{value_at, outputs_of, table_in, words_per_table};
 ghost use Rattle.subfunction_classes.specs.Values.{row, values_of, number_of as number, class_count};
 
-use definitions::Problem;
 use definitions::packed::bit_of;
+use definitions::{Mask, Problem};
 use std::alloc::{AllocError, Global};
 
 /// The number of a value.
@@ -61,7 +61,7 @@ fn has_both(numbers: &[u32]) -> bool
 }
 
 /// The masks of the classes of values, which depend on nothing.
-pub fn no_dependence(alloc: Global, numbers: &[u32]) -> Result<Vec<u16>, AllocError>
+pub fn no_dependence(alloc: Global, numbers: &[u32]) -> Result<Vec<Mask>, AllocError>
     ensures long { IfOk result (λ v. length v.items ≡ class_count numbers.now) }
     ensures zeros { IfOk result (λ v. (c : ℕ) → slice_index v.items c ≡ 0) }
 {

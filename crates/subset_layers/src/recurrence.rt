@@ -9,7 +9,7 @@ ghost use Rattle.subset_layers.specs.Costs.{cost_without, as_pair, IsCellFrom, I
 ghost use Rattle.subset_layers.specs.Sums.{IsBest};
 
 use crate::costs::{Cell, Costs};
-use order_model::{Mask, Pairs, BoundsAbove, VarIx, contains};
+use order_model::{BoundsAbove, Mask, Pairs, VarIx, WidthRow, contains};
 
 /// A sum of cost and width, and the variable that gives it.
 #[derive(Clone, Copy)]
@@ -32,13 +32,7 @@ fn smaller(best: Option<Sum>, next: Sum) -> Sum
 
 /// The least sum of cost and width over the members without which the cost is within the bound, by
 /// the smallest such member.
-fn best_sum(
-    mask: Mask,
-    inputs: u8,
-    below: &[u32; 16],
-    widths: &[u32; 16],
-    bound: u32,
-) -> Option<Sum>
+fn best_sum(mask: Mask, inputs: u8, below: &[u32; 16], widths: &WidthRow, bound: u32) -> Option<Sum>
     requires { inputs ≤ 16 }
     ensures best { IfSome result
         (λ s. IsBest (λ x. IsTrue (has (members inputs mask) x)) bound (slice_index below.now)
@@ -76,7 +70,7 @@ fn lawful_cell(
     mask: Mask,
     inputs: u8,
     below: &[u32; 16],
-    widths: &[u32; 16],
+    widths: &WidthRow,
     bound: u32,
     bounds_above: &BoundsAbove<'_>,
 ) -> Cell
@@ -111,7 +105,7 @@ fn lawful_cell(
 pub fn cell_from(
     mask: Mask,
     below: &[u32; 16],
-    widths: &[u32; 16],
+    widths: &WidthRow,
     bound: u32,
     bounds_above: &BoundsAbove<'_>,
     pairs: &Pairs,
@@ -151,7 +145,7 @@ fn costs_below(mask: Mask, costs: &Costs) -> [u32; 16]
 pub fn least_cell(
     mask: Mask,
     costs: &Costs,
-    widths: &[u32; 16],
+    widths: &WidthRow,
     bound: u32,
     bounds_above: &BoundsAbove<'_>,
     pairs: &Pairs,

@@ -7,7 +7,7 @@ use Rattle.std.proofs.lemmas.Bool.{cases_eq}
 use Rattle.std.proofs.lemmas.List.{map-append, append_assoc, get_or_append_left, get_or_at}
 use Rattle.std.proofs.lemmas.Option.{slice_get_within, same_Some}
 use Rattle.definitions.specs.Widths.{same_pair}
-use Rattle.definitions.specs.declared.nodes.Node.{Node}
+use Rattle.definitions.specs.declared.refs.Node.{Node}
 use Rattle.definitions.proofs.Nodes.Appended.{get_left, get_right, get_cases}
 use Rattle.definitions.proofs.Widths.ClassPairs.{pair_decides}
 use Rattle.table_diagrams.proofs.Lists.{same_key}

@@ -8,9 +8,9 @@ use Rattle.std.specs.Prelude.{◌≡◌, ◌≢◌, ℕ, zero, suc, ◌+◌, ◌
 use Rattle.std.specs.List.{IsDistinct}
 use Rattle.std.specs.declared.option.Option.TheVariants.{Some}
 use Rattle.definitions.specs.Widths.{same_pair}
-use Rattle.definitions.specs.declared.nodes.Ref.{Ref}
-use Rattle.definitions.specs.declared.nodes.Ref.TheVariants.{Terminal, Place}
-use Rattle.definitions.specs.declared.nodes.Node.{Node}
+use Rattle.definitions.specs.declared.refs.Ref.{Ref}
+use Rattle.definitions.specs.declared.refs.Ref.TheVariants.{Terminal, Place}
+use Rattle.definitions.specs.declared.refs.Node.{Node}
 use Rattle.truth_table.specs.Numberings.{pairs_of}
 
 -- 0 and 1 are the terminals, k + 2 is the node at place k

@@ -10,13 +10,13 @@ ghost use Rattle.pla_reader.specs.Masks.{Fits};
 ghost use Rattle.truth_table.specs.Terms.{AddsTerm, AreGroupWords, literal_at, literals_at};
 
 use order_model::packed::{lower_half, words_per_table};
-use order_model::{Term, contains};
+use order_model::{Term, VarIx, contains};
 use rayon::prelude::*;
 use std::alloc::{AllocError, Global};
 use std::thread::Threads;
 
 /// The points of a word at which a term's literal of a variable below 6, if it has one, holds.
-fn literal_points(term: Term, x: u8) -> u64
+fn literal_points(term: Term, x: VarIx) -> u64
     requires { x < 6 }
     ensures { (b : ℕ) → b < 64 → (bit_at result b == 1) ≡ literal_at term b x }
 {

@@ -6,7 +6,7 @@ use lib.Seq.{get_or-drop}
 use Rattle.definitions.specs.Functions.{Function, SameFunction, from_table}
 use Rattle.definitions.specs.Problems.{functions}
 use Rattle.definitions.specs.Diagrams.{Graph, Represents, IsOf, value}
-use Rattle.definitions.specs.declared.nodes.Ref.{Ref}
+use Rattle.definitions.specs.declared.refs.Ref.{Ref}
 use Rattle.node_words.specs.Nodes.{IsKnown}
 use Rattle.node_words.specs.Meaning.{function_of, Denotes}
 use Rattle.node_words.proofs.Functions.{known_small}

@@ -9,13 +9,13 @@ mod session;
 mod store;
 
 // The words that the store lies in, the rule that they keep, and the kinds of steps on them.
-pub mod laws;
 mod atomic_steps;
+pub mod laws;
 mod words;
 
+pub use atomic_steps::Words;
 pub use close::{CloseFault, ClosedStore};
 pub use node_words::{NodeParts, Operation};
 pub use plan::{PieceKind, Pieces, Plan, TermList};
-pub use atomic_steps::Words;
 pub use session::{NodeId, Session, Stake, View};
 pub use store::{Store, StoreFull};

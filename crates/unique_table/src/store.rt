@@ -11,10 +11,10 @@ ghost use Rattle.definitions.specs.Diagrams.{Represents, IsReduced};
 ghost use Rattle.unique_table.specs.Stakes.{whole, half, joined};
 ghost use Rattle.unique_table.specs.Closing.{IsFinalStore, LacksRoot, MayLackRoot};
 
+use crate::atomic_steps::{Both, Words};
 use crate::close::{CloseFault, ClosedStore};
 use crate::create::{blank_words, cache_places, kind_of, node_places, parts_count};
 use crate::plan::{Pieces, Plan};
-use crate::atomic_steps::{Both, Words};
 use crate::session::{NodeId, Session, View};
 use crate::words;
 use atomic_table::Table;

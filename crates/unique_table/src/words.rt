@@ -10,8 +10,8 @@ ghost use Rattle.unique_table.specs.Sessions.{GainsOnly};
 ghost use Rattle.unique_table.specs.Views.{After, Gains};
 ghost use Rattle.unique_table.specs.Seats.{IsSeatOf, IsSeatAfter, IsNodePlace, IsEntryPlace, IsPiecePlace, IsNodeWord, MayPut};
 
-use crate::plan::Plan;
 use crate::atomic_steps::{Collects, Looks, Publishes, Puts, Recalls, Remembers, Words};
+use crate::plan::Plan;
 use crate::session::View;
 use atomic_table::{Seat, Shared};
 use node_words::{probe, start};

@@ -196,11 +196,7 @@ fn bytes_of(alloc: Global, words: &[u64]) -> Result<Vec<u8>, AllocError>
 }
 
 /// A strip for each run of 2^low points, function by function.
-pub fn whole_strips(
-    alloc: Global,
-    problem: &Problem,
-    low: u8,
-) -> Result<ValueStrips, AllocError>
+pub fn whole_strips(alloc: Global, problem: &Problem, low: u8) -> Result<ValueStrips, AllocError>
     requires inside { low ≤ problem.now.inputs }
     ensures { IfOk result (λ v. HoldsValues problem.now v.outer.items v.numbers.items (2 ^ low)) }
 {

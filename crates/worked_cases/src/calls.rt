@@ -2,7 +2,7 @@
 
 use crate::cases::{Case, Place};
 use anyhow::{Context, Result, bail, ensure};
-use checks::ordercheck;
+use check_runs::ordercheck;
 use counted_io::Counting;
 use report::minorder;
 use std::fs;

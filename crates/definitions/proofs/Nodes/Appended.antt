@@ -1,9 +1,9 @@
 -- Nodes appended to a diagram's list: the old refs keep their values.
 use Rattle.std.proofs.Common.{◌≡◌, ℕ, zero, suc, ◌+◌, ◌<◌, ◌≤◌, ◌⊎◌, inl, inr, List, [], ◌∷◌, ◌++◌, length, refl, sym, ap, ◌∙◌, arith, slice_get, Some, zero-add}
 use Rattle.std.proofs.lemmas.Option.{slice_get_cases}
-use Rattle.definitions.specs.declared.nodes.Ref.{Ref}
-use Rattle.definitions.specs.declared.nodes.Ref.TheVariants.{Terminal, Place}
-use Rattle.definitions.specs.declared.nodes.Node.{Node}
+use Rattle.definitions.specs.declared.refs.Ref.{Ref}
+use Rattle.definitions.specs.declared.refs.Ref.TheVariants.{Terminal, Place}
+use Rattle.definitions.specs.declared.refs.Node.{Node}
 use Rattle.definitions.specs.Functions.{Point, bit}
 use Rattle.definitions.specs.Diagrams.{Graph, IsDiagram, IsNodeAt, IsBefore, child_at, value}
 use Rattle.definitions.proofs.Nodes.Paths.{before_more, child_before, value_place, value_terminal}

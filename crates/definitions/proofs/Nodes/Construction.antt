@@ -9,9 +9,9 @@ use Rattle.std.proofs.lemmas.List.{set-get_or, append_assoc, append-nil, length_
 use Rattle.std.proofs.lemmas.List.Elements.{All-from_recursion}
 use Rattle.std.proofs.lemmas.List.Sums.{sum_by-cons, sum_by-append}
 use Rattle.std.proofs.lemmas.Option.{slice_get_within, same_Some}
-use Rattle.definitions.specs.declared.nodes.Ref.{Ref}
-use Rattle.definitions.specs.declared.nodes.Ref.TheVariants.{Terminal, Place}
-use Rattle.definitions.specs.declared.nodes.Node.{Node}
+use Rattle.definitions.specs.declared.refs.Ref.{Ref}
+use Rattle.definitions.specs.declared.refs.Ref.TheVariants.{Terminal, Place}
+use Rattle.definitions.specs.declared.refs.Node.{Node}
 use Rattle.definitions.specs.Functions.{Point, Function, bit, restrict, SameFunction, table, same_table, depends}
 use Rattle.definitions.specs.Orders.{has, IsOrder, place_in}
 use Rattle.definitions.specs.Levels.{subfunctions, reach, dependents, level_count, size_under}

@@ -1,7 +1,7 @@
 -- A reduced diagram of three nodes for the conjunction and the disjunction of two variables.
 use Rattle.std.proofs.Common.{◌≡◌, ◌≢◌, ℕ, zero, suc, ◌<◌, ◌&&◌, ◌||◌, true, false, inr, [], ◌∷◌, refl, arith, slice_get, Some, lit<}
-use Rattle.definitions.specs.declared.nodes.Ref.TheVariants.{Terminal, Place}
-use Rattle.definitions.specs.declared.nodes.Node.{Node}
+use Rattle.definitions.specs.declared.refs.Ref.TheVariants.{Terminal, Place}
+use Rattle.definitions.specs.declared.refs.Node.{Node}
 use Rattle.definitions.specs.Functions.{Function, bit, points, SameFunction}
 use Rattle.definitions.specs.Orders.{place_in}
 use Rattle.definitions.specs.Diagrams.{Graph, IsDiagram, IsOrdered, IsOf, IsReduced, Reached, Represents, next, after, child_of, is_one, value}

@@ -25,15 +25,15 @@ unreachable-requires c =
     let sorted = rw c.requires.inputs at c.inputs-inputs.ensures.sorted in
     let outputs = c.outputs-outputs.ensures.value ∙ sym (length-map c.args.problem.now.tables from_table) in
     let few = rw outputs at c.outputs-outputs.ensures.few in
-    let same = parts_same n F P c.args.order.now c.inputs-inputs.result c.outputs-outputs.result c.in_ok-order.order.items
-    c.args.levels.items c.args.total c.in_ok-kept.kept.items c.args.cells.items
+    let same = parts_same n F P c.args.found.order c.inputs-inputs.result c.outputs-outputs.result c.in_ok-order.order.items
+    c.args.found.levels.items c.args.found.total c.in_ok-kept.kept.items c.args.cells.items
     (c.inputs-inputs.ensures.value ∙ c.requires.inputs) outputs
-    (c.in_ok-order.ensures.items_if_clones_equal (λ x y h. h) ∙ c.variables.ensures.value) c.requires.levels
-    c.requires.total c.in_ok-kept.ensures sorted c.requires.cells in
+    (c.in_ok-order.ensures.items_if_clones_equal (λ x y h. h) ∙ c.variables.ensures.value) c.requires.found.levels_are
+    c.requires.found.size c.in_ok-kept.ensures sorted c.requires.cells in
     c.in-None.ensures.none
     (subst HasSpelling (sym same)
-    (c.orders_have_certificates.ensures n F P c.args.order.now kept.some kept.few (rw outputs at c.outputs-outputs.ensures.some) few
-    c.requires.order kept.below (rw c.count.ensures.value at c.count.ensures.most) sorted))
+    (c.orders_have_certificates.ensures n F P c.args.found.order kept.some kept.few (rw outputs at c.outputs-outputs.ensures.some) few
+    c.requires.found.is_order kept.below (rw c.count.ensures.value at c.count.ensures.most) sorted))
 
 pub returns : goal.returns
 returns c =
@@ -41,10 +41,10 @@ returns c =
     let F = functions c.args.problem.now in
     let P = c.args.pairs.now.pairs in
     let outputs = c.outputs-outputs.ensures.value ∙ sym (length-map c.args.problem.now.tables from_table) in
-    let same = parts_same n F P c.args.order.now c.inputs-inputs.result c.outputs-outputs.result c.in_ok-order.order.items
-    c.args.levels.items c.args.total c.in_ok-kept.kept.items c.args.cells.items
+    let same = parts_same n F P c.args.found.order c.inputs-inputs.result c.outputs-outputs.result c.in_ok-order.order.items
+    c.args.found.levels.items c.args.found.total c.in_ok-kept.kept.items c.args.cells.items
     (c.inputs-inputs.ensures.value ∙ c.requires.inputs) outputs
-    (c.in_ok-order.ensures.items_if_clones_equal (λ x y h. h) ∙ c.variables.ensures.value) c.requires.levels
-    c.requires.total c.in_ok-kept.ensures (rw c.requires.inputs at c.inputs-inputs.ensures.sorted) c.requires.cells in
+    (c.in_ok-order.ensures.items_if_clones_equal (λ x y h. h) ∙ c.variables.ensures.value) c.requires.found.levels_are
+    c.requires.found.size c.in_ok-kept.ensures (rw c.requires.inputs at c.inputs-inputs.ensures.sorted) c.requires.cells in
     let cert = c.in-Some.ensures.some ∙ same in
-    stated (certificate_of n F P c.args.order.now) c.in-Some.cert c.text.result cert (subst HasSpelling c.cert.view_is c.cert.invariant) c.text.ensures.spelling
+    stated (certificate_of n F P c.args.found.order) c.in-Some.cert c.text.result cert (subst HasSpelling c.cert.view_is c.cert.invariant) c.text.ensures.spelling

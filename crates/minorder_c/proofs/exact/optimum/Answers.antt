@@ -8,11 +8,10 @@ pub returns-clause-optimum : goal.returns-clause-optimum
 returns-clause-optimum c = search rules
 
 pub returns-clause-long : goal.returns-clause-long
-returns-clause-long c = order_length c.args.tables.now.inputs c.in_ok-optimum.optimum.order (returns-clause-optimum c).first.fewest.is_order
-
-pub returns-clause-counts : goal.returns-clause-counts
-returns-clause-counts c =
+returns-clause-long c =
     let best = returns-clause-optimum c in
-    ap length best.levels_are
-    ∙ order_counts_long c.args.tables.now.inputs (functions c.args.tables.now) c.in_ok-optimum.optimum.order
-    best.first.fewest.is_order
+    let is_order = best.first.fewest.is_order in (
+      order_length c.args.tables.now.inputs c.in_ok-optimum.optimum.order is_order,
+      ap length best.levels_are
+          ∙ order_counts_long c.args.tables.now.inputs (functions c.args.tables.now) c.in_ok-optimum.optimum.order is_order,
+    )

@@ -10,5 +10,5 @@ loop-i-preserved c =
     let kept = c.in_ok-put.ensures in
     more_put c.args.inputs c.args.outputs c.args.words.now c.loop-i.i a.orders.items a.levels.items a.totals.items best.order
     best.levels.items best.total c.block.result.now (c.args.outputs * c.words_per_table.result) c.put.new.answers.orders.items
-    c.put.new.answers.levels.items c.put.new.answers.totals.items c.loop-i.invariant returned.long returned.counts c.block.ensures
+    c.put.new.answers.levels.items c.put.new.answers.totals.items c.loop-i.invariant returned.long.0 returned.long.1 c.block.ensures
     (ap (λ (w : ℕ). c.args.outputs * w) c.words_per_table.ensures.value) returned.optimum kept.orders kept.levels kept.totals

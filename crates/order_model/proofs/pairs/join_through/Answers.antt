@@ -13,7 +13,7 @@ loop-mask-preserved c =
     let later = c.loop-mask.reached in
     elim c.if-contains.branch [
       | then-contains w ↦ subst (JoinedTo c.args.reached.now c.args.k (i + 1)) (sym w.reached-is)
-          (joined_set c.args.reached.now c.args.k i later c.loop-mask.invariant (inside (c.loop-mask.invariant.long ∙ c.stated-reached))
+          (joined_set c.args.reached.now c.args.k i later c.loop-mask.invariant (inside (c.loop-mask.invariant.long ∙ c.told-reached))
           (c.contains.ensures.0 w.if-contains.true))
       | else-contains w ↦ grind (arith, set-get_or)
     ]

@@ -1,9 +1,10 @@
-use Rattle.std.proofs.Common.{List, subst}
+use Rattle.std.proofs.Common.{List, IfOk, subst}
 use Rattle.std.proofs.lemmas.Result.{IfOk-weaker}
 use Rattle.definitions.specs.KeptPairs.{KeptPairs}
 use Rattle.definitions.specs.Pairs.{Pair}
 use Rattle.definitions.specs.Problems.{TruthTables, functions}
 use Rattle.symmetries.specs.SymmetricPairs.{IsHarmless}
+use Rattle.layer_core.specs.Instances.{Instance}
 use Rattle.solutions.specs.Solutions.{IsOptimumFor}
 use Rattle.solutions.proofs.Harmless.{optimum_harmless}
 use Rattle.order_solve.proofs.solving.find_optimum.Goals as goal
@@ -15,7 +16,10 @@ returns g c =
     let Q = c.in_ok-pairs.pairs.pairs in
     let instance = c.instance_of-instance.ensures in
     let harmless = subst (λ (R : List Pair). IsHarmless t.inputs (functions t) R Q) c.pairs.ensures.value c.in_ok-pairs.ensures.harmless in
-    IfOk-weaker c.optimum_for.result _ _ (λ o found. subst (λ (u : TruthTables). IsOptimumFor u P o) c.problem-problem.ensures
+    let best =
+    subst (λ (z : Instance). IfOk c.optimum_of.result (IsOptimumFor z.problem z.pairs.pairs)) c.of_layers-cells.ensures
+    c.optimum_of.ensures.optimum in
+    IfOk-weaker c.optimum_of.result _ _ (λ o found. subst (λ (u : TruthTables). IsOptimumFor u P o) c.problem-problem.ensures
     (optimum_harmless t P Q o harmless
     (subst (λ (u : TruthTables). IsOptimumFor u Q o) instance.problem
-    (subst (λ (k : KeptPairs). IsOptimumFor c.instance_of-instance.result.problem k.pairs o) instance.pairs found)))) c.optimum_for.ensures
+    (subst (λ (k : KeptPairs). IsOptimumFor c.instance_of-instance.result.problem k.pairs o) instance.pairs found)))) best

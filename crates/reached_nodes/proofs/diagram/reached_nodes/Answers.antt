@@ -1,8 +1,8 @@
 use Rattle.std.proofs.Common.{◌≡◌, ℕ, ◌+◌, ◌^◌, ◌<◌, List, length, replicate, length-take, sym, ap, subst, ◌∙◌, arith}
 use Rattle.std.proofs.lemmas.List.{length-replicate}
 use Rattle.std.specs.Slots.{slots_items}
-use Rattle.definitions.specs.declared.nodes.Ref.{Ref}
-use Rattle.definitions.specs.declared.nodes.Node.{Node}
+use Rattle.definitions.specs.declared.refs.Ref.{Ref}
+use Rattle.definitions.specs.declared.refs.Node.{Node}
 use Rattle.reached_nodes.specs.Copies.{words_in, AreCopied, AreRefs, AreReached}
 use Rattle.reached_nodes.proofs.Copying.{copied_none}
 use Rattle.reached_nodes.proofs.Finishing.{more_reached, more_refs, reduced_of}

@@ -1,10 +1,10 @@
 use Rattle.std.proofs.Common.{Bool, refl, subst, sum}
 use Rattle.definitions.specs.Levels.{level_counts}
 use Rattle.definitions.specs.Problems.{functions}
-use Rattle.run_texts.specs.Answers.{IsCertifiedBy}
-use Rattle.run_texts.specs.Texts.{file_order_levels}
-use Rattle.run_texts.proofs.Certified.{certified_if_asked}
-use Rattle.run_texts.proofs.Reported.{reported}
+use Rattle.report_texts.specs.Answers.{IsCertifiedBy}
+use Rattle.report_texts.specs.Texts.{file_order_levels}
+use Rattle.report_texts.proofs.Certified.{certified_if_asked}
+use Rattle.report_texts.proofs.Reported.{reported}
 use Rattle.report.proofs.answers.answer_texts.Goals as goal
 
 pub returns-clause-report : goal.returns-clause-report

@@ -1,5 +1,5 @@
 use Rattle.std.proofs.Common.{sym, ap, ◌∙◌}
-use Rattle.definitions.specs.declared.nodes.Ref.TheVariants.{Terminal}
+use Rattle.definitions.specs.declared.refs.Ref.TheVariants.{Terminal}
 use Rattle.sifting.specs.Cuts.{code_of}
 use Rattle.sifting.proofs.build.code.Goals as goal
 

@@ -1,5 +1,5 @@
 use Rattle.std.proofs.Common.{◌≡◌, ◌+◌, ◌++◌, ◌∷◌, [], length, map, sym, ap, subst, ◌∙◌, arith, get_or, false}
-use Rattle.definitions.specs.declared.nodes.Ref.TheVariants.{Terminal}
+use Rattle.definitions.specs.declared.refs.Ref.TheVariants.{Terminal}
 use Rattle.sifting.specs.LevelLists.{nodes_of}
 use Rattle.sifting.specs.Cuts.{is_true, Splits, IsBuilt}
 use Rattle.sifting.proofs.Cutting.{ref_default}

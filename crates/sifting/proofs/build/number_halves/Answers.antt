@@ -1,6 +1,6 @@
 use Rattle.std.proofs.Common.{ℕ, Bool, false, true, length, sym, ap, subst, ◌∙◌, arith, nat_eq}
-use Rattle.definitions.specs.declared.nodes.Ref.{Ref}
-use Rattle.definitions.specs.declared.nodes.Ref.TheVariants.{Terminal}
+use Rattle.definitions.specs.declared.refs.Ref.{Ref}
+use Rattle.definitions.specs.declared.refs.Ref.TheVariants.{Terminal}
 use Rattle.definitions.specs.Diagrams.{IsBefore}
 use Rattle.definitions.proofs.Nodes.Paths.{before_more}
 use Rattle.sifting.specs.Cuts.{code_of, split_ref, ref_at}

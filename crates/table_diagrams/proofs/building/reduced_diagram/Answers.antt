@@ -1,5 +1,5 @@
 use Rattle.std.proofs.Common.{◌-◌, ℕ, List, take, get_or, map, sym, ap, ◌∙◌, subst, arith}
-use Rattle.definitions.specs.declared.nodes.Node.{Node}
+use Rattle.definitions.specs.declared.refs.Node.{Node}
 use Rattle.definitions.specs.Levels.{reach}
 use Rattle.definitions.specs.Orders.{IsOrder}
 use Rattle.definitions.specs.Problems.{functions, outputs_of}

@@ -1,5 +1,5 @@
 use Rattle.std.proofs.Common.{◌≡◌, ◌∷◌, ◌++◌, [], List, cond, sym, ap, ◌∙◌}
-use Rattle.definitions.specs.declared.nodes.Node.{Node}
+use Rattle.definitions.specs.declared.refs.Node.{Node}
 use Rattle.table_diagrams.specs.Levels.{node_over}
 use Rattle.table_diagrams.proofs.LevelSteps.{ref_found}
 use Rattle.table_diagrams.proofs.levels.number_over.Goals as goal

@@ -1,0 +1,200 @@
+//! The texts that the programs write, each made whole before its first byte goes out.
+
+ghost use Rattle.std.specs.Prelude.{◌≡◌, ◌<◌, ◌≤◌, ◌++◌, length, map, string_bytes, IfOk, OnOk};
+ghost use Rattle.std.specs.List.{All};
+ghost use Rattle.certificate.specs.Values.{each_spaced};
+ghost use Rattle.report_texts.specs.Texts.{each_name_spaced, sizes_lines};
+ghost use Rattle.outcomes.specs.Texts.{name_of, names_in, numbers as spaced, counts_lines, order_lines};
+
+use order_model::{VarIx, total};
+use std::alloc::{AllocError, Global};
+use std::fmt::Write;
+
+/// The longest text but for names: 48 numbers of at most 10 digits and the labels.
+const LONGEST: usize = 1024;
+
+/// Appends numbers, each after a space.
+fn push_spaced(text: &mut String, numbers: &[u32]) -> Result<(), AllocError>
+    ensures { OnOk result
+        (string_bytes text.new ≡ string_bytes text.old ++ each_spaced numbers.now) }
+{
+    for number in numbers {
+        write!(text, " {number}")?;
+    }
+    Ok(())
+}
+
+/// Appends numbers with one space between each two.
+fn push_numbers(text: &mut String, numbers: &[u32]) -> Result<(), AllocError>
+    ensures { OnOk result (string_bytes text.new ≡ string_bytes text.old ++ spaced numbers.now) }
+{
+    let Some((first, rest)) = numbers.split_first() else {
+        return Ok(());
+    };
+    write!(text, "{first}")?;
+    push_spaced(text, rest)?;
+    Ok(())
+}
+
+/// Appends variables, each after a space.
+fn push_spaced_variables(text: &mut String, variables: &[VarIx]) -> Result<(), AllocError>
+    ensures { OnOk result
+        (string_bytes text.new ≡ string_bytes text.old ++ each_spaced variables.now) }
+{
+    for variable in variables {
+        write!(text, " {variable}")?;
+    }
+    Ok(())
+}
+
+/// Appends variables with one space between each two.
+fn push_variables(text: &mut String, variables: &[VarIx]) -> Result<(), AllocError>
+    ensures { OnOk result (string_bytes text.new ≡ string_bytes text.old ++ spaced variables.now) }
+{
+    let Some((first, rest)) = variables.split_first() else {
+        return Ok(());
+    };
+    write!(text, "{first}")?;
+    push_spaced_variables(text, rest)?;
+    Ok(())
+}
+
+/// Appends the name of a variable.
+fn push_name(text: &mut String, names: &[String], variable: VarIx) -> Result<(), AllocError>
+    requires { variable < length names.now }
+    ensures { OnOk result
+        (string_bytes text.new ≡ string_bytes text.old
+        ++ name_of (map string_bytes names.now) variable) }
+{
+    text.push_str(names[variable as usize].as_str())?;
+    Ok(())
+}
+
+/// Appends the names of variables, each after a space.
+fn push_spaced_names(
+    text: &mut String,
+    names: &[String],
+    variables: &[VarIx],
+) -> Result<(), AllocError>
+    requires { All (λ x. x < length names.now) variables.now }
+    ensures { OnOk result
+        (string_bytes text.new ≡ string_bytes text.old
+        ++ each_name_spaced (map string_bytes names.now) variables.now) }
+{
+    for variable in variables {
+        text.push(' ')?;
+        push_name(text, names, *variable)?;
+    }
+    Ok(())
+}
+
+/// Appends the names of variables with one space between each two.
+fn push_names(text: &mut String, names: &[String], variables: &[VarIx]) -> Result<(), AllocError>
+    requires { All (λ x. x < length names.now) variables.now }
+    ensures { OnOk result
+        (string_bytes text.new ≡ string_bytes text.old
+        ++ names_in (map string_bytes names.now) variables.now) }
+{
+    let Some((first, rest)) = variables.split_first() else {
+        return Ok(());
+    };
+    push_name(text, names, *first)?;
+    push_spaced_names(text, names, rest)?;
+    Ok(())
+}
+
+/// Appends the two lines of an order and its names.
+fn push_order(text: &mut String, names: &[String], order: &[VarIx]) -> Result<(), AllocError>
+    requires { All (λ x. x < length names.now) order.now }
+    ensures { OnOk result
+        (string_bytes text.new ≡ string_bytes text.old
+        ++ order_lines (map string_bytes names.now) order.now) }
+{
+    text.push_str("order: ")?;
+    push_variables(text, order)?;
+    text.push_str("\nnames: ")?;
+    push_names(text, names, order)?;
+    text.push_str("\n")?;
+    Ok(())
+}
+
+/// Appends the two lines of level counts, top first, and their sum.
+fn push_counts(text: &mut String, levels: &[u32]) -> Result<(), AllocError>
+    requires { length levels.now ≤ 16 }
+    ensures { OnOk result
+        (string_bytes text.new ≡ string_bytes text.old ++ counts_lines levels.now) }
+{
+    let nodes = total(levels);
+    text.push_str("levels: ")?;
+    push_numbers(text, levels)?;
+    write!(text, "\nnodes: {nodes}\n")?;
+    Ok(())
+}
+
+/// What the seven lines of a report say.
+#[derive(Drop)]
+pub struct Report<'a> {
+    pub names: &'a [String],
+    pub order: &'a [VarIx],
+    pub levels: &'a [u32],
+    pub sifted: &'a [VarIx],
+    pub sifted_size: u32,
+    pub file_size: u64,
+}
+
+/// Appends the three lines of the sifted order, its size and the size under the file order.
+fn push_sizes(text: &mut String, report: &Report<'_>) -> Result<(), AllocError>
+    ensures { OnOk result
+        (string_bytes text.new ≡ string_bytes text.old
+        ++ sizes_lines report.now.sifted.now report.now.sifted_size report.now.file_size) }
+{
+    let Report {
+        sifted,
+        sifted_size,
+        file_size,
+        ..
+    } = report;
+    text.push_str("sifted order: ")?;
+    push_variables(text, sifted)?;
+    write!(
+        text,
+        "\nsifted nodes: {sifted_size}\nfile order nodes: {file_size}\n"
+    )?;
+    Ok(())
+}
+
+/// The two lines of a count: the level counts, top first, and their sum.
+pub(crate) fn count_text(alloc: Global, levels: &[u32]) -> Result<String, AllocError>
+    requires { length levels.now ≤ 16 }
+    ensures { IfOk result (λ text. string_bytes text ≡ counts_lines levels.now) }
+{
+    let mut text = String::with_capacity(alloc, LONGEST)?;
+    push_counts(&mut text, levels)?;
+    Ok(text)
+}
+
+/// The names' bytes together, each with one more.
+fn names_room(names: &[String]) -> usize {
+    let mut room: usize = 0;
+    for name in names {
+        room = room.saturating_add(name.len()).saturating_add(1);
+    }
+    room
+}
+
+/// The seven lines of a report, whose storage is reserved before its first byte is made.
+pub fn report_text(alloc: Global, report: &Report<'_>) -> Result<String, AllocError>
+    requires order { All (λ x. x < length report.now.names.now) report.now.order.now }
+    requires levels { length report.now.levels.now ≤ 16 }
+    ensures { IfOk result (λ text. string_bytes text
+        ≡ order_lines (map string_bytes report.now.names.now) report.now.order.now
+        ++ counts_lines report.now.levels.now
+        ++ sizes_lines report.now.sifted.now report.now.sifted_size report.now.file_size) }
+{
+    let room = names_room(report.names).saturating_add(LONGEST);
+    let mut text = String::with_capacity(alloc, room)?;
+    push_order(&mut text, report.names, report.order)?;
+    push_counts(&mut text, report.levels)?;
+    push_sizes(&mut text, report)?;
+    Ok(text)
+}
