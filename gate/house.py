@@ -15,6 +15,8 @@ FUNCTION = re.compile(r"^\s*(pub(\([a-z]+\))? )?(const )?(unsafe )?(extern \"C\"
 
 # values by computation, which the prover checks and nothing cites
 WORKED = "Worked"
+# crates of definitions and laws, with little code
+THEORY = ("definitions", "symmetries", "subfunction_classes", "node_words", "round_trip")
 
 
 def listed():
@@ -133,25 +135,30 @@ def wide_lines():
                 yield f"{os.path.relpath(path, TOP)}:{number}"
 
 
-def say(what, places, is_told):
+def say_lines(what, among):
+    proofs, rust = (
+        sum(len(lines_of(path)) for crate in among for path in files(f"{TOP}/crates/{crate}", end)) for end in (".antt", ".rt"))
+    print(f"{what}: {proofs} to {rust}, {proofs / rust:.2f}")
+
+
+def say(what, places, is_named):
     print(f"{what}: {len(places)}")
-    if is_told:
+    if is_named:
         print(*(f"    {it}" for it in places), sep="\n")
 
 
-def main(is_told):
+def main(is_named):
     all_functions = list(functions())
     long = sorted((lines, place) for place, _, lines in all_functions if lines >= LONG_CONTRACT)
     many = sorted((count, place) for place, count, _ in all_functions if count >= MANY_PARAMETERS)
     contracts = f"contracts of {LONG_CONTRACT} lines or more, of {len(all_functions)} functions"
-    say(contracts, [f"{lines} {place}" for lines, place in reversed(long)], is_told)
-    say(f"functions of {MANY_PARAMETERS} parameters or more", [f"{count} {place}" for count, place in reversed(many)], is_told)
-    say(f"equal windows of {WINDOW} lines of code in two crates", windows(), is_told)
-    proofs = sum(len(lines_of(path)) for crate in crates() for path in files(f"{TOP}/crates/{crate}", ".antt"))
-    rust = sum(len(lines_of(path)) for crate in crates() for path in files(f"{TOP}/crates/{crate}", ".rt"))
-    print(f"lines of .antt to lines of .rt: {proofs} to {rust}, {proofs / rust:.2f}")
-    say("lines of crates.txt and files of lemmas that nothing uses", list(unused()), is_told)
-    say(f"comments over {COMMENT_COLUMNS} columns, and Python lines over {PYTHON_COLUMNS}", list(wide_lines()), is_told)
+    say(contracts, [f"{lines} {place}" for lines, place in reversed(long)], is_named)
+    say(f"functions of {MANY_PARAMETERS} parameters or more", [f"{count} {place}" for count, place in reversed(many)], is_named)
+    say(f"equal windows of {WINDOW} lines of code in two crates", windows(), is_named)
+    say_lines("lines of .antt to lines of .rt", [it for it in crates() if it not in THEORY])
+    say_lines(f"the same of the crates of definitions and laws ({', '.join(THEORY)})", THEORY)
+    say("lines of crates.txt and files of lemmas that nothing uses", list(unused()), is_named)
+    say(f"comments over {COMMENT_COLUMNS} columns, and Python lines over {PYTHON_COLUMNS}", list(wide_lines()), is_named)
 
 
 if __name__ == "__main__":

@@ -31,8 +31,8 @@ fn lower_masks(
     Ok(labels)
 }
 
-/// Whether the lower classes show, for each variable, that as many distinct pairs as are needed have
-/// it in their masks.
+/// Whether the lower classes show, for each variable, that as many distinct pairs as are needed
+/// have it in their masks.
 pub(crate) fn are_wide(
     alloc: Global,
     numbers: &[u32],

@@ -148,8 +148,8 @@ fn first_occurrences(
     }
 }
 
-/// Finds the first pair equal to each pair, by chains and marks in rows that are lent, whatever they
-/// hold. All classes are below the length of `heads`.
+/// Finds the first pair equal to each pair, by chains and marks in rows that are lent, whatever
+/// they hold. All classes are below the length of `heads`.
 pub fn first_pairs(
     entries: &EntryPairs<'_>,
     heads: &mut [u32],
