@@ -3,20 +3,18 @@
 
 In the repository:
 make_examples.py              writes them here, and gives the worked cases copies of all files, reports and certificates here
-make_examples.py --reports    the same, after the reports and certificates here are made anew by the program at the top
-make_examples.py --check      writes nothing: the rules, the program and the copies are to give what lies here
+make_examples.py --reports    the same, after the program at the top has made anew the reports and certificates here and the whole
+                              reports of worked cases and pages
+make_examples.py --check      writes nothing: the rules, the program and the copies are to give what stands there
 
-Status 1 if a check fails, 2 if the words are refused or a file can't be written."""
-import filecmp
+MINORDER_PROGRAM is the program, if another one is to be taken. Status 1 if a check or the program fails, 2 if the words are
+refused or a file can't be written."""
 import os
-import shutil
-import subprocess
 import sys
 import tempfile
 from itertools import product
 
 HERE = os.path.dirname(os.path.abspath(__file__))
-COPIES = "../crates/worked_cases/data/examples"
 
 
 def refuse(message):
@@ -123,53 +121,20 @@ def write_files(folder):
         refuse(f"{error.filename}: {error.strerror}")
 
 
-def write_reports(folder):
-    """Writes to a folder the reports and certificates that lie here."""
-    for name in sorted(it.removesuffix(".pla") for it in os.listdir() if it.endswith(".pla")):
-        certificate = ["--cert", f"{folder}/{name}.cert"] if os.path.exists(f"{name}.cert") else []
-        with open(f"{folder}/{name}.report", "w") as report:
-            status = subprocess.run(["../minorder", *certificate, f"{name}.pla"], stdout=report).returncode
-        if status:
-            sys.exit(f"make_examples.py: minorder ends with status {status} on {name}.pla")
-
-
-def copied():
-    return [it for it in sorted(os.listdir()) if it.endswith((".pla", ".report", ".cert"))]
-
-
-def copy_to_worked_cases():
-    for name in copied():
-        shutil.copy(name, COPIES)
-
-
-def is_same(one, other):
-    """Whether both files are there and hold the same."""
-    return os.path.exists(one) and os.path.exists(other) and filecmp.cmp(one, other, False)
-
-
-def check():
-    """The first file that differs from what its rule or the program writes, or from its copy."""
-    with tempfile.TemporaryDirectory() as made:
-        write_files(made)
-        write_reports(made)
-        for folder in (made, COPIES):
-            others = copied() if folder == COPIES else sorted(os.listdir(made))
-            wrong = [it for it in others if not is_same(it, f"{folder}/{it}")]
-            if wrong:
-                sys.exit(f"{wrong[0]} is another in {folder}")
-
-
 def in_repository(words):
-    os.chdir(HERE)
-    if not os.path.isdir(COPIES):
+    if not os.path.isdir(f"{HERE}/../crates/worked_cases"):
         refuse("which FOLDER? Without one it writes in the repository alone")
+    import reports  # isn't installed
     if words == ["--check"]:
-        check()
+        with tempfile.TemporaryDirectory() as made:
+            write_files(made)
+            reports.check(made)
         return
-    write_files(".")
+    write_files(HERE)
     if words:
-        write_reports(".")
-    copy_to_worked_cases()
+        reports.write_reports(HERE)
+        reports.write_texts()
+    reports.copy_to_worked_cases()
 
 
 def main(words):

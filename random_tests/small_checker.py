@@ -19,6 +19,7 @@ from functools import partial
 
 import plain
 import random_texts
+from worked_cases import Case, blocks_of
 
 HERE = os.path.dirname(os.path.abspath(__file__))
 DATA = f"{HERE}/../crates/worked_cases/data"
@@ -36,31 +37,6 @@ def read(path):
 def write(path, content):
     with open(path, "wb") as file:
         file.write(content)
-
-
-class Case:
-    """The calls of ordercheck and the files of a worked case; crates/worked_cases/data/README.md has the format."""
-
-    def __init__(self, block):
-        self.calls, self.files, self.lengths, text = [], {}, None, bytearray()
-        for line in block.split("\n")[1:]:
-            word, _, rest = line.partition(" ")
-            if line[:1] in ("|", "+"):
-                text += line[1:].encode() + b"\n" * (line[0] == "|")
-            elif word == "bytes":
-                text += bytes.fromhex(rest)
-            elif word == "fill":
-                text += b"x" * (int(rest) - len(text))
-            elif word == "from":
-                text += read(rest)
-            elif word == "file":
-                text = self.files[rest] = bytearray()
-            elif word == "lengths":
-                self.lengths = range(int(rest.split()[0]), int(rest.split()[1]) + 1)
-            elif word == "call" and rest.split(" ")[0] == "ordercheck":
-                self.calls.append(rest.split(" ")[1:])
-            elif word in ("output", "errors", "after"):
-                text = bytearray()
 
 
 class Comparison:
@@ -90,14 +66,14 @@ class Comparison:
         return ran.returncode, ran.stdout, ran.stderr.replace("check.py: ", "", 1)
 
     def worked(self, path):
-        for block in re.split(r"^case ", read(path).decode(), flags=re.MULTILINE)[1:]:
-            case = Case(block)
+        for case in map(Case, blocks_of(read(path).decode())[1:]):
+            calls, files = [words for program, *words in case.calls if program == "ordercheck"], case.files(".")
             for length in case.lengths or [None]:
-                for name, content in case.files.items():
+                for name, content in files.items():
                     write(name, content[:length])
-                for words in case.calls:
+                for words in calls:
                     self.call(words)
-            for name in case.files:
+            for name in files:
                 os.remove(name)
 
     def damaged(self, count, seed):
