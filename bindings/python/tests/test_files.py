@@ -9,6 +9,7 @@ import os
 import pathlib
 import pickle
 import random
+import re
 import sys
 import tempfile
 import unittest
@@ -102,10 +103,13 @@ class Pla(unittest.TestCase):
 
 class Reports(unittest.TestCase):
     def test_parts(self):
-        with open(f"{TOP}/examples/mux2.report") as file:
-            found = files.parts_of(file.read())
-        self.assertEqual((found["order"], found["nodes"], found["file order nodes"]), ("2 0 1", "3", "5"))
-        self.assertEqual(len(found), 7)
+        reports = sorted(pathlib.Path(TOP, "examples").glob("*.report"))
+        self.assertGreater(len(reports), 10)
+        for path in reports:
+            text = path.read_text()
+            found = files.parts_of(text)
+            self.assertEqual(list(found.items()), re.findall("^([^:]+): (.+)$", text, re.MULTILINE))
+            self.assertEqual(len(found), text.count("\n"))
 
 
 class Values(unittest.TestCase):

@@ -1,4 +1,4 @@
-"""Worked cases, each refusal, random functions beside the program's reports, several threads.
+"""Worked cases, each refusal, random functions beside the program and random_tests/plain.py, several threads.
 
     python3 -m unittest discover -s bindings/python/tests
 
@@ -15,11 +15,12 @@ import unittest
 
 HERE = os.path.dirname(os.path.abspath(__file__))
 TOP = os.path.dirname(os.path.dirname(os.path.dirname(HERE)))
-sys.path.insert(0, os.path.dirname(HERE))
+sys.path[:0] = [os.path.dirname(HERE), f"{TOP}/random_tests"]
+
+import plain  # noqa: E402
 
 import minorder  # noqa: E402
 from minorder import _calls, _library  # noqa: E402
-from minorder.files import parts_of  # noqa: E402
 
 PROGRAM = os.environ.get("MINORDER_PROGRAM", f"{TOP}/minorder")
 COUNT = int(os.environ.get("MINORDER_COUNT", "200"))
@@ -85,11 +86,10 @@ class Folder(unittest.TestCase):
         self.path = f"{folder.name}/it"
 
     def report(self, inputs, tables, *words):
-        """What the program reports of functions, by the names of the lines."""
+        """What the program reports of functions."""
         with open(f"{self.path}.pla", "w") as file:
             file.write(pla(inputs, tables))
-        found = subprocess.run([PROGRAM, *words, f"{self.path}.pla"], stdout=subprocess.PIPE, text=True, check=True).stdout
-        return parts_of(found)
+        return subprocess.run([PROGRAM, *words, f"{self.path}.pla"], stdout=subprocess.PIPE, text=True, check=True).stdout
 
 
 class WorkedCases(Folder):
@@ -291,19 +291,18 @@ class BesideTheProgram(Folder):
             words = ["--above", ":".join(f"{a},{b}" for a, b in pairs)] if pairs else []
             report = self.report(inputs, tables, "--cert", f"{self.path}.cert", *words)
             with self.subTest(number=number, inputs=inputs, tables=tables, pairs=pairs):
-                found = minorder.exact(tables, inputs, pairs)
-                self.assertEqual(report["order"], " ".join(map(str, found.order)))
-                self.assertEqual(report["levels"], " ".join(map(str, found.levels)))
-                self.assertEqual(report["nodes"], str(found.total))
-                self.assertEqual(found.levels, widths(tables, found.order))
-                self.assertEqual(report["file order nodes"], str(sum(minorder.levels(tables, range(inputs)))))
-                if not pairs:
-                    sifted = minorder.sift(tables, range(inputs))
-                    self.assertEqual(report["sifted order"], " ".join(map(str, sifted.order)))
-                    self.assertEqual(report["sifted nodes"], str(sifted.total))
-                    self.assertEqual(sifted.levels, widths(tables, sifted.order))
+                cover = plain.cover_of(pla(inputs, tables).encode())
+                functions = plain.Functions(cover)
+                self.assertEqual(report, plain.report(cover, functions, tuple(pairs)))
+                self.agrees(minorder.exact(tables, inputs, pairs), functions, functions.best(tuple(pairs)))
+                self.agrees(minorder.sift(tables, range(inputs)), functions, functions.sifted(()))
+                self.assertEqual(minorder.levels(tables, range(inputs)), tuple(functions.levels(range(inputs))))
                 with open(f"{self.path}.cert") as file:
                     self.assertTrue(minorder.check(tables, file.read()))
+
+    def agrees(self, found, functions, order):
+        """A call's result has an order, and the level counts and the size that both definitions give."""
+        self.assertEqual(found, (tuple(order), widths(functions.tables, order), functions.size(order)))
 
 
 class Threads(unittest.TestCase):
