@@ -1,4 +1,6 @@
-use Rattle.std.proofs.Common.{◌≡◌, ◌+◌, ◌*◌, ◌^◌, ◌<◌, length, sym, subst, ◌∙◌, arith}
+use Rattle.std.proofs.Common.{◌≡◌, ℕ, ◌+◌, ◌*◌, ◌^◌, ◌<◌, List, length, sym, subst, ◌∙◌, arith}
+use Rattle.subfunction_classes.specs.Places as places
+use Rattle.subfunction_classes.proofs.Index.{length-pairs}
 use Rattle.pair_numbering.proofs.InBlocks.{in_step, place_is, step_is}
 use Rattle.pair_numbering.proofs.CellSteps.{fronted_block, pair_classes, place_inside, cell_inside, fronted_new, fronted_again}
 use Rattle.pair_numbering.proofs.cells.number_block_evenly.Goals as goal
@@ -34,6 +36,43 @@ bounds-out-block c =
     let w = in_step c.requires.table.paired c.rank.ensures.rank c.requires.block c.loop-i-test.true in
     let k = place_inside c.requires.table c.loop-i.invariant.fronted w (c.block.ensures.pairs c.loop-i.i w.early) in
     subst (λ z. z < length c.loop-i.out) (sym (place_is c.requires.table.paired c.args.block c.loop-i.i c.rank.ensures.rank)) k
+
+-- a place among the pairs is small
+place_small : (cs : List ℕ) (step n place : ℕ) → place < n → n ≡ length (places.pairs cs step) → length cs < 2 ^ 32 → place < 2 ^ 31
+place_small cs step n place l e f = omega (arith, length-pairs cs step)
+
+pub overflow_mul-out : goal.overflow_mul-out
+overflow_mul-out c =
+    let w = place_small _ _ _ _ (bounds-out-block c) c.loop-i.invariant.fronted.celled.made.long c.requires.table.paired.short in
+    omega arith
+
+pub overflow_add-out : goal.overflow_add-out
+overflow_add-out c =
+    let w = place_small _ _ _ _ (bounds-out-block c) c.loop-i.invariant.fronted.celled.made.long c.requires.table.paired.short in
+    omega arith
+
+pub offset_bounds-out-block : goal.offset_bounds-out-block
+offset_bounds-out-block c =
+    let w = place_small _ _ _ _ (bounds-out-block c) c.loop-i.invariant.fronted.celled.made.long c.requires.table.paired.short in
+    omega arith
+
+pub bounds-joined-count : goal.bounds-joined-count
+bounds-joined-count c =
+    let w = in_step c.requires.table.paired c.rank.ensures.rank c.requires.block c.loop-i-test.true in
+    let k = place_inside c.requires.table c.loop-i.invariant.fronted w (c.block.ensures.pairs c.loop-i.i w.early) in
+    let few = c.loop-i.invariant.fronted.few in
+    let long = c.loop-i.invariant.fronted.long in
+    let made = c.loop-i.invariant.fronted.celled.made.long in
+    let p = length-pairs c.args.pairs.now.entries.now.numbers (2 ^ c.args.pairs.now.entries.now.rank) in
+    omega arith
+
+pub overflow_add-count : goal.overflow_add-count
+overflow_add-count c =
+    let w = in_step c.requires.table.paired c.rank.ensures.rank c.requires.block c.loop-i-test.true in
+    let early = w.early in
+    let few = c.loop-i.invariant.few in
+    let room = c.requires.room in
+    omega arith
 
 pub loop-i-preserved : goal.loop-i-preserved
 loop-i-preserved c =

@@ -1,4 +1,5 @@
-use Rattle.std.proofs.Common.{ℕ, ◌*◌, ◌^◌, length, ap, ◌∙◌, arith}
+use Rattle.std.proofs.Common.{◌≡◌, ℕ, ◌*◌, ◌^◌, ◌++◌, length, take, drop, ap, ◌∙◌, arith}
+use Rattle.std.proofs.Math.Seq.{take-append_seam}
 use Rattle.std.proofs.lemmas.List.{length-replicate}
 use Rattle.subfunction_classes.specs.Places.{pairs}
 use Rattle.subfunction_classes.proofs.Index.{length-pairs}
@@ -28,3 +29,9 @@ loop-block-init c =
       counted = counted_none (pairs c.args.entries.now.numbers (2 ^ c.args.entries.now.rank)) c.in_ok-counts.counts.items
           (0 * 2 ^ c.args.entries.now.rank) (omega arith);
     }
+
+pub loop-block-preserved : goal.loop-block-preserved
+loop-block-preserved c =
+    let new = c.count_block.new.counts in
+    let e : take c.loop-block.counts.len (new ++ drop (length new) c.loop-block.counts.items) ≡ new = grind (arith, take-append_seam) in
+    rw e (record { long = grind arith; counted = c.count_block.ensures.counted })

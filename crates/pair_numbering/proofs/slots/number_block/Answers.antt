@@ -117,3 +117,28 @@ loop-i-preserved c =
 
 pub returns : goal.returns
 returns c = grind (arith, step_is, block_next)
+
+-- a place among the pairs is small
+place_small : (cs : List ℕ) (step n place : ℕ) → place < n → n ≡ length (places.pairs cs step) → length cs ≤ 2 ^ 16 → place < 2 ^ 16
+place_small cs step n place l e f = omega (arith, length-pairs cs step)
+
+pub overflow_mul-out : goal.overflow_mul-out
+overflow_mul-out c =
+    let w = place_small _ _ _ _ (bounds-out-block c) c.loop-i.invariant.made.long c.requires.few in
+    omega arith
+
+pub overflow_add-out : goal.overflow_add-out
+overflow_add-out c =
+    let w = place_small _ _ _ _ (bounds-out-block c) c.loop-i.invariant.made.long c.requires.few in
+    omega arith
+
+pub offset_bounds-out-block : goal.offset_bounds-out-block
+offset_bounds-out-block c =
+    let w = place_small _ _ _ _ (bounds-out-block c) c.loop-i.invariant.made.long c.requires.few in
+    omega arith
+
+pub overflow_add-count : goal.overflow_add-count
+overflow_add-count c =
+    let s = in_step c.rank.ensures.paired c.rank.ensures.rank c.requires.block c.loop-i-test.true in
+    let w = place_small _ _ _ _ (count_inside c.loop-i.invariant (listed_inside c.rank.ensures.paired s)) c.loop-i.invariant.long_keys c.requires.few in
+    omega arith
