@@ -40,36 +40,6 @@ fn number_seats(alloc: Global, board: &Board, seats: Vec<BoardSeat>) -> Result<V
     Ok(jobs)
 }
 
-/// Does the jobs by threads of their own.
-fn do_jobs<'a, R: Threads + Sync, G: Gate>(
-    crew: &Crew<'_, R, G>,
-    alloc: Global,
-    board: &Board,
-    jobs: Vec<Job>,
-    context: &LayerContext<'a>,
-) -> Result<Vec<Result<WorkerResult<'a>, AllocError>>, AllocError>
-    requires seats { All (λ j. j.seat.board ≡ board.now) jobs.items }
-    requires instance { board.now.brief.instance ≡ context.now.instance }
-    requires layer { board.now.brief.layer ≡ context.now.layer }
-    ensures count { IfOk result (λ v. vec_len v ≡ vec_len jobs) }
-    ensures seats { IfOk result (λ v. All (λ r. IfOk r (λ e. e.seat.board ≡ board.now)) v.items) }
-{
-    let gate = crew.gate;
-    thread::map_vec(
-        crew.rt,
-        jobs,
-        &|job: Job| -> Result<WorkerResult<'_>, AllocError>
-            requires { IsSync G.row × (job.seat.board ≡ board.now)
-                × (board.now.brief.instance ≡ context.now.instance)
-                × (board.now.brief.layer ≡ context.now.layer) }
-            ensures { IfOk result (λ e. e.seat.board ≡ board.entry.now) }
-        {
-            let Job { worker, seat } = job;
-            work_layer(alloc, board, seat, worker, context, gate)
-        },
-    )
-}
-
 /// A seat of the workers, if none of them ran out of memory. What they found ahead goes to `found`.
 fn gather(
     board: &Board,
@@ -96,8 +66,8 @@ fn gather(
     Ok(seat)
 }
 
-/// Posts the cells of a layer by workers, and hands back a seat of theirs. What they find ahead
-/// goes to `found`.
+/// Posts the cells of a layer by workers, each on a thread of its own, and returns a seat of
+/// theirs. What they find ahead goes to `found`.
 fn post_by_workers<R: Threads + Sync, G: Gate>(
     crew: &Crew<'_, R, G>,
     alloc: Global,
@@ -115,8 +85,21 @@ fn post_by_workers<R: Threads + Sync, G: Gate>(
     ensures seat { IfOk result (λ s. s.board ≡ board.now) }
     ensures found { OnOk result (found.new.problem ≡ found.old.problem) }
 {
+    let gate = crew.gate;
     let jobs = number_seats(alloc, board, seats)?;
-    let ended = do_jobs(crew, alloc, board, jobs, context)?;
+    let ended = thread::map_vec(
+        crew.rt,
+        jobs,
+        &|job: Job| -> Result<WorkerResult<'_>, AllocError>
+            requires { IsSync G.row × (job.seat.board ≡ board.now)
+                × (board.now.brief.instance ≡ context.now.instance)
+                × (board.now.brief.layer ≡ context.now.layer) }
+            ensures { IfOk result (λ e. e.seat.board ≡ board.entry.now) }
+        {
+            let Job { worker, seat } = job;
+            work_layer(alloc, board, seat, worker, context, gate)
+        },
+    )?;
     gather(board, ended, found)
 }
 
