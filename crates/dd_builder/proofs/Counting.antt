@@ -1,12 +1,9 @@
 -- Counting: numbers that are given once each, and pairs of numbers.
-use Rattle.std.proofs.Common.{◌≡◌, ◌≢◌, ℕ, zero, suc, ◌+◌, ◌-◌, ◌*◌, ◌<◌, ◌≤◌, ◌⊎◌, cond, nat_lt, if◌then◌else◌, sym, ap, ◌∙◌, ⊎_elim, arith, eqb, eq-eqb, ne_eqb, add-mul, one-mul, mul-le-mul_right, lt-ltb, le-ltb}
+use Rattle.std.proofs.Common.{◌≡◌, ◌≢◌, ℕ, zero, suc, ◌+◌, ◌-◌, ◌*◌, ◌<◌, ◌≤◌, cond, nat_lt, if◌then◌else◌, sym, ap, ◌∙◌, ⊎_elim, arith, eqb, eq-eqb, ne_eqb, add-mul, one-mul, mul-le-mul_right, lt-ltb, le-ltb}
 use mathlib.Core.Logic.{dite}
 use native.Mathlib.Decide.{ℕ_discrete}
-use Rattle.std.proofs.lemmas.Bool.{cases_lt}
+use Rattle.std.proofs.lemmas.Bool.{cases_lt, cases_order}
 use Rattle.node_words.proofs.Meaning.{choose_n, refuse_n}
-
-pub three : (a b : ℕ) → (a < b) ⊎ ((a ≡ b) ⊎ (b < a))
-three a b = grind arith
 
 -- v in place of b
 abbrev moved : ℕ → ℕ → ℕ → ℕ
@@ -62,11 +59,11 @@ rest_bigger d a c a' c' small less e = grind (arith, mul-le-mul_right, add-mul, 
 
 pub parts_same : (d a c a' c' : ℕ) → c < d → c' < d → a * d + c ≡ a' * d + c' → (a ≡ a') × (c ≡ c')
 parts_same d a c a' c' small small' e = ⊎_elim
-    (λ (less : a < a'). absurd (rest_bigger d a c a' c' small less e))
-    (⊎_elim
     (λ (same : a ≡ a'). (same, (let m = ap (λ z. z * d) same in omega (arith, m, e))))
+    (⊎_elim
+    (λ (less : a < a'). absurd (rest_bigger d a c a' c' small less e))
     (λ (less : a' < a). absurd (rest_bigger d a' c' a c small' less (sym e))))
-    (three a a')
+    (cases_order a a')
 
 pub parts_small : (d m a c : ℕ) → a < m → c < d → a * d + c < m * d
 parts_small d m a c less small = grind (arith, mul-le-mul_right, add-mul, one-mul)

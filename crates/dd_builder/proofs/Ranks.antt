@@ -4,7 +4,7 @@ use Rattle.std.proofs.Common.{◌≡◌, ◌≢◌, ℕ, zero, suc, ◌+◌, ◌
 use Rattle.std.specs.Int.{bit_at}
 use Rattle.std.specs.List.{filter, take_while}
 use Rattle.std.specs.Set.{is_member, unique_keys, distinct_count}
-use Rattle.std.proofs.lemmas.Bool.{cases_lt, cases_Bool, false≢true, true≢false, false_from_ne_true}
+use Rattle.std.proofs.lemmas.Bool.{cases_lt, cases_Bool, false≢true, true≢false, false_from_ne_true, cases_order}
 use Rattle.std.proofs.lemmas.List.{length-set, length-take, length-replicate, get_or-set_same, get_or-set_other, set-get_or}
 use Rattle.std.proofs.lemmas.List.FromFn.{get_or-map-range_with_len}
 use Rattle.definitions.specs.Functions.{Point, Function, bit, from_table, restrict, SameFunction, table, depends, same_table}
@@ -22,7 +22,7 @@ use Rattle.node_words.proofs.Meaning.{depth_node, no_higher}
 use Rattle.node_words.proofs.Functions.{point_along, length-point_along, value_at, same_ids}
 use Rattle.unique_table.specs.Plans.{output_at}
 use Rattle.dd_builder.specs.Subfunctions.{IsSubfunction, AreSubfunctions}
-use Rattle.dd_builder.proofs.Counting.{three, at_most}
+use Rattle.dd_builder.proofs.Counting.{at_most}
 use Rattle.dd_builder.proofs.LevelBounds.{sum_below, sum_next, split_at, rest_alone}
 use Rattle.dd_builder.proofs.Restricting.{IsApart, laid, fixed_laid, length-laid, laid_apart, get_or_take}
 
@@ -110,11 +110,11 @@ rises f a (suc b) low = ⊎_elim
 -- numbers of two levels differ
 levels_same : (f : ℕ → ℕ) (i j c d : ℕ) → c < f i → d < f j → sum_below f i + c ≡ sum_below f j + d → i ≡ j
 levels_same f i j c d small small' e = ⊎_elim
-    (λ (less : i < j). let r = rises f (suc i) j less in let s = sum_next f i in absurd (omega (arith, r, s, small, e)))
-    (⊎_elim
     (λ (same : i ≡ j). same)
+    (⊎_elim
+    (λ (less : i < j). let r = rises f (suc i) j less in let s = sum_next f i in absurd (omega (arith, r, s, small, e)))
     (λ (less : j < i). let r = rises f (suc j) i less in let s = sum_next f j in absurd (omega (arith, r, s, small', e))))
-    (three i j)
+    (cases_order i j)
 
 module _ (order : List ℕ) (t : TruthTables) (ws : List ℕ) (is : IsOrder (length order) order) (nodes : AreNodeWords (length order) ws)
     (unequal : AreUnequal ws) where

@@ -1,7 +1,8 @@
 -- A list of nodes, with one more.
-use Rattle.std.proofs.Common.{◌≡◌, ◌≢◌, ℕ, ◌-◌, ◌<◌, ◌⊎◌, List, set, get_or, length-set, get_or-set_same, get_or-set_other, sym, refl, ap, ◌∙◌, subst, ⊎_elim, arith}
+use Rattle.std.proofs.Common.{◌≡◌, ◌≢◌, ℕ, ◌-◌, ◌<◌, List, set, get_or, length-set, get_or-set_same, get_or-set_other, sym, refl, ap, ◌∙◌, subst, ⊎_elim, arith}
 use mathlib.Core.Logic.{dite}
 use native.Mathlib.Decide.{ℕ_discrete}
+use Rattle.std.proofs.lemmas.Bool.{cases_order}
 use Rattle.node_words.specs.Nodes.{IsBelow, IsNode, IsReached, Grows, AreStored, level_of, low_of, high_of, probe}
 
 pub grows_refl : (xs : List ℕ) → Grows xs xs
@@ -37,21 +38,18 @@ reached_grows places xs ys w p g r = record { passed = r.passed; here = r.here; 
 pub set_grows : (xs : List ℕ) (p w : ℕ) → get_or xs p 0 ≡ 0 → Grows xs (set xs p w)
 set_grows xs p w empty q full = get_or-set_other xs p q w 0 (λ same. full (ap (λ (z : ℕ). get_or xs z 0) same ∙ empty))
 
-three : (a b : ℕ) → (a < b) ⊎ ((a ≡ b) ⊎ (b < a))
-three a b = grind arith
-
 module _ (levels places : ℕ) (ws : List ℕ) (st : AreStored levels places ws) (p w passed : ℕ) (inside : p < places)
     (empty : get_or ws p 0 ≡ 0) (some_w : w ≢ 0) (here : p ≡ probe places w passed)
     (before : (j : ℕ) → j < passed → (get_or ws (probe places w j) 0 ≢ 0) × (get_or ws (probe places w j) 0 ≢ w)) (node : IsNode levels ws w) where
   -- the word stands nowhere yet: the places before are known to hold others, and if it stood further on, this place were filled
   absent : (q : ℕ) → get_or ws q 0 ≡ w → ⊥
   absent q is = let r : IsReached places ws w q = subst (λ (z : ℕ). IsReached places ws z q) is (st.reached q (λ e. some_w (sym is ∙ e))) in
-      ⊎_elim (λ (less : r.passed < passed). (before r.passed less).1 (ap (λ (z : ℕ). get_or ws z 0) (sym r.here) ∙ is))
-      (λ (more : (r.passed ≡ passed) ⊎ (passed < r.passed)). ⊎_elim
-      (λ (same : r.passed ≡ passed). let at : q ≡ p = r.here ∙ (ap (λ (z : ℕ). probe places w z) same ∙ sym here) in
+      ⊎_elim (λ (same : r.passed ≡ passed). let at : q ≡ p = r.here ∙ (ap (λ (z : ℕ). probe places w z) same ∙ sym here) in
       some_w (sym is ∙ (ap (λ (z : ℕ). get_or ws z 0) at ∙ empty)))
-      (λ (past : passed < r.passed). r.before passed past (ap (λ (z : ℕ). get_or ws z 0) (sym here) ∙ empty)) more)
-      (three r.passed passed)
+      (⊎_elim
+      (λ (less : r.passed < passed). (before r.passed less).1 (ap (λ (z : ℕ). get_or ws z 0) (sym r.here) ∙ is))
+      (λ (past : passed < r.passed). r.before passed past (ap (λ (z : ℕ). get_or ws z 0) (sym here) ∙ empty)))
+      (cases_order r.passed passed)
 
   there : get_or (set ws p w) p 0 ≡ w
   there = get_or-set_same ws p w 0 (let e = st.size in omega arith)
