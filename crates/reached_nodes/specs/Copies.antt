@@ -1,10 +1,11 @@
 -- A diagram made of the nodes that some roots reach: each node of the diagram is the copy of a place, after the copies of its children.
 --     numbers      for each place 1 more than the place of its copy; 0 if it has none
+--     words_in, HasNodes      the words of a closed table's first places, which are those of nodes
 --     ref_of, node_of      the ref of an id, and the copy of a node's word
 --     AreCopied      the copies made so far
 --     Copies      what copying one more id does
 use Rattle.std.specs.Prelude.{◌≡◌, ◌≢◌, ℕ, zero, suc, ◌+◌, ◌-◌, ◌^◌, ◌<◌, ◌≤◌, ◌==◌, nat_lt, if◌then◌else◌, Some, List, [], ◌∷◌, length, slice_index, slice_get, take}
-use Rattle.std.specs.Slots.{slots_items}
+use Rattle.std.specs.Slots.{slots_items, slots_len, IsFull}
 use Rattle.std.proofs.Common.{Global}
 use Rattle.atomic_table.specs.declared.owned.Closed.{Closed}
 use Rattle.definitions.specs.declared.refs.Ref.{Ref}
@@ -12,12 +13,20 @@ use Rattle.definitions.specs.declared.refs.Ref.TheVariants.{Terminal, Place}
 use Rattle.definitions.specs.declared.refs.Node.{Node}
 use Rattle.definitions.specs.Functions.{Function}
 use Rattle.definitions.specs.Diagrams.{IsChild, Reached, Represents, IsReduced}
-use Rattle.node_words.specs.Nodes.{IsKnown, Grows, level_of, low_of, high_of}
+use Rattle.node_words.specs.Nodes.{IsKnown, AreNodeWords, Grows, level_of, low_of, high_of}
 use Rattle.node_words.specs.Meaning.{depth}
 
 -- the words of the first places of a closed table
 abbrev pub words_in : Closed (Unit {0}) Global → ℕ → List ℕ
 words_in closed places = take places (slots_items closed.words)
+
+-- the first places of a closed table have the words of nodes of so many levels
+pub record HasNodes (closed : Closed (Unit {0}) Global) (places levels : ℕ) : Type 0 where
+  pub full : IsFull closed.words
+  pub inside : places ≤ slots_len closed.words
+  pub few : places < 2 ^ 20
+  pub few_levels : levels ≤ 16
+  pub nodes : AreNodeWords levels (words_in closed places)
 
 -- the ref of an id whose place has a copy
 abbrev pub ref_of : List ℕ → ℕ → Ref

@@ -2,8 +2,8 @@
 
 ghost use Rattle.std.specs.Prelude.{◌≡◌, ◌^◌, ◌<◌, ◌≤◌, ◌+◌, ◌++◌, ◌∷◌, [], IfOk, OnOk, vec_len, length, slice_index, slice_set};
 ghost use Rattle.std.specs.Slots.{slots_len, IsFull};
-ghost use Rattle.node_words.specs.Nodes.{AreNodeWords, IsKnown};
-ghost use Rattle.reached_nodes.specs.Copies.{words_in, AreCopied, Copies};
+ghost use Rattle.node_words.specs.Nodes.{IsKnown};
+ghost use Rattle.reached_nodes.specs.Copies.{words_in, HasNodes, AreCopied, Copies};
 
 use crate::numbers::Numbers;
 use atomic_table::Closed;
@@ -51,11 +51,8 @@ pub(crate) fn copy(
     nodes: &mut Vec<Node>,
     id: u32,
 ) -> Result<Ref, AllocError>
-    requires full { IsFull closed.now.words }
-    requires places { (places ≤ slots_len closed.now.words) × (length numbers.old ≡ places)
-        × (places < 2 ^ 20) }
-    requires levels { length order.now ≤ 16 }
-    requires nodes { AreNodeWords (length order.now) (words_in closed.now places) }
+    requires nodes { HasNodes closed.now places (length order.now) }
+    requires size { length numbers.old ≡ places }
     requires known { IsKnown (words_in closed.now places) id }
     requires copied { AreCopied order.now (words_in closed.now places) numbers.old
         nodes.old.items }

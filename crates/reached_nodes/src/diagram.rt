@@ -1,12 +1,11 @@
 //! The diagram of what some roots reach.
 
-ghost use Rattle.std.specs.Prelude.{◌^◌, ◌<◌, ◌≤◌, IfOk, length, map};
+ghost use Rattle.std.specs.Prelude.{IfOk, length, map};
 ghost use Rattle.std.specs.List.{All};
-ghost use Rattle.std.specs.Slots.{slots_len, IsFull};
 ghost use Rattle.definitions.specs.Orders.{IsOrder};
-ghost use Rattle.node_words.specs.Nodes.{AreNodeWords, AreUnequal, IsKnown};
+ghost use Rattle.node_words.specs.Nodes.{AreUnequal, IsKnown};
 ghost use Rattle.node_words.specs.Meaning.{function_of};
-ghost use Rattle.reached_nodes.specs.Copies.{words_in, IsReducedOf};
+ghost use Rattle.reached_nodes.specs.Copies.{words_in, HasNodes, IsReducedOf};
 
 use crate::copies::copy;
 use crate::numbers::Numbers;
@@ -30,10 +29,8 @@ pub fn reached_nodes(
     order: &[VarIx],
     ids: &[u32],
 ) -> Result<Reached, AllocError>
-    requires full { IsFull closed.now.words }
-    requires places { (places ≤ slots_len closed.now.words) × (places < 2 ^ 20) }
-    requires order { (length order.now ≤ 16) × IsOrder (length order.now) order.now }
-    requires nodes { AreNodeWords (length order.now) (words_in closed.now places) }
+    requires nodes { HasNodes closed.now places (length order.now) }
+    requires order { IsOrder (length order.now) order.now }
     requires unequal { AreUnequal (words_in closed.now places) }
     requires known { All (IsKnown (words_in closed.now places)) ids.now }
     ensures { IfOk result

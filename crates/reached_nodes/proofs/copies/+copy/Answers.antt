@@ -12,6 +12,6 @@ returns-clause-copies t c =
     c.args.nodes.now.items c.copy.new.nodes.items c.copy-2.new.nodes.items c.add.new.nodes.items
     c.args.id c.word_at.result c.from.result c.node_parts-parts.result.low c.node_parts-parts.result.high c.get-number.result
     c.in_ok-low.low c.in_ok-high.high c.in_ok-made.made
-    c.requires.nodes c.if-id-lt2.false number c.if-number-ne0.false c.requires.known c.requires.copied.size
+    c.requires.nodes.nodes c.if-id-lt2.false number c.if-number-ne0.false c.requires.known c.requires.copied.size
     c.word_at.ensures (c.from.ensures ∙ c.node_parts-parts.ensures.level) c.node_parts-parts.ensures.low c.node_parts-parts.ensures.high
     c.in_ok-low.ensures.copies c.in_ok-high.ensures.copies c.in_ok-made.ensures.numbers c.in_ok-made.ensures.nodes c.in_ok-made.ensures.made

@@ -40,6 +40,6 @@ returns c =
     omega arith in
     let few : length c.loop-id.numbers < 2 ^ 32 =
     omega arith in
-    reduced_of c.args.order.now ws c.loop-id.numbers c.loop-id.nodes.items c.requires.order.1 c.requires.nodes c.requires.unequal
+    reduced_of c.args.order.now ws c.loop-id.numbers c.loop-id.nodes.items c.requires.order c.requires.nodes.nodes c.requires.unequal
     i.copied c.loop-id.roots.items c.args.ids.now few
     (subst (λ (z : ℕ). AreRefs c.loop-id.numbers c.loop-id.roots.items c.args.ids.now z) at i.refs) i.reached
