@@ -5,7 +5,7 @@ use Rattle.node_words.specs.declared.operation.Operation.{Operation}
 use Rattle.node_words.specs.Entries.{combine, combine_values}
 use Rattle.node_words.specs.Meaning.{branch}
 use Rattle.unique_table.specs.Plans.{levels_of, variable_at}
-use Rattle.unique_table.specs.Sessions.{StoreId, Knowledge, Follows, Knows, Means, HasLevels, LiesNoHigher, IsKnownBelow, function_in, depth_in}
+use Rattle.unique_table.specs.Sessions.{StoreId, Knowledge, Follows, Knows, HasLevels, LiesNoHigher, IsKnownBelow, IsNodeOf, function_in, depth_in}
 use Rattle.unique_table.proofs.Following.{follows_trans, known_below_follows}
 use Rattle.dd_builder.specs.Operating.{IsFrom, Settles, IsCut, IsCombined, AreCombined}
 use Rattle.dd_builder.proofs.SessionSteps.{means_same, function_zero, function_one, terminal_known, terminal_depth}
@@ -75,17 +75,16 @@ branch_combine operation x f g f' g' p = spread operation (bit p x) (f p) (g p) 
 
 pub combined_cut : (s : Knowledge) (from level : ℕ) (operation : Operation) (a b al au bl bu low high id : ℕ) → IsCut s level a al au → IsCut s level b bl bu
     → IsCombined s (level + 1) operation al bl low → IsCombined s (level + 1) operation au bu high
-    → Means s id (branch (variable_at s.store.plan level) (function_in s low) (function_in s high)) → from ≤ level → level ≤ depth_in s id →
-    IsCombined s from operation a b id
+    → IsNodeOf s level low high id → from ≤ level → IsCombined s from operation a b id
 unfolding SameFunction
-combined_cut s from level operation a b al au bl bu low high id ca cb cl cu m most deep = record {
-  means = means_same s id (branch x (function_in s low) (function_in s high)) (combine operation (function_in s a) (function_in s b)) m
+combined_cut s from level operation a b al au bl bu low high id ca cb cl cu made most = record {
+  means = means_same s id (branch x (function_in s low) (function_in s high)) (combine operation (function_in s a) (function_in s b)) made.function
       (λ p l. branch_same x (function_in s low) (function_in s high) (combine operation (function_in s al) (function_in s bl))
       (combine operation (function_in s au) (function_in s bu)) p (cl.means.function p l) (cu.means.function p l)
       ∙ (branch_combine operation x (function_in s al) (function_in s bl) (function_in s au) (function_in s bu) p
       ∙ combine_same operation (branch x (function_in s al) (function_in s au)) (branch x (function_in s bl) (function_in s bu))
       (function_in s a) (function_in s b) p (sym (ca.function p)) (sym (cb.function p))));
-  level = omega arith;
+  level = let deep = made.depth in omega (arith, deep, most);
 }
   where
     x : ℕ
@@ -116,16 +115,15 @@ pub combined_no_higher : (s s' : Knowledge) (operation : Operation) (a b id : �
 combined_no_higher s s' operation a b id ka kb f levels all k x y = grind arith
 
 -- the node made of an operation on both children
-pub made_combined : (store : StoreId) (s2 s3 s4 s5 : Knowledge) (from level : ℕ) (operation : Operation) (a b al au bl bu low high id : ℕ) →
-    s2.store ≡ store → IsCut s2 level a al au → IsCut s2 level b bl bu
+pub made_combined : (s2 s3 s4 s5 : Knowledge) (from level : ℕ) (operation : Operation) (a b al au bl bu low high id : ℕ) →
+    IsCut s2 level a al au → IsCut s2 level b bl bu
     → Follows s2 s3 → IsCombined s3 (level + 1) operation al bl low → Follows s3 s4 → IsCombined s4 (level + 1) operation au bu high → Follows s4 s5
-    → Means s5 id (branch (variable_at store.plan level) (function_in s5 low) (function_in s5 high)) → from ≤ level →
-    level ≤ depth_in s5 id → IsCombined s5 from operation a b id
-made_combined store s2 s3 s4 s5 from level operation a b al au bl bu low high id same ca cb f23 cl f34 cu f45 m most deep =
+    → IsNodeOf s5 level low high id → from ≤ level → IsCombined s5 from operation a b id
+made_combined s2 s3 s4 s5 from level operation a b al au bl bu low high id ca cb f23 cl f34 cu f45 made most =
     let f35 : Follows s3 s5 = follows_trans s3 s4 s5 f34 f45 in
     let f24 : Follows s2 s4 = follows_trans s2 s3 s4 f23 f34 in
     let f25 : Follows s2 s5 = follows_trans s2 s3 s5 f23 f35 in
     combined_cut s5 from level operation a b al au bl bu low high id (cut_follows s2 s5 level a al au f25 ca) (cut_follows s2 s5 level b bl bu f25 cb)
     (combined_follows s3 s5 (level + 1) operation al bl low (f23.knows al ca.low_below.0) (f23.knows bl cb.low_below.0) f35 cl)
     (combined_follows s4 s5 (level + 1) operation au bu high (f24.knows au ca.high_below.0) (f24.knows bu cb.high_below.0) f45 cu)
-    (subst (λ (z : StoreId). Means s5 id (branch (variable_at z.plan level) (function_in s5 low) (function_in s5 high))) (sym same ∙ sym f25.store) m) most deep
+    made most

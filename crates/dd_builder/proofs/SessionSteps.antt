@@ -3,15 +3,16 @@
 --     means_same      an id denotes each function of the same values
 --     makes_same, makes_node      a call makes the id of each function of the same values; a node that is made
 --     function_zero, function_one      the functions of the terminals
-use Rattle.std.proofs.Common.{◌≡◌, ℕ, ◌<◌, true, false, Result, Ok, Err, IfOk, IfErr, OnErr, length, refl, ◌∙◌, arith}
+use Rattle.std.proofs.Common.{◌≡◌, ℕ, ◌<◌, true, false, Result, Ok, Err, IfOk, IfErr, OnErr, length, refl, ◌∙◌, subst, arith}
 use Rattle.definitions.specs.Functions.{Point, Function, SameFunction}
-use Rattle.node_words.specs.Nodes.{IsFullFor}
-use Rattle.node_words.specs.Meaning.{function_of}
+use Rattle.node_words.specs.Nodes.{node_word}
+use Rattle.node_words.specs.Meaning.{function_of, branch}
 use Rattle.node_words.proofs.Meaning.{value_terminal, depth_terminal}
-use Rattle.unique_table.specs.Plans.{levels_of}
-use Rattle.unique_table.specs.Sessions.{StoreId, Knowledge, Follows, Knows, Means, function_in, depth_in}
+use Rattle.unique_table.specs.Plans.{levels_of, variable_at}
+use Rattle.unique_table.specs.Sessions.{StoreId, Knowledge, Follows, GoesOn, IsNodeOf, MeetsFull, Knows, Means, function_in, depth_in}
 use Rattle.unique_table.specs.declared.store.StoreFull.{StoreFull}
 use Rattle.unique_table.proofs.Following.{follows_trans}
+use Rattle.dd_builder.specs.Building.{KnowsFull}
 use Rattle.dd_builder.specs.Making.{Makes}
 
 pub stays : (s : Knowledge) → Follows s s
@@ -61,8 +62,19 @@ pub makes_same : (s1 s2 s3 : Knowledge) (r : Result ℕ StoreFull) (f g : Functi
     ((id : ℕ) → Means s3 id f → Means s3 id g) → Makes s1 s3 r g
 makes_same s1 s2 s3 r f g on made same = search (follows_trans, ok_same)
 
+-- what the id of a node denotes, with the variable of the store's plan
+node_means : (s : Knowledge) (store : StoreId) (level low high id : ℕ) → s.store ≡ store → IsNodeOf s level low high id →
+    Means s id (branch (variable_at store.plan level) (function_in s low) (function_in s high))
+node_means s store level low high id here n =
+    subst (λ (z : StoreId). Means s id (branch (variable_at z.plan level) (function_in s low) (function_in s high))) here n.function
+
 -- the same of a node that the store made
-pub makes_node : (s1 s2 s3 : Knowledge) (store : StoreId) (r : Result ℕ StoreFull) (f g : Function) (word : ℕ) → Follows s1 s2 →
-    Follows s2 s3 → s2.store ≡ store → IfOk r (λ id. Means s3 id f)
-    → OnErr r (IsFullFor s3.seen store.plan.places word) → ((id : ℕ) → Means s3 id f → Means s3 id g) → Makes s1 s3 r g
-makes_node s1 s2 s3 store r f g word h k l m e p = grind (arith, follows_trans)
+pub makes_node : (s1 s2 s3 : Knowledge) (store : StoreId) (r : Result ℕ StoreFull) (level low high most : ℕ) (g : Function) → Follows s1 s2 →
+    GoesOn s2 s3 most → s2.store ≡ store → IfOk r (IsNodeOf s3 level low high) → OnErr r (MeetsFull s2 s3 (node_word level low high))
+    → ((id : ℕ) → Means s3 id (branch (variable_at store.plan level) (function_in s3 low) (function_in s3 high)) → Means s3 id g) → Makes s1 s3 r g
+makes_node s1 s2 s3 store r level low high most g on goes same node full p = record {
+  follows = follows_trans s1 s2 s3 on goes.follows;
+  function = ok_same (IsNodeOf s3 level low high) (λ id. Means s3 id g) r node
+      (λ id n. p id (node_means s3 store level low high id (goes.follows.store ∙ same) n));
+  full = err_same (λ _. MeetsFull s2 s3 (node_word level low high)) (λ _. KnowsFull s3) r full (λ e m k inside. (m.full k inside).0);
+}

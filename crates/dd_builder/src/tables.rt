@@ -8,7 +8,7 @@ ghost use Rattle.unique_table.specs.Sessions.{Means, Follows, depth_in};
 ghost use Rattle.dd_builder.specs.Building.{IsForTables};
 ghost use Rattle.dd_builder.specs.Making.{Makes};
 ghost use Rattle.dd_builder.specs.Subfunctions.{KeepsSubfunctions};
-ghost use Rattle.dd_builder.specs.Paths.{IsPointAbove, IsPointOf, output_along};
+ghost use Rattle.dd_builder.specs.Paths.{IsPointOf, IsPathOf, output_along};
 
 use order_model::VarIx;
 use truth_table::Tables;
@@ -47,9 +47,7 @@ fn output_below(
     requires session { session.old.store ≡ store.now }
     requires tables { tables.now ≡ store.now.plan.problem.value }
     requires output { output < outputs_of tables.now }
-    requires level { path.level ≤ levels_of store.now.plan }
-    requires bits { path.bits < 2 ^ path.level }
-    requires point { IsPointAbove (order_of store.now.plan) path.level path.bits path.point }
+    requires path { IsPathOf store.now.plan path }
     ensures made { Makes session.old session.new result
         (output_along store.now.plan path.level path.bits output) }
     ensures kept { KeepsSubfunctions session.old session.new }

@@ -1,7 +1,7 @@
 //! Recalling and remembering the results of operations.
 
 ghost use Rattle.std.specs.Prelude.{◌≡◌, ◌^◌, ◌<◌, IfSome};
-ghost use Rattle.unique_table.specs.Sessions.{Knows, Means, MakesStep, HasUniqueIds, LiesNoHigher, combined_in};
+ghost use Rattle.unique_table.specs.Sessions.{Knows, Means, MakesStep, LiesNoHigher, combined_in};
 
 use node_words::start;
 use unique_table::{NodeId, Operation, Session, Store};
@@ -37,7 +37,6 @@ pub fn recall(
     ensures function { IfSome result
         (λ id. Means session.new id (combined_in session.new operation first second)) }
     ensures level { IfSome result (LiesNoHigher session.new first second) }
-    ensures unique { HasUniqueIds session.new }
 {
     let place = place_of(store.cache_places(), operation, first, second);
     store.entry(session, place, operation, first, second)

@@ -3,8 +3,8 @@ use Rattle.std.proofs.Common.{◌≡◌, ℕ, ◌<◌, ◌==◌, Bool, true, fal
 use Rattle.definitions.specs.Functions.{Point, Function, bit, SameFunction, from_table, number}
 use Rattle.node_words.specs.Meaning.{function_of, along, Denotes, branch}
 use Rattle.node_words.proofs.Meaning.{value_terminal}
-use Rattle.unique_table.specs.Plans.{order_of, output_at, variable_at}
-use Rattle.unique_table.specs.Sessions.{StoreId, Knowledge, Means, function_in}
+use Rattle.unique_table.specs.Plans.{order_of, output_at}
+use Rattle.unique_table.specs.Sessions.{StoreId, Knowledge, Means, IsNodeOf}
 use Rattle.store_tests.specs.Cases.{two_tables}
 
 -- what is so of each point of two variables
@@ -79,20 +79,15 @@ module _ (T : StoreId) (s : Knowledge) (here : s.store ≡ T) (order : order_of 
   order_is : order_of s.store.plan ≡ 0 ∷ 1 ∷ []
   order_is = ap (λ (z : StoreId). order_of z.plan) here ∙ order
 
-  pub second_means : (id : ℕ) → Means s id (branch (variable_at T.plan 1) (function_in s 0) (function_in s 1)) → Means s id second_bit
-  second_means id m = second_denotes (order_of s.store.plan) s.seen order_is id
-      (subst (λ (z : StoreId). Means s id (branch (variable_at z.plan 1) (function_in s 0) (function_in s 1))) (sym here) m)
+  pub second_means : (id : ℕ) → IsNodeOf s 1 0 1 id → Means s id second_bit
+  second_means id n = second_denotes (order_of s.store.plan) s.seen order_is id n.function
 
-  pub conjunction_means : (second id : ℕ) → Means s second second_bit →
-      Means s id (branch (variable_at T.plan 0) (function_in s 0) (function_in s second)) → Means s id (output_at T.plan.problem.value 0)
+  pub conjunction_means : (second id : ℕ) → Means s second second_bit → IsNodeOf s 0 0 second id → Means s id (output_at T.plan.problem.value 0)
   unfolding output_at
-  conjunction_means second id two m = subst (λ (z : List (List Bool)). Means s id (from_table (get_or z 0 []))) (sym tables)
-      (conjunction_denotes (order_of s.store.plan) s.seen order_is second id two
-      (subst (λ (z : StoreId). Means s id (branch (variable_at z.plan 0) (function_in s 0) (function_in s second))) (sym here) m))
+  conjunction_means second id two n = subst (λ (z : List (List Bool)). Means s id (from_table (get_or z 0 []))) (sym tables)
+      (conjunction_denotes (order_of s.store.plan) s.seen order_is second id two n.function)
 
-  pub disjunction_means : (second id : ℕ) → Means s second second_bit →
-      Means s id (branch (variable_at T.plan 0) (function_in s second) (function_in s 1)) → Means s id (output_at T.plan.problem.value 1)
+  pub disjunction_means : (second id : ℕ) → Means s second second_bit → IsNodeOf s 0 second 1 id → Means s id (output_at T.plan.problem.value 1)
   unfolding output_at
-  disjunction_means second id two m = subst (λ (z : List (List Bool)). Means s id (from_table (get_or z 1 []))) (sym tables)
-      (disjunction_denotes (order_of s.store.plan) s.seen order_is second id two
-      (subst (λ (z : StoreId). Means s id (branch (variable_at z.plan 0) (function_in s second) (function_in s 1))) (sym here) m))
+  disjunction_means second id two n = subst (λ (z : List (List Bool)). Means s id (from_table (get_or z 1 []))) (sym tables)
+      (disjunction_denotes (order_of s.store.plan) s.seen order_is second id two n.function)

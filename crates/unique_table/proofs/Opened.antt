@@ -1,7 +1,6 @@
 -- A store and a session, opened.
 use Rattle.std.proofs.Common.{◌≡◌, ◌≢◌, ℕ, ◌+◌, ◌*◌, ◌/◌, ◌^◌, ◌<◌, ◌≤◌, List, sym, ap, ◌∙◌, subst, ⊎_elim, arith}
 use Rattle.node_words.specs.Nodes.{AreNodeWords, Grows, IsIdOf, node_word}
-use Rattle.node_words.specs.Meaning.{branch}
 use Rattle.node_words.proofs.Making.{word_node}
 use Rattle.node_words.proofs.Meaning.{depth_node, depth_terminal}
 use Rattle.std.proofs.lemmas.Bool.{cases_lt}
@@ -13,14 +12,14 @@ use Rattle.node_words.proofs.Functions.{known_small, below_depth, denotes_made, 
 use Rattle.unique_table.specs.declared.plan.Plan.{Plan}
 use Rattle.unique_table.specs.declared.store.Store.TheInside as store
 use Rattle.unique_table.specs.declared.session.Session.TheInside as session
-use Rattle.unique_table.specs.Plans.{order_of, levels_of, variable_at}
-use Rattle.unique_table.specs.Sessions.{StoreId, Knowledge, Follows, MakesStep, Knows, IsKnownBelow, Means, HasUniqueIds, HasLevels, GainsOnly, function_in, depth_in}
+use Rattle.unique_table.specs.Plans.{order_of, levels_of}
+use Rattle.unique_table.specs.Sessions.{StoreId, Knowledge, Follows, GoesOn, MakesStep, Knows, IsKnownBelow, IsNodeOf, Means, HasUniqueIds, HasLevels, GainsOnly, function_in, depth_in}
 use Rattle.unique_table.specs.Insides.{store_id, IsStore, knowledge, IsSession}
 use Rattle.unique_table.specs.Views.{Gains}
-use Rattle.unique_table.specs.Seats.{Sitting, IsSeatOf, IsSeatAfter, IsNodeWord}
+use Rattle.unique_table.specs.Seats.{Sitting, IsSeatOf, IsSeatAfter, Searches, IsNodeWord}
 use Rattle.unique_table.specs.Stakes.{IsNoLess}
 use Rattle.unique_table.proofs.Stakes.{no_less_same}
-use Rattle.unique_table.proofs.Following.{follows}
+use Rattle.unique_table.proofs.Following.{follows, follows_refl}
 
 abbrev pub seated : Sitting → Knowledge
 seated seat = knowledge record { seat = seat }
@@ -33,6 +32,12 @@ made_only s K made word w is same g = subst (λ (z : ℕ). GainsOnly K.made made
 -- a session whose seat is at the table knows the store
 pub store_is : (t : store.Inside) (T : StoreId) (seat : Sitting) → store_id t ≡ T → IsSeatOf t.table.shared seat → (seated seat).store ≡ T
 store_is t T seat is fits = (λ i. record { table = fits.table i; plan = fits.plan i }) ∙ is
+
+-- ids are unique
+pub unique_ids : (t : store.Inside) → IsStore t → (seat : Sitting) → IsSeatOf t.table.shared seat → HasUniqueIds (seated seat)
+unique_ids t kt seat sits id other f a b =
+    one_id (order_of seat.me.0.plan) seat.me.0.seen sits.good.nodes sits.good.unequal id other f
+    (subst (λ (z : Plan). IsOrder (levels_of z) (order_of z)) (sym sits.plan) kt.plan.order.order) a b
 
 module _ (t : store.Inside) (s : session.Inside) (T : StoreId) (K : Knowledge) (is_t : store_id t ≡ T) (is_s : knowledge s ≡ K)
     (kt : IsStore t) (ks : IsSession s) (fits : K.store ≡ T) where
@@ -87,9 +92,29 @@ module _ (t : store.Inside) (s : session.Inside) (T : StoreId) (K : Knowledge) (
       pieces = a.view.pieces;
     };
     stake = a.view.stake ∙ ap (λ (z : Knowledge). z.stake) is_s;
+    unique = unique_ids t kt seat a.seat;
     made = a.view.made ∙ ap (λ (z : Knowledge). z.made) is_s;
     steps = a.view.steps ∙ ap (λ (z : Knowledge). z.steps + 1) is_s;
     writes = a.view.writes ∙ ap (λ (z : Knowledge). z.writes + wrote) is_s;
+  }
+
+  -- a session that did nothing
+  pub goes_nowhere : (most : ℕ) → GoesOn K (seated s.seat) most
+  goes_nowhere most = record {
+    follows = subst (λ (z : Knowledge). Follows z (seated s.seat)) is_s (follows_refl (seated s.seat) ks.good.nodes);
+    stake = ap (λ (z : Knowledge). z.stake) is_s;
+    unique = unique_ids t kt s.seat seat_of;
+    steps = let e = ap (λ (z : Knowledge). z.steps) is_s in omega (arith, e);
+  }
+
+  -- a session after a search
+  pub goes_searching : (seat : Sitting) (word most most' : ℕ) → most ≤ most' → Searches t.table.shared s.seat seat word most →
+      GoesOn K (seated seat) most'
+  goes_searching seat word most most' less a = record {
+    follows = goes_on seat a.seat a.view;
+    stake = a.view.stake ∙ ap (λ (z : Knowledge). z.stake) is_s;
+    unique = unique_ids t kt seat a.seat;
+    steps = let e = ap (λ (z : Knowledge). z.steps) is_s in let n = a.steps in omega (arith, e, n, less);
   }
 
   -- the word that is stored for an operation
@@ -101,12 +126,6 @@ module _ (t : store.Inside) (s : session.Inside) (T : StoreId) (K : Knowledge) (
       (entry_made (order_of K.store.plan) K.seen o a b r (small_id a ka) (small_id b kb) (small_id r m.known) ka kb m) in
       subst (λ (z : Plan). IsEntry (order_of z) s.seat.me.0.seen word) plan_is
       (subst (λ (z : Knowledge). IsEntry (order_of z.store.plan) z.seen word) (sym is_s) entry)
-
--- ids are unique
-pub unique_ids : (t : store.Inside) → IsStore t → (seat : Sitting) → IsSeatOf t.table.shared seat → HasUniqueIds (seated seat)
-unique_ids t kt seat sits id other f a b =
-    one_id (order_of seat.me.0.plan) seat.me.0.seen sits.good.nodes sits.good.unequal id other f
-    (subst (λ (z : Plan). IsOrder (levels_of z) (order_of z)) (sym sits.plan) kt.plan.order.order) a b
 
 -- ids lie at levels, or are terminals
 pub has_levels : (seat : Sitting) → AreNodeWords (levels_of seat.me.0.plan) seat.me.0.seen → HasLevels (seated seat)
@@ -130,10 +149,18 @@ module _ (t : store.Inside) (kt : IsStore t) (seat : Sitting) (sits : IsSeatOf t
       (subst (λ (z : Plan). IsOrder (levels_of z) (order_of z)) (sym sits.plan) kt.plan.order.order) o a b (result_of w) k ka kb
       entry_means ha hb
 
--- what a made id denotes, and how deep it lies
+-- a step is at most one step
+pub one_step : (K K' : Knowledge) (wrote : ℕ) → MakesStep K K' wrote → GoesOn K K' 1
+one_step K K' wrote m = record { follows = m.follows; stake = m.stake; unique = m.unique; steps = omega (arith, m.steps) }
+
+-- the id of a node that was made
 module _ (T : StoreId) (K K' : Knowledge) (fits : K.store ≡ T) (few : levels_of T.plan ≤ 16)
     (are : AreNodeWords (levels_of K'.store.plan) K'.seen) (on : Follows K K') (level low high id : ℕ) (small : level < levels_of T.plan)
-    (a : low < 2 ^ 20) (b : high < 2 ^ 20) (kl : IsKnownBelow K level low) (made : IsIdOf K'.seen level low high id) where
-  pub made_means : Means K' id (branch (variable_at T.plan level) (function_in K' low) (function_in K' high))
-  made_means = subst (λ (z : StoreId). Means K' id (branch (variable_at z.plan level) (function_in K' low) (function_in K' high))) (on.store ∙ fits)
-      (denotes_made (order_of K'.store.plan) K'.seen are level low high id (omega arith) a b (on.knows low kl.0) made)
+    (a : low < 2 ^ 20) (b : high < 2 ^ 20) (kl : IsKnownBelow K level low) (made : IsIdOf K'.seen level low high id)
+    (deep : level ≤ depth_in K' id) where
+  pub node_made : IsNodeOf K' level low high id
+  node_made = record {
+    word = made;
+    function = denotes_made (order_of K'.store.plan) K'.seen are level low high id (omega arith) a b (on.knows low kl.0) made;
+    depth = deep;
+  }

@@ -1,10 +1,11 @@
 -- What a step leaves of a seat.
-use Rattle.std.proofs.Common.{◌≡◌, ℕ, List, arith}
+use Rattle.std.proofs.Common.{◌≡◌, ℕ, ◌+◌, ◌≤◌, List, arith}
 use Rattle.node_words.proofs.Growing.{grows_trans}
 use Rattle.unique_table.specs.declared.session.View.{View}
 use Rattle.unique_table.specs.Invariant.{Sees, sees}
 use Rattle.unique_table.specs.Views.{After, Gains}
-use Rattle.unique_table.specs.Seats.{Board, Sitting, IsSeatOf, IsSeatAfter}
+use Rattle.unique_table.specs.Seats.{Board, Sitting, IsSeatOf, IsSeatAfter, Searches}
+use Rattle.unique_table.proofs.Puts.{gains_again}
 use Rattle.unique_table.proofs.Rule.{M}
 
 pub after_goes : (m m' : M) (wrote : ℕ) (ws ps : List ℕ) → m' ≡ (sees m.0 ws ps wrote, m.1) → Sees m.0 ws ps → After m.0 m'.0 wrote
@@ -19,3 +20,13 @@ gains_after v v' wrote a = record { good = a.good; current = λ _. a.current; pl
 
 pub gains_both : (v v' v'' : View) → Gains v v' → Gains v' v'' → Gains v v''
 gains_both v v' v'' a b = grind (arith, grows_trans)
+
+-- one search and another for the same word
+pub searches_on : (t : Board) (s s' s'' : Sitting) (word a b c : ℕ) → a + b ≤ c → Searches t s s' word a → Searches t s' s'' word b →
+    Searches t s s'' word c
+searches_on t s s' s'' word a b c less x y = record {
+  seat = y.seat;
+  view = gains_both s.me.0 s'.me.0 s''.me.0 x.view y.view;
+  made = gains_again s.me.0.made s'.me.0.made s''.me.0.made word x.made y.made;
+  steps = let m = x.steps in let n = y.steps in omega (arith, less, m, n);
+}

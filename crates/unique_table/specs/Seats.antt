@@ -1,9 +1,10 @@
 -- Seats at a store's table, and the places of its words.
 --     Board, Sitting      the table and a seat at it
 --     IsSeatOf t s, IsSeatAfter t s s' wrote      a seat of the table, and one after a step that wrote `wrote` words
+--     Searches t s s' word most      a seat searches for a node's word
 --     IsNodePlace t place, IsEntryPlace t entry place, IsPiecePlace t piece place      if the words of nodes, of the cache and of pieces stand
 --     IsNodeWord t s word, MayPut t s word place      a node's word, and the place at which a seat may put it
-use Rattle.std.specs.Prelude.{◌≡◌, ◌≢◌, ℕ, ◌+◌, ◌<◌, []}
+use Rattle.std.specs.Prelude.{◌≡◌, ◌≢◌, ℕ, ◌+◌, ◌<◌, ◌≤◌, []}
 use Rattle.atomic_table.specs.declared.shared.Shared.{Shared}
 use Rattle.atomic_table.specs.declared.shared.Seat.{Seat}
 use Rattle.node_words.specs.Nodes.{IsNode, IsNextProbe}
@@ -11,7 +12,8 @@ use Rattle.unique_table.specs.declared.plan.Plan.{Plan}
 use Rattle.unique_table.specs.declared.session.View.{View}
 use Rattle.unique_table.specs.declared.atomic_steps.Words.{Words}
 use Rattle.unique_table.specs.Plans.{levels_of}
-use Rattle.unique_table.specs.Views.{IsGoodView, After}
+use Rattle.unique_table.specs.Views.{IsGoodView, After, Gains}
+use Rattle.unique_table.specs.Sessions.{GainsOnly}
 
 -- a store's table
 abbrev pub Board : Type 0
@@ -32,6 +34,13 @@ pub record IsSeatOf (t : Board) (s : Sitting) : Type 0 where
 pub record IsSeatAfter (t : Board) (s s' : Sitting) (wrote : ℕ) : Type 0 where
   pub seat : IsSeatOf t s'
   pub view : After s.me.0 s'.me.0 wrote
+
+-- a seat searches for a node's word in at most so many steps, and puts no other
+pub record Searches (t : Board) (s s' : Sitting) (word most : ℕ) : Type 0 where
+  pub seat : IsSeatOf t s'
+  pub view : Gains s.me.0 s'.me.0
+  pub made : GainsOnly s.me.0.made s'.me.0.made word
+  pub steps : s'.me.0.steps ≤ s.me.0.steps + most
 
 -- the place of a node's word
 pub record IsNodePlace (t : Board) (place : ℕ) : Type 0 where

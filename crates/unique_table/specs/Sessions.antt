@@ -11,8 +11,11 @@
 --     MadeAll s      a session that is alone made each node that it knows, or comes from sessions that did
 --     GainsOnly made made' w      no word was made but w
 --     Follows s s'      a session goes on: what it knew it still knows
+--     GoesOn s s' most      a session goes on by at most so many steps
 --     MakesStep s s' wrote      a session goes on by one step
 --     HasParts s id parts      the level and the children of a node
+--     IsNodeOf s level low high id      the id of the node with a level and children
+--     MeetsFull s s' word      a session sees that a word has no place
 use Rattle.std.specs.Prelude.{◌≡◌, ◌≢◌, ℕ, ◌+◌, ◌-◌, ◌<◌, ◌≤◌, ◌⊎◌, List, slice_index}
 use Rattle.std.specs.List.{Contains}
 use Rattle.atomic_table.specs.Seated.{TableId}
@@ -20,7 +23,7 @@ use Rattle.definitions.specs.Functions.{Point, Function}
 use Rattle.node_words.specs.declared.operation.Operation.{Operation}
 use Rattle.node_words.specs.declared.words.NodeParts.{NodeParts}
 use Rattle.node_words.specs.Entries.{combine}
-use Rattle.node_words.specs.Nodes.{IsKnown, Grows, node_word}
+use Rattle.node_words.specs.Nodes.{IsKnown, IsIdOf, IsFullFor, Grows, node_word}
 use Rattle.node_words.specs.Meaning.{function_of, Denotes, depth, branch}
 use Rattle.unique_table.specs.declared.plan.Plan.{Plan}
 use Rattle.unique_table.specs.declared.session.Stake.{Stake}
@@ -111,10 +114,18 @@ pub record Follows (s s' : Knowledge) : Type 0 where
 abbrev pub AloneStaysAlone : Type 0
 AloneStaysAlone = (s s' : Knowledge) → Follows s s' → IsAlone s → IsAlone s'
 
--- a session goes on by one step, which wrote `wrote` words
+-- a session goes on by at most so many steps, with the stake that it had; its ids are unique
+pub record GoesOn (s s' : Knowledge) (most : ℕ) : Type 0 where
+  pub follows : Follows s s'
+  pub stake : s'.stake ≡ s.stake
+  pub unique : HasUniqueIds s'
+  pub steps : s'.steps ≤ s.steps + most
+
+-- a session goes on by one step, which wrote `wrote` words, none of a node; its ids are unique
 pub record MakesStep (s s' : Knowledge) (wrote : ℕ) : Type 0 where
   pub follows : Follows s s'
   pub stake : s'.stake ≡ s.stake
+  pub unique : HasUniqueIds s'
   pub made : s'.made ≡ s.made
   pub steps : s'.steps ≡ s.steps + 1
   pub writes : s'.writes ≡ s.writes + wrote
@@ -130,3 +141,14 @@ pub record HasParts (s : Knowledge) (id : ℕ) (parts : NodeParts) : Type 0 wher
   pub function : (p : Point) →
       function_in s id p ≡ branch (variable_at s.store.plan parts.level) (function_in s parts.low)
       (function_in s parts.high) p
+
+-- the id of the node with this level and these children, or of the child if they are equal: it lies at the level or below it
+pub record IsNodeOf (s : Knowledge) (level low high id : ℕ) : Type 0 where
+  pub word : IsIdOf s.seen level low high id
+  pub function : Means s id (branch (variable_at s.store.plan level) (function_in s low) (function_in s high))
+  pub depth : level ≤ depth_in s id
+
+-- a session sees that each place for a word is taken by another, and writes nothing
+pub record MeetsFull (s s' : Knowledge) (word : ℕ) : Type 0 where
+  pub full : IsFullFor s'.seen s'.store.plan.places word
+  pub writes : s'.writes ≡ s.writes

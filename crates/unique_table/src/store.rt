@@ -1,12 +1,11 @@
 //! The store and what its sessions do.
 
 ghost use Rattle.std.specs.Prelude.{◌≡◌, ◌*◌, ◌<◌, ◌≤◌, [], ◌++◌, length, IfOk, ◌+◌, ◌==◌, ◌↔◌, OnErr, IfSome, IfNone, IsNone, ℕ, slice_index, ◌-◌, IfErr};
-ghost use Rattle.unique_table.specs.Plans.{AreGivenBy, IsPlanFor, IsPlan, order_of, levels_of, variable_at, piece_function};
+ghost use Rattle.unique_table.specs.Plans.{AreGivenBy, IsPlanFor, IsPlan, order_of, levels_of, piece_function};
 ghost use Rattle.definitions.specs.Problems.{functions};
 ghost use Rattle.definitions.specs.Functions.{Point};
-ghost use Rattle.node_words.specs.Nodes.{node_word, AreNodeWords, AreUnequal, IsFullFor, IsIdOf};
-ghost use Rattle.node_words.specs.Meaning.{branch};
-ghost use Rattle.unique_table.specs.Sessions.{Knows, IsKnownBelow, Means, Follows, MakesStep, HasParts, HasUniqueIds, HasLevels, MadeAll, GainsOnly, LiesNoHigher, combined_in, function_in, depth_in, HasPiece};
+ghost use Rattle.node_words.specs.Nodes.{node_word, AreNodeWords, AreUnequal};
+ghost use Rattle.unique_table.specs.Sessions.{Knows, IsKnownBelow, Means, Follows, GoesOn, MakesStep, HasParts, IsNodeOf, MeetsFull, HasUniqueIds, HasLevels, MadeAll, GainsOnly, LiesNoHigher, combined_in, function_in, HasPiece};
 ghost use Rattle.definitions.specs.Diagrams.{Represents, IsReduced};
 ghost use Rattle.unique_table.specs.Stakes.{whole, half, joined};
 ghost use Rattle.unique_table.specs.Closing.{IsFinalStore, LacksRoot, MayLackRoot};
@@ -157,20 +156,10 @@ impl Store {
         requires level { level < levels_of self.now.plan }
         requires low { IsKnownBelow session.old level low }
         requires high { IsKnownBelow session.old level high }
-        ensures follows { Follows session.old session.new }
-        ensures id { IfOk result (λ id. IsIdOf session.new.seen level low high id) }
-        ensures function { IfOk result
-            (λ id. Means session.new id
-            (branch (variable_at self.now.plan level) (function_in session.new low)
-            (function_in session.new high))) }
-        ensures level { IfOk result (λ id. level ≤ depth_in session.new id) }
+        ensures goes_on { GoesOn session.old session.new (2 * self.now.plan.places) }
+        ensures node { IfOk result (IsNodeOf session.new level low high) }
         ensures made { GainsOnly session.old.made session.new.made (node_word level low high) }
-        ensures unique { HasUniqueIds session.new }
-        ensures stake { session.new.stake ≡ session.old.stake }
-        ensures full { OnErr result
-            (IsFullFor session.new.seen self.now.plan.places (node_word level low high)) }
-        ensures steps { session.new.steps ≤ session.old.steps + 2 * self.now.plan.places }
-        ensures writes { OnErr result (session.new.writes ≡ session.old.writes) }
+        ensures full { OnErr result (MeetsFull session.old session.new (node_word level low high)) }
     {
         let places = self.places;
         let seat = &mut session.seat;
@@ -189,14 +178,11 @@ impl Store {
     pub fn node(&self, session: &mut Session, id: NodeId) -> Option<NodeParts>
         requires session { session.old.store ≡ self.now }
         requires known { Knows session.old id }
-        ensures follows { Follows session.old session.new }
+        ensures goes_on { GoesOn session.old session.new 1 }
         ensures terminal { IsNone result ↔ (id < 2) }
         ensures constant { IfNone result ((p : Point) → function_in session.new id p ≡ (id == 1)) }
         ensures parts { IfSome result (λ parts. HasParts session.new id parts) }
         ensures made { session.new.made ≡ session.old.made }
-        ensures unique { HasUniqueIds session.new }
-        ensures stake { session.new.stake ≡ session.old.stake }
-        ensures steps { session.new.steps ≤ session.old.steps + 1 }
         ensures writes { session.new.writes ≡ session.old.writes }
     {
         let shared = &self.table.shared;
@@ -225,7 +211,6 @@ impl Store {
         ensures function { IfSome result
             (λ id. Means session.new id (combined_in session.new operation first second)) }
         ensures level { IfSome result (LiesNoHigher session.new first second) }
-        ensures unique { HasUniqueIds session.new }
     {
         let at = self.places + place;
         let seat = &mut session.seat;
@@ -281,7 +266,6 @@ impl Store {
         ensures function { IfSome result
             (λ id. Means session.new id (piece_function self.now.plan piece)) }
         ensures none { IfNone result (slice_index session.new.pieces piece ≡ 0) }
-        ensures unique { HasUniqueIds session.new }
     {
         let place = self.places + self.entries + piece;
         let word = words::collect(&self.table.shared, &mut session.seat, place, piece);

@@ -6,9 +6,8 @@ ghost use Rattle.node_words.specs.Meaning.{Denotes};
 ghost use Rattle.node_words.specs.Entries.{IsEntry};
 ghost use Rattle.unique_table.specs.Plans.{order_of, piece_function};
 ghost use Rattle.unique_table.specs.Invariant.{putting};
-ghost use Rattle.unique_table.specs.Sessions.{GainsOnly};
-ghost use Rattle.unique_table.specs.Views.{After, Gains};
-ghost use Rattle.unique_table.specs.Seats.{IsSeatOf, IsSeatAfter, IsNodePlace, IsEntryPlace, IsPiecePlace, IsNodeWord, MayPut};
+ghost use Rattle.unique_table.specs.Views.{After};
+ghost use Rattle.unique_table.specs.Seats.{IsSeatOf, IsSeatAfter, Searches, IsNodePlace, IsEntryPlace, IsPiecePlace, IsNodeWord, MayPut};
 
 use crate::atomic_steps::{Collects, Looks, Publishes, Puts, Recalls, Remembers, Words};
 use crate::plan::Plan;
@@ -46,12 +45,9 @@ fn put(shared: &Board, seat: &mut Seat<(), View>, place: usize, word: u64) -> u6
 /// it is seen empty. Says whether the word stands there.
 pub(crate) fn take(shared: &Board, seat: &mut Seat<(), View>, place: usize, word: u64) -> bool
     requires { MayPut shared.now seat.old word place }
-    ensures seat { IsSeatOf shared.now seat.new }
-    ensures gains { Gains seat.old.me.0 seat.new.me.0 }
-    ensures made { GainsOnly seat.old.me.0.made seat.new.me.0.made word }
+    ensures searches { Searches shared.now seat.old seat.new word 2 }
     ensures found { MatchBool result (slice_index seat.new.me.0.seen place ≡ word)
         (IsTaken seat.new.me.0.seen word place) }
-    ensures steps { seat.new.me.0.steps ≤ seat.old.me.0.steps + 2 }
     ensures writes { MatchBool result (Unit {0}) (seat.new.me.0.writes ≡ seat.old.me.0.writes) }
 {
     let seen = look(shared, seat, place);
@@ -129,13 +125,10 @@ pub(crate) fn find_or_put(
     requires places { (places ≡ shared.now.key.places) × (places ≤ shared.now.table_id.words) }
     requires count { (0 < places) × (places < 2 ^ 32) }
     requires word { IsNodeWord shared.now seat.old word }
-    ensures seat { IsSeatOf shared.now seat.new }
-    ensures gains { Gains seat.old.me.0 seat.new.me.0 }
-    ensures made { GainsOnly seat.old.me.0.made seat.new.me.0.made word }
+    ensures searches { Searches shared.now seat.old seat.new word (2 * places) }
     ensures found { IfSome result
         (λ place. (place < places) × (slice_index seat.new.me.0.seen place ≡ word)) }
     ensures full { IfNone result (IsFullFor seat.new.me.0.seen places word) }
-    ensures steps { seat.new.me.0.steps ≤ seat.old.me.0.steps + 2 * places }
     ensures writes { IfNone result (seat.new.me.0.writes ≡ seat.old.me.0.writes) }
 {
     let start = start(places, word);

@@ -21,7 +21,7 @@ pub returns-then-contains-clause-made : goal.returns-then-contains-clause-made
 returns-then-contains-clause-made c =
     let at : variable_at c.args.store.now.plan c.args.level ≡ get_or c.variables.result.now c.from.result 0 =
     (λ i. get_or (sym (c.variables.ensures.value ∙ c.order.ensures.value) i) (sym c.from.ensures i) 0) in
-    makes_node _ _ _ c.args.store.now c.make.result _ _ _ (stays _) c.make.ensures.follows c.requires.session c.make.ensures.function
+    makes_node _ _ _ c.args.store.now c.make.result _ _ _ _ _ (stays _) c.make.ensures.goes_on c.requires.session c.make.ensures.node
     c.make.ensures.full (λ made m.
     literal_upper c.make.new.session c.args.term (variable_at c.args.store.now.plan c.args.level) _ c.args.id made at
     (c.contains.ensures.0 c.if-not-contains.false) (c.contains-2.ensures.0 c.if-contains.true) m)
@@ -30,7 +30,7 @@ pub returns-else-contains-clause-made : goal.returns-else-contains-clause-made
 returns-else-contains-clause-made c =
     let at : variable_at c.args.store.now.plan c.args.level ≡ get_or c.variables.result.now c.from.result 0 =
     (λ i. get_or (sym (c.variables.ensures.value ∙ c.order.ensures.value) i) (sym c.from.ensures i) 0) in
-    makes_node _ _ _ c.args.store.now c.make-else-contains.result _ _ _ (stays _) c.make-else-contains.ensures.follows
-    c.requires.session c.make-else-contains.ensures.function c.make-else-contains.ensures.full (λ made m.
+    makes_node _ _ _ c.args.store.now c.make-else-contains.result _ _ _ _ _ (stays _) c.make-else-contains.ensures.goes_on
+    c.requires.session c.make-else-contains.ensures.node c.make-else-contains.ensures.full (λ made m.
     literal_lower c.make-else-contains.new.session c.args.term (variable_at c.args.store.now.plan c.args.level) _ c.args.id made at
     (c.contains.ensures.0 c.if-not-contains.false) (iff_false c.contains-2.ensures c.if-contains.false) m)

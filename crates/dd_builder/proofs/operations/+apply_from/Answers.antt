@@ -73,19 +73,18 @@ make-requires-clause-high t c = combined_below _ _ _ _ _ _
 pub returns-in_err-id-clause-follows : goal.returns-in_err-id-clause-follows
 returns-in_err-id-clause-follows t c =
     follows_trans _ _ _ c.recall.ensures.step.follows (follows_trans _ _ _ c.take_apart-cut.ensures.follows
-    (follows_trans _ _ _ c.apply_from.ensures.follows (follows_trans _ _ _ c.apply_from-2.ensures.follows c.make.ensures.follows)))
+    (follows_trans _ _ _ c.apply_from.ensures.follows (follows_trans _ _ _ c.apply_from-2.ensures.follows c.make.ensures.goes_on.follows)))
 
 pub remember-requires-clause-known : goal.remember-requires-clause-known
 remember-requires-clause-known t c =
     let f = follows_trans _ _ _ c.recall.ensures.step.follows (follows_trans _ _ _ c.take_apart-cut.ensures.follows
-    (follows_trans _ _ _ c.apply_from.ensures.follows (follows_trans _ _ _ c.apply_from-2.ensures.follows c.make.ensures.follows))) in
+    (follows_trans _ _ _ c.apply_from.ensures.follows (follows_trans _ _ _ c.apply_from-2.ensures.follows c.make.ensures.goes_on.follows))) in
     (f.knows c.args.first c.requires.first.known, f.knows c.args.second c.requires.second.known)
 
 pub remember-requires-clause-function : goal.remember-requires-clause-function
 remember-requires-clause-function t c =
-    (made_combined c.args.store.now c.take_apart-cut.new.session c.apply_from.new.session c.apply_from-2.new.session c.make.new.session 0
-    c.take_apart-cut.result.level c.args.operation c.args.first c.args.second _ _ _ _ _ _ c.in_ok-id.id
-    (c.take_apart-cut.ensures.follows.store ∙ (c.recall.ensures.step.follows.store ∙ c.requires.session)) c.take_apart-cut.ensures.first
+    (made_combined c.take_apart-cut.new.session c.apply_from.new.session c.apply_from-2.new.session c.make.new.session 0
+    c.take_apart-cut.result.level c.args.operation c.args.first c.args.second _ _ _ _ _ _ c.in_ok-id.id c.take_apart-cut.ensures.first
     c.take_apart-cut.ensures.second
     c.apply_from.ensures.follows (low_combined c.args.store.now c.take_apart-cut.new.session c.apply_from.new.session c.take_apart-cut.result.level
     c.args.operation c.args.first c.args.second _ _ _ _
@@ -96,7 +95,7 @@ remember-requires-clause-function t c =
     (c.take_apart-cut.ensures.follows.store ∙ (c.recall.ensures.step.follows.store ∙ c.requires.session)) c.take_apart-cut.ensures.inside
     c.take_apart-cut.ensures.first c.take_apart-cut.ensures.second c.apply_from-2.new.session c.in_ok-high.high
     c.apply_from.ensures.follows c.in_ok-high.ensures.combined)
-    c.make.ensures.follows c.in_ok-id.ensures.function (omega arith) c.in_ok-id.ensures.level).means
+    c.make.ensures.goes_on.follows c.in_ok-id.ensures.node (omega arith)).means
 
 pub returns-clause-follows : goal.returns-clause-follows
 returns-clause-follows t c = search follows_trans
@@ -104,15 +103,14 @@ returns-clause-follows t c = search follows_trans
 pub returns-clause-combined : goal.returns-clause-combined
 returns-clause-combined t c = λ from few one two.
     let f = follows_trans _ _ _ c.recall.ensures.step.follows (follows_trans _ _ _ c.take_apart-cut.ensures.follows
-    (follows_trans _ _ _ c.apply_from.ensures.follows (follows_trans _ _ _ c.apply_from-2.ensures.follows c.make.ensures.follows))) in
+    (follows_trans _ _ _ c.apply_from.ensures.follows (follows_trans _ _ _ c.apply_from-2.ensures.follows c.make.ensures.goes_on.follows))) in
     let r = c.recall.ensures.step.follows in
     let a = r.depths c.args.first one.known in let b = r.depths c.args.second two.known in
     let deep : from ≤ c.take_apart-cut.result.level = c.take_apart-cut.ensures.level from (omega arith) (omega arith) in
     combined_follows c.make.new.session c.remember.new.session from c.args.operation c.args.first c.args.second c.in_ok-id.id
     (f.knows c.args.first c.requires.first.known) (f.knows c.args.second c.requires.second.known) c.remember.ensures.step.follows
-    (made_combined c.args.store.now c.take_apart-cut.new.session c.apply_from.new.session c.apply_from-2.new.session c.make.new.session
-    from c.take_apart-cut.result.level c.args.operation c.args.first c.args.second _ _ _ _ _ _ c.in_ok-id.id
-    (c.take_apart-cut.ensures.follows.store ∙ (c.recall.ensures.step.follows.store ∙ c.requires.session)) c.take_apart-cut.ensures.first
+    (made_combined c.take_apart-cut.new.session c.apply_from.new.session c.apply_from-2.new.session c.make.new.session
+    from c.take_apart-cut.result.level c.args.operation c.args.first c.args.second _ _ _ _ _ _ c.in_ok-id.id c.take_apart-cut.ensures.first
     c.take_apart-cut.ensures.second
     c.apply_from.ensures.follows (low_combined c.args.store.now c.take_apart-cut.new.session c.apply_from.new.session c.take_apart-cut.result.level
     c.args.operation c.args.first c.args.second _ _ _ _
@@ -123,4 +121,4 @@ returns-clause-combined t c = λ from few one two.
     (c.take_apart-cut.ensures.follows.store ∙ (c.recall.ensures.step.follows.store ∙ c.requires.session)) c.take_apart-cut.ensures.inside
     c.take_apart-cut.ensures.first c.take_apart-cut.ensures.second c.apply_from-2.new.session c.in_ok-high.high
     c.apply_from.ensures.follows c.in_ok-high.ensures.combined)
-    c.make.ensures.follows c.in_ok-id.ensures.function deep c.in_ok-id.ensures.level)
+    c.make.ensures.goes_on.follows c.in_ok-id.ensures.node deep)

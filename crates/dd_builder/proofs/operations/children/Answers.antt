@@ -7,12 +7,12 @@ use Rattle.dd_builder.proofs.operations.children.Goals as goal
 
 pub returns-in_default-clause-cut : goal.returns-in_default-clause-cut
 returns-in_default-clause-cut c =
-    let f = c.node.ensures.follows in let d = f.depths c.args.id c.requires.known in
+    let f = c.node.ensures.goes_on.follows in let d = f.depths c.args.id c.requires.known in
     same_cut c.node.new.session c.args.level c.args.id (f.knows c.args.id c.requires.known) (omega (arith, c.in-Some.ensures.parts.level))
 
 pub returns-in_default-2-clause-cut : goal.returns-in_default-2-clause-cut
 returns-in_default-2-clause-cut c =
-    let f = c.node.ensures.follows in let low = c.in_default.ensures.terminal.0 refl in
+    let f = c.node.ensures.goes_on.follows in let low = c.in_default.ensures.terminal.0 refl in
     same_cut c.node.new.session c.args.level c.args.id (f.knows c.args.id c.requires.known) (omega (
       arith,
       terminal_depth c.args.session.now c.args.id low,

@@ -38,11 +38,11 @@ returns-clause-made t c =
     let top = c.top_variables-top_variables.ensures.value ∙ ap (λ xs. length (top_variables xs)) (c.variables.ensures.value ∙ c.order.ensures.value) in
     let size = length-take 2 (order_of c.args.store.now.plan) in
     let on = follows_trans _ _ _ c.of_restrictions.ensures.made.follows c.of_restrictions-2.ensures.made.follows in
-    makes_node _ _ _ c.args.store.now c.make.result _ _ _ on c.make.ensures.follows (on.store ∙ c.requires.session.same)
-    c.make.ensures.function c.make.ensures.full (λ id m.
+    makes_node _ _ _ c.args.store.now c.make.result _ _ _ _ _ on c.make.ensures.goes_on (on.store ∙ c.requires.session.same)
+    c.make.ensures.node c.make.ensures.full (λ id m.
     restricted_node c.args.store.now c.of_restrictions.new.session c.of_restrictions-2.new.session c.make.new.session c.args.level
     c.args.path c.in_ok-low.low c.in_ok-high.high id (output_at c.args.store.now.plan.problem.value c.args.output)
-    (c.of_restrictions.ensures.made.follows.store ∙ c.requires.session.same) c.of_restrictions-2.ensures.made.follows c.make.ensures.follows
+    (c.of_restrictions.ensures.made.follows.store ∙ c.requires.session.same) c.of_restrictions-2.ensures.made.follows c.make.ensures.goes_on.follows
     c.order.ensures.plan.order.order (omega arith) c.requires.path c.in_ok-low.ensures.made.function
     (subst (λ k. Means c.of_restrictions-2.new.session c.in_ok-high.high
     (fixed (take (c.args.level + 1) (order_of c.args.store.now.plan)) k (output_at c.args.store.now.plan.problem.value c.args.output)))
@@ -63,7 +63,7 @@ returns-clause-kept t c =
     let size = length-take 2 (order_of c.args.store.now.plan) in
     keeps_node c.args.store.now c.args.session.now c.of_restrictions.new.session c.of_restrictions-2.new.session c.make.new.session c.args.level
     c.args.path c.in_ok-low.low c.in_ok-high.high c.args.output c.of_restrictions.ensures.kept c.of_restrictions-2.ensures.kept
-    (c.of_restrictions.ensures.made.follows.store ∙ c.requires.session.same) c.of_restrictions-2.ensures.made.follows c.make.ensures.follows
+    (c.of_restrictions.ensures.made.follows.store ∙ c.requires.session.same) c.of_restrictions-2.ensures.made.follows c.make.ensures.goes_on.follows
     c.make.ensures.made c.order.ensures.plan.order.order (omega arith) c.requires.path c.requires.output c.in_ok-low.ensures.made.function
     (subst (λ k. Means c.of_restrictions-2.new.session c.in_ok-high.high
     (fixed (take (c.args.level + 1) (order_of c.args.store.now.plan)) k (output_at c.args.store.now.plan.problem.value c.args.output)))

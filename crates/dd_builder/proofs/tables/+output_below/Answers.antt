@@ -17,7 +17,7 @@ returns-then-from-order-clause-made t c =
     let is : IsOrder (length (order_of c.args.store.now.plan)) (order_of c.args.store.now.plan) =
     subst (λ xs. IsOrder (length xs) xs) order c.variables-order.ensures.order in
     let past : length (order_of c.args.store.now.plan) ≤ c.args.path.level = omega (arith, ap length same) in
-    let at = point_whole (order_of c.args.store.now.plan) c.args.path.level c.args.path.bits c.args.path.point past c.requires.point in
+    let at = point_whole (order_of c.args.store.now.plan) c.args.path.level c.args.path.bits c.args.path.point past c.requires.path.point in
     record {
       follows = stays c.args.session.now;
       full = tt;
@@ -38,12 +38,12 @@ returns-clause-made t c =
     subst (λ xs. IsOrder (length xs) xs) order c.variables-order.ensures.order in
     let inside : c.args.path.level < levels_of c.args.store.now.plan = omega (arith, ap length (c.variables-order.ensures.value ∙ order)) in
     let on = follows_trans _ _ _ c.output_below.ensures.made.follows c.output_below-2.ensures.made.follows in
-    makes_node _ _ _ c.args.store.now c.make.result _ _ _ on c.make.ensures.follows (on.store ∙ c.requires.session) c.make.ensures.function
+    makes_node _ _ _ c.args.store.now c.make.result _ _ _ _ _ on c.make.ensures.goes_on (on.store ∙ c.requires.session) c.make.ensures.node
     c.make.ensures.full (λ id m.
     restricted_node c.args.store.now c.output_below.new.session c.output_below-2.new.session c.make.new.session c.args.path.level c.args.path.bits
     c.in_ok-low.low c.in_ok-high.high id (output_at c.args.store.now.plan.problem.value c.args.output)
-    (c.output_below.ensures.made.follows.store ∙ c.requires.session) c.output_below-2.ensures.made.follows c.make.ensures.follows is inside
-    c.requires.bits c.in_ok-low.ensures.made.function
+    (c.output_below.ensures.made.follows.store ∙ c.requires.session) c.output_below-2.ensures.made.follows c.make.ensures.goes_on.follows is inside
+    c.requires.path.bits c.in_ok-low.ensures.made.function
     (subst (λ k. Means c.output_below-2.new.session c.in_ok-high.high
     (fixed (take (c.args.path.level + 1) (order_of c.args.store.now.plan)) k (output_at c.args.store.now.plan.problem.value c.args.output)))
     (path_up 32 c.args.path.level c.args.path.bits _ (omega arith) refl) c.in_ok-high.ensures.made.function) m)
@@ -57,7 +57,7 @@ output_below-requires t c =
     let size = ap length (c.variables-order.ensures.value ∙ c.order.ensures.value) in
     let is : IsOrder (length (order_of b)) (order_of b) =
     subst (λ xs. IsOrder (length xs) xs) c.order.ensures.value c.variables-order.ensures.order in
-    let small = path_small c.args.path.level c.args.path.bits c.requires.bits in (
+    let small = path_small c.args.path.level c.args.path.bits c.requires.path.bits in (
       omega arith,
       (
         c.requires.session,
@@ -65,10 +65,11 @@ output_below-requires t c =
           c.requires.tables,
           (
             c.requires.output,
-            (
-              omega arith,
-              (omega arith, point_low (order_of b) is c.args.path.level c.args.path.bits c.args.path.point c.requires.bits c.requires.point),
-            ),
+            record {
+              level = omega arith;
+              bits = omega arith;
+              point = point_low (order_of b) is c.args.path.level c.args.path.bits c.args.path.point c.requires.path.bits c.requires.path.point;
+            },
           ),
         ),
       ),
@@ -83,7 +84,7 @@ output_below-requires-2 t c =
     let x = get_or c.variables-order.result.now c.from-2.result 0 in
     let now = bit_or c.args.path.point (1 * 2 ^ x % 4294967296) in
     let up = path_up 32 c.args.path.level c.args.path.bits _ (omega arith) refl in
-    let small = path_small c.args.path.level c.args.path.bits c.requires.bits in (
+    let small = path_small c.args.path.level c.args.path.bits c.requires.path.bits in (
       omega arith,
       (
         c.output_below.ensures.made.follows.store ∙ c.requires.session,
@@ -91,16 +92,14 @@ output_below-requires-2 t c =
           c.requires.tables,
           (
             c.requires.output,
-            (
-              omega arith,
-              (
-                subst (λ k. k < 2 ^ (c.args.path.level + 1)) (sym up) small,
-                subst (λ k. IsPointAbove (order_of c.args.store.now.plan) (c.args.path.level + 1) k now) (sym up)
-                    (point_high (order_of c.args.store.now.plan) is c.args.path.level c.args.path.bits c.args.path.point x now
-                    (omega arith) (omega arith) c.requires.bits
-                    (ap₂ (λ xs k. get_or xs k 0) same c.from-2.ensures) c.requires.point refl),
-              ),
-            ),
+            record {
+              level = omega arith;
+              bits = subst (λ k. k < 2 ^ (c.args.path.level + 1)) (sym up) small;
+              point = subst (λ k. IsPointAbove (order_of c.args.store.now.plan) (c.args.path.level + 1) k now) (sym up)
+                  (point_high (order_of c.args.store.now.plan) is c.args.path.level c.args.path.bits c.args.path.point x now
+                  (omega arith) (omega arith) c.requires.path.bits
+                  (ap₂ (λ xs k. get_or xs k 0) same c.from-2.ensures) c.requires.path.point refl);
+            },
           ),
         ),
       ),
@@ -114,8 +113,9 @@ returns-clause-kept t c =
     let inside : c.args.path.level < levels_of c.args.store.now.plan = omega (arith, ap length (c.variables-order.ensures.value ∙ order)) in
     keeps_node c.args.store.now c.args.session.now c.output_below.new.session c.output_below-2.new.session c.make.new.session c.args.path.level
     c.args.path.bits c.in_ok-low.low c.in_ok-high.high c.args.output c.output_below.ensures.kept c.output_below-2.ensures.kept
-    (c.output_below.ensures.made.follows.store ∙ c.requires.session) c.output_below-2.ensures.made.follows c.make.ensures.follows c.make.ensures.made is inside
-    c.requires.bits (subst (λ (z : TruthTables). c.args.output < outputs_of z) c.requires.tables c.requires.output)
+    (c.output_below.ensures.made.follows.store ∙ c.requires.session) c.output_below-2.ensures.made.follows c.make.ensures.goes_on.follows
+    c.make.ensures.made is inside
+    c.requires.path.bits (subst (λ (z : TruthTables). c.args.output < outputs_of z) c.requires.tables c.requires.output)
     c.in_ok-low.ensures.made.function
     (subst (λ k. Means c.output_below-2.new.session c.in_ok-high.high
     (fixed (take (c.args.path.level + 1) (order_of c.args.store.now.plan)) k (output_at c.args.store.now.plan.problem.value c.args.output)))

@@ -10,11 +10,15 @@ use Rattle.dd_builder.proofs.tables.restriction.Goals as goal
 pub returns-clause-made : goal.returns-clause-made
 returns-clause-made c = grind (arith, restriction_piece, one_shl, makes_same, stays)
 
-pub output_below-requires-clause-point : goal.output_below-requires-clause-point
-output_below-requires-clause-point c =
+pub output_below-requires-clause-path : goal.output_below-requires-clause-path
+output_below-requires-clause-path c =
     let bits = c.args.piece % (1 * 2 ^ c.top_variables-level.result % 18446744073709551616) in
     let small : bits < 2 ^ c.top_variables-level.result =
     (let p = pow_pos c.top_variables-level.result in
     subst (λ k. c.args.piece % k < 2 ^ c.top_variables-level.result) (sym (one_shl c.top_variables-level.result 64 (omega arith))) (omega (arith, p))) in
-    point_above (order_of c.args.store.now.plan) c.top_variables-level.result bits c.point_of-point.result small
-    (subst (λ xs. IsPointOf xs bits c.point_of-point.result) (c.variables-order.ensures.value ∙ c.order.ensures.value) c.point_of-point.ensures)
+    record {
+      level = grind arith;
+      bits = small;
+      point = point_above (order_of c.args.store.now.plan) c.top_variables-level.result bits c.point_of-point.result small
+          (subst (λ xs. IsPointOf xs bits c.point_of-point.result) (c.variables-order.ensures.value ∙ c.order.ensures.value) c.point_of-point.ensures);
+    }

@@ -1,10 +1,10 @@
-use Rattle.std.proofs.Common.{ℕ, ◌<◌, ◌∙◌, subst, arith}
+use Rattle.std.proofs.Common.{ℕ, ◌+◌, ◌*◌, ◌<◌, ◌∙◌, subst, arith}
 use Rattle.node_words.specs.Nodes.{home}
 use Rattle.node_words.proofs.Growing.{grows_refl, node_grows}
 use Rattle.node_words.proofs.Making.{one_more, full_for}
 use Rattle.unique_table.specs.Plans.{levels_of}
-use Rattle.unique_table.proofs.Puts.{gains_none, gains_again}
-use Rattle.unique_table.proofs.Steps.{gains_both}
+use Rattle.unique_table.proofs.Puts.{gains_none}
+use Rattle.unique_table.proofs.Steps.{searches_on}
 use Rattle.unique_table.proofs.words.find_or_put.Goals as goal
 
 pub loop-passed-init : goal.loop-passed-init
@@ -12,18 +12,16 @@ loop-passed-init c = grind (arith, grows_refl, gains_none)
 
 pub loop-passed-preserved : goal.loop-passed-preserved
 loop-passed-preserved c = let i = c.loop-passed.invariant in record {
-  seat = c.take.ensures.seat;
-  gains = gains_both c.args.seat.now.me.0 c.loop-passed.seat.me.0 c.take.new.seat.me.0 i.gains c.take.ensures.gains;
-  made = gains_again c.args.seat.now.me.0.made c.loop-passed.seat.me.0.made c.take.new.seat.me.0.made c.args.word i.made c.take.ensures.made;
+  searches = searches_on c.args.shared.now c.args.seat.now c.loop-passed.seat c.take.new.seat c.args.word (2 * c.loop-passed.passed) 2
+      (2 * (c.loop-passed.passed + 1)) (omega arith) i.searches c.take.ensures.searches;
   word = record {
     some = i.word.some;
     node = node_grows (levels_of c.args.shared.now.key) c.loop-passed.seat.me.0.seen c.take.new.seat.me.0.seen c.args.word
-        c.take.ensures.gains.nodes i.word.node;
+        c.take.ensures.searches.view.nodes i.word.node;
   };
   before = one_more c.loop-passed.seat.me.0.seen c.take.new.seat.me.0.seen c.args.places c.args.word c.loop-passed.passed
-      c.probe-place.result c.take.ensures.gains.nodes i.before
+      c.probe-place.result c.take.ensures.searches.view.nodes i.before
       (c.probe-place.ensures.is c.args.word c.start-start.ensures.is) c.if-take.ensures.found;
-  steps = omega arith;
   writes = c.if-take.ensures.writes ∙ i.writes;
 }
 
@@ -33,7 +31,7 @@ returns-clause-full c =
     full_for c.loop-passed.seat.me.0.seen c.args.places c.args.word c.loop-passed.passed within
     (omega arith) c.loop-passed.invariant.before
 
-pub returns-then-take-clause-made : goal.returns-then-take-clause-made
-returns-then-take-clause-made c =
-    gains_again c.args.seat.now.me.0.made c.loop-passed.seat.me.0.made c.take.new.seat.me.0.made c.args.word
-    c.loop-passed.invariant.made c.take.ensures.made
+pub returns-then-take-clause-searches : goal.returns-then-take-clause-searches
+returns-then-take-clause-searches c =
+    searches_on c.args.shared.now c.args.seat.now c.loop-passed.seat c.take.new.seat c.args.word (2 * c.loop-passed.passed) 2
+    (2 * c.args.places) (omega arith) c.loop-passed.invariant.searches c.take.ensures.searches

@@ -1,4 +1,4 @@
-use Rattle.unique_table.proofs.Opened.{goes_step, unique_ids}
+use Rattle.unique_table.proofs.Opened.{goes_step}
 use Rattle.unique_table.proofs.store.Store.collect.Goals as goal
 
 pub returns-then-word-eq0-clause-step : goal.returns-then-word-eq0-clause-step
@@ -10,9 +10,3 @@ pub returns-clause-step : goal.returns-clause-step
 returns-clause-step c =
     goes_step c.self.inside c.session.inside c.args.self.now c.args.session.now c.self.view_is c.session.view_is c.self.invariant
     c.session.invariant c.requires.session c.collect-word.new.seat 0 c.collect-word.ensures.step
-
-pub returns-then-word-eq0-clause-unique : goal.returns-then-word-eq0-clause-unique
-returns-then-word-eq0-clause-unique c = unique_ids c.self.inside c.self.invariant c.collect-word.new.seat c.collect-word.ensures.step.seat
-
-pub returns-clause-unique : goal.returns-clause-unique
-returns-clause-unique c = unique_ids c.self.inside c.self.invariant c.collect-word.new.seat c.collect-word.ensures.step.seat

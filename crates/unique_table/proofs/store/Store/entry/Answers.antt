@@ -1,5 +1,5 @@
 use Rattle.unique_table.specs.Sessions.{Follows}
-use Rattle.unique_table.proofs.Opened.{seated, goes_step, small_id, entry_means, entry_depth, unique_ids}
+use Rattle.unique_table.proofs.Opened.{seated, goes_step, small_id, entry_means, entry_depth}
 use Rattle.unique_table.proofs.store.Store.entry.Goals as goal
 
 pub entry_key-key-requires-clause-first : goal.entry_key-key-requires-clause-first
@@ -38,9 +38,3 @@ returns-clause-level c =
     c.session.invariant c.requires.session c.args.second c.requires.known.1)
     c.recall-word.ensures.found c.entry_key-key.ensures c.if-word-key.false k
     (on.knows c.args.first c.requires.known.0) (on.knows c.args.second c.requires.known.1)
-
-pub returns-then-word-key-clause-unique : goal.returns-then-word-key-clause-unique
-returns-then-word-key-clause-unique c = unique_ids c.self.inside c.self.invariant c.recall-word.new.seat c.recall-word.ensures.step.seat
-
-pub returns-clause-unique : goal.returns-clause-unique
-returns-clause-unique c = unique_ids c.self.inside c.self.invariant c.recall-word.new.seat c.recall-word.ensures.step.seat

@@ -1,7 +1,7 @@
 use Rattle.node_words.proofs.Functions.{function_terminal}
 use Rattle.unique_table.specs.Plans.{order_of}
 use Rattle.unique_table.specs.Sessions.{Follows}
-use Rattle.unique_table.proofs.Opened.{seated, seat_of, goes_step, unique_ids}
+use Rattle.unique_table.proofs.Opened.{seated, goes_step, goes_nowhere, one_step}
 use Rattle.unique_table.proofs.Parts.{has_parts}
 use Rattle.unique_table.proofs.store.Store.node.Goals as goal
 
@@ -10,10 +10,16 @@ returns-then-id-lt2-clause-constant c =
     λ p. function_terminal (order_of c.session.inside.seat.me.0.plan) c.session.inside.seat.me.0.seen c.session.invariant.good.nodes
     c.args.id c.if-id-lt2.true p
 
-pub returns-clause-follows : goal.returns-clause-follows
-returns-clause-follows c =
+pub returns-then-id-lt2-clause-goes_on : goal.returns-then-id-lt2-clause-goes_on
+returns-then-id-lt2-clause-goes_on c =
+    goes_nowhere c.self.inside c.session.inside c.args.self.now c.args.session.now c.self.view_is c.session.view_is c.self.invariant
+    c.session.invariant c.requires.session 1
+
+pub returns-clause-goes_on : goal.returns-clause-goes_on
+returns-clause-goes_on c =
+    one_step c.args.session.now (seated c.look-word.new.seat) 0
     (goes_step c.self.inside c.session.inside c.args.self.now c.args.session.now c.self.view_is c.session.view_is c.self.invariant
-    c.session.invariant c.requires.session c.look-word.new.seat 0 c.look-word.ensures.step).follows
+    c.session.invariant c.requires.session c.look-word.new.seat 0 c.look-word.ensures.step)
 
 pub returns-clause-parts : goal.returns-clause-parts
 returns-clause-parts c =
@@ -23,9 +29,3 @@ returns-clause-parts c =
     has_parts (seated c.look-word.new.seat) c.look-word.ensures.step.view.good.nodes c.args.id c.if-id-lt2.false
     (on.knows c.args.id c.requires.known) c.look-word.result c.look-word.ensures.found c.node_parts.result
     c.node_parts.ensures.level c.node_parts.ensures.low c.node_parts.ensures.high
-
-pub returns-then-id-lt2-clause-unique : goal.returns-then-id-lt2-clause-unique
-returns-then-id-lt2-clause-unique c = search (unique_ids, seat_of)
-
-pub returns-clause-unique : goal.returns-clause-unique
-returns-clause-unique c = unique_ids c.self.inside c.self.invariant c.look-word.new.seat c.look-word.ensures.step.seat
