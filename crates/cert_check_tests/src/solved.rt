@@ -5,7 +5,7 @@ ghost use Rattle.std.specs.Prelude.{◌≡◌, ◌<◌, ◌≤◌, length};
 use crate::plain::Plain;
 use crate::sixteen::tables_of;
 use cert_check::{Verdict, check, check_alone};
-use certificate::Certificate;
+use certificate::{Certificate, CertificateParts};
 use order_model::{ListedCell, NoGate, Pairs, VarIx, Workers};
 use order_solve::{Preparation, Solution, solve};
 use sifting::laws::diagrams_have_their_problems_tables;
@@ -164,18 +164,22 @@ fn changed(
     format: u8,
 ) -> Certificate {
     let problem = solved.tables.problem();
-    let (inputs, outputs) = (problem.inputs(), problem.outputs());
     let best = &solved.solution.optimum;
-    let order = best.order.variables().to_vec(alloc).expect(rt, "memory");
-    let levels = best.levels.to_vec(alloc).expect(rt, "memory");
-    let cells = changed_cells(rt, alloc, &solved.solution.cells, places, cost);
-    let made = if format == 1 {
-        Certificate::new(inputs, outputs, order, levels, best.total, cells)
+    let pairs = if format == 1 {
+        None
     } else {
-        let pairs = solved.pairs.to_vec(alloc).expect(rt, "memory");
-        Certificate::new2(inputs, outputs, order, levels, best.total, pairs, cells)
+        Some(solved.pairs.to_vec(alloc).expect(rt, "memory"))
     };
-    made.expect(rt, "a spelling")
+    Certificate::from_parts(CertificateParts {
+        inputs: problem.inputs(),
+        outputs: problem.outputs(),
+        order: best.order.variables().to_vec(alloc).expect(rt, "memory"),
+        levels: best.levels.to_vec(alloc).expect(rt, "memory"),
+        total: best.total,
+        pairs,
+        cells: changed_cells(rt, alloc, &solved.solution.cells, places, cost),
+    })
+    .expect(rt, "a spelling")
 }
 
 /// Whether the solver's certificate is valid.

@@ -2,7 +2,7 @@
 use Rattle.std.proofs.Common.{◌≡◌, ℕ, ◌+◌, ◌-◌, ◌^◌, ◌≤◌, ◌<◌, refl, sym, ◌∙◌, ap, subst, Bool, true, false, cond, ◌==◌, inl, inr, ◌⊎◌, List, [], ◌∷◌, ◌++◌, length, map, take, drop, get_or, codes, Option, None, Some, arith, lit<}
 use Rattle.std.specs.List.{AllByRecursion, AllPairs, flat_map}
 use Rattle.std.specs.Fmt.{digits}
-use Rattle.std.proofs.lemmas.List.{length-map, length-take, length-append, append-nil, take-append-drop}
+use Rattle.std.proofs.lemmas.List.{length-map, length-take, length-append, append-nil, nil_from_length, take-append-drop}
 use Rattle.std.proofs.lemmas.List.Elements.{All-from_recursion}
 use Rattle.std.proofs.lemmas.List.Splits.{join_with_byte-slice_split}
 use mathlib.Core.List.{append_assoc}
@@ -78,14 +78,10 @@ all_are_taken count text none =
     grind (arith, length-append) in
     let bound = none_behind count text none in
     let no_lines : drop count lines ≡ [] = empty_lines (drop count lines) (omega arith) in
-    let no_rest : b.0 ≡ [] = empty b.0 (omega arith) in grind (arith, append-nil, joined_back) where
+    let no_rest : b.0 ≡ [] = nil_from_length b.0 (omega arith) in grind (arith, append-nil, joined_back) where
       empty_lines : (ls : List (List ℕ)) → length (with_feeds ls) ≡ 0 → ls ≡ []
       empty_lines [] e = refl
       empty_lines (l ∷ ls) e = absurd (omega (arith, no_more l ls))
-
-      empty : (xs : List ℕ) → length xs ≡ 0 → xs ≡ []
-      empty [] e = refl
-      empty (x ∷ xs) e = absurd (omega arith)
 
 -- a pass in parts
 pass_split : (js ks : List LineTest) (ws : List (List (List ℕ))) → Pass (js ++ ks) ws →
@@ -233,10 +229,6 @@ faultless text none =
       both_empty : (xs ys : List (ℕ × LineFault)) → xs ++ ys ≡ [] → (xs ≡ []) × (ys ≡ [])
       both_empty [] ys e = (refl, e)
       both_empty (x ∷ xs) ys e = absurd (cc e)
-
-      empty : (xs : List (List (List ℕ))) → length xs ≡ 0 → xs ≡ []
-      empty [] e = refl
-      empty (x ∷ xs) e = absurd (omega arith)
 
 -- a text has a fault, or is a spelling
 pub spelled_or_faulty : (text : List ℕ) → ((cert : Certificate) × Spells text cert) ⊎ ((line : ℕ) × (fault : LineFault) × FirstCertFault text line fault)

@@ -1,14 +1,15 @@
 -- What the tests of a certificate's parts say.
-use Rattle.std.proofs.Common.{◌≡◌, ℕ, ◌-◌, ◌^◌, ◌<◌, ◌≤◌, refl, ap, Bool, true, ◌&&◌, nat_lt, List, [], ◌∷◌, length, map, Option, None, Some, arith}
+use Rattle.std.proofs.Common.{◌≡◌, ℕ, ◌-◌, ◌^◌, ◌<◌, ◌≤◌, refl, Bool, true, ◌&&◌, nat_lt, List, [], ◌∷◌, length, map, Option, None, Some, Vec, Global, ◌⊎◌, inl, inr, arith}
 use Rattle.std.specs.List.{AllByRecursion, All, AllPairs}
-use Rattle.std.proofs.lemmas.List.{length-map}
+use Rattle.std.proofs.lemmas.List.{length-map, map-id}
 use Rattle.std.proofs.lemmas.List.Elements.{All-from_recursion, recursion_from_All}
 use Rattle.definitions.specs.Pairs.{Pair}
 use Rattle.definitions.specs.Certificates.{Cell}
 use Rattle.definitions.specs.Listed.{listed}
 use Rattle.definitions.specs.declared.listed_cells.ListedCell.{ListedCell}
+use Rattle.certificate.specs.declared.certificate.CertificateParts.{CertificateParts}
 use Rattle.certificate.specs.Spelling.{most_nodes, most_pairs, pair_key, IsPair, IsCell, HasSpelling}
-use Rattle.certificate.specs.Values.{fit, is_above, is_pair_of, is_cell_of, mask_in, value_of, HasPairs}
+use Rattle.certificate.specs.Values.{contents, fit, format_of, is_above, is_pair_of, is_cell_of, mask_in, pairs_in}
 use Rattle.certificate.proofs.Judges.{both_are}
 use Rattle.certificate.proofs.Rising.{RiseFrom, rise_pairs, pairs_rise}
 
@@ -45,21 +46,17 @@ cell_told n c e = grind arith
 cell_tells : (n : ℕ) (c : ListedCell) → IsCell n (listed c) → is_cell_of n c ≡ true
 cell_tells n c is = grind arith
 
-map-same : (ps : List Pair) → map (λ (p : Pair). p) ps ≡ ps
-map-same [] = refl
-map-same (p ∷ ps) = ap (λ xs. p ∷ xs) (map-same ps)
-
 -- pairs that fit, and listed sets
 pub pairs_fit_is : (n : ℕ) (ps : List Pair) → fit (is_pair_of n) pair_key None ps ≡ true →
     All (IsPair n) ps × AllPairs (λ (p q : Pair). pair_key p < pair_key q) ps
 pairs_fit_is n ps e =
-    rw (map-same ps) at (fit_is (λ (p : Pair). p) (is_pair_of n) (IsPair n) pair_key pair_key (λ p. refl) (pair_told n) (pair_tells n) ps e)
+    rw (map-id ps) at (fit_is (λ (p : Pair). p) (is_pair_of n) (IsPair n) pair_key pair_key (λ p. refl) (pair_told n) (pair_tells n) ps e)
 
 pub pairs_is_fit : (n : ℕ) (ps : List Pair) → All (IsPair n) ps → AllPairs (λ (p q : Pair). pair_key p < pair_key q) ps →
     fit (is_pair_of n) pair_key None ps ≡ true
 pairs_is_fit n ps all rise =
-    is_fit (λ (p : Pair). p) (is_pair_of n) (IsPair n) pair_key pair_key (λ p. refl) (pair_told n) (pair_tells n) ps (rw (map-same ps) all)
-    (rw (map-same ps) rise)
+    is_fit (λ (p : Pair). p) (is_pair_of n) (IsPair n) pair_key pair_key (λ p. refl) (pair_told n) (pair_tells n) ps (rw (map-id ps) all)
+    (rw (map-id ps) rise)
 
 pub cells_fit_is : (n : ℕ) (cs : List ListedCell) → fit (is_cell_of n) mask_in None cs ≡ true →
     All (IsCell n) (map listed cs) × AllPairs (λ (a b : Cell). a.mask < b.mask) (map listed cs)
@@ -69,20 +66,23 @@ pub cells_is_fit : (n : ℕ) (cs : List ListedCell) → All (IsCell n) (map list
     AllPairs (λ (a b : Cell). a.mask < b.mask) (map listed cs) → fit (is_cell_of n) mask_in None cs ≡ true
 cells_is_fit n cs all rise = is_fit listed (is_cell_of n) (IsCell n) mask_in (λ c. c.mask) (λ c. refl) (cell_told n) (cell_tells n) cs all rise
 
--- parts that have a spelling, whichever format has the pairs
-pub spelled : (format inputs outputs : ℕ) (order levels : List ℕ) (total : ℕ) (pairs : List Pair) (cells : List ListedCell) → HasPairs format pairs →
-    (1 ≤ inputs) × (inputs ≤ 16) → (1 ≤ outputs) × (outputs ≤ 16) → (length order ≡ inputs) × All (λ x. x ≤ 15) order →
-    (length levels ≡ inputs) × All (λ count. count ≤ most_nodes) levels → total ≤ most_nodes →
-    (length pairs ≤ most_pairs) × (fit (is_pair_of inputs) pair_key None pairs ≡ true) →
-    (length cells ≤ 2 ^ inputs - 1) × (fit (is_cell_of inputs) mask_in None cells ≡ true) →
-    HasSpelling (value_of format inputs outputs order levels total pairs cells)
-spelled format inputs outputs order levels total pairs cells known i o r l t h k =
-    grind (arith, pairs_fit_is, cells_fit_is, length-map)
+format_fits : (pairs : Option (Vec Pair Global)) → ((format_of pairs ≡ 1) × (pairs_in pairs ≡ [])) ⊎ (format_of pairs ≡ 2)
+format_fits None = inl (refl, refl)
+format_fits (Some pairs) = inr refl
 
-module _ (format inputs outputs : ℕ) (order levels : List ℕ) (total : ℕ) (pairs : List Pair) (cells : List ListedCell)
-    (has : HasSpelling (value_of format inputs outputs order levels total pairs cells)) where
-  pub spelled_pairs : (length pairs ≤ most_pairs) × (fit (is_pair_of inputs) pair_key None pairs ≡ true)
-  spelled_pairs = (has.pair_count, pairs_is_fit inputs pairs has.pairs has.pairs_rise)
+-- parts that have a spelling
+module _ (p : CertificateParts) where
+  pub spelled : (1 ≤ p.inputs) × (p.inputs ≤ 16) → (1 ≤ p.outputs) × (p.outputs ≤ 16) → (length p.order.items ≡ p.inputs) × All (λ x. x ≤ 15) p.order.items →
+      (length p.levels.items ≡ p.inputs) × All (λ count. count ≤ most_nodes) p.levels.items → p.total ≤ most_nodes →
+      (length (pairs_in p.pairs) ≤ most_pairs) × (fit (is_pair_of p.inputs) pair_key None (pairs_in p.pairs) ≡ true) →
+      (length p.cells.items ≤ 2 ^ p.inputs - 1) × (fit (is_cell_of p.inputs) mask_in None p.cells.items ≡ true) → HasSpelling (contents p)
+  spelled i o r l t h k = let f = format_fits p.pairs in grind (arith, pairs_fit_is, cells_fit_is, length-map)
 
-  pub spelled_cells : (length cells ≤ 2 ^ inputs - 1) × (fit (is_cell_of inputs) mask_in None cells ≡ true)
-  spelled_cells = let count = has.cell_count in (omega (arith, length-map cells listed), cells_is_fit inputs cells has.cells has.cells_rise)
+  pub spelled_pairs : HasSpelling (contents p) →
+      (length (pairs_in p.pairs) ≤ most_pairs) × (fit (is_pair_of p.inputs) pair_key None (pairs_in p.pairs) ≡ true)
+  spelled_pairs has = (has.pair_count, pairs_is_fit p.inputs (pairs_in p.pairs) has.pairs has.pairs_rise)
+
+  pub spelled_cells : HasSpelling (contents p) →
+      (length p.cells.items ≤ 2 ^ p.inputs - 1) × (fit (is_cell_of p.inputs) mask_in None p.cells.items ≡ true)
+  spelled_cells has =
+      let count = has.cell_count in (omega (arith, length-map p.cells.items listed), cells_is_fit p.inputs p.cells.items has.cells has.cells_rise)

@@ -20,35 +20,31 @@ pub record Taken (number₀ : ℕ) (text : List ℕ) (js : List LineTest) (lines
 pub taken_none : (number : ℕ) (text : List ℕ) → Taken number text [] [] number text
 taken_none number text = record { parts = refl; left = λ ks. refl }
 
--- a line passes what it is asked
-abbrev pub Passes : LineTest → ℕ → List ℕ → ℕ → List ℕ → Type 0
-Passes judge number text after rest =
+-- a line passes what it is asked, and Q holds of its words
+abbrev pub Passes : LineTest → ℕ → List ℕ → ℕ → List ℕ → (List (List ℕ) → Type 0) → Type 0
+Passes judge number text after rest Q =
     (ws : List (List ℕ)) × (said text ≡ ws ∷ said rest) × (judge ws ≡ None)
-    × ((js : List LineTest) → outcome number (judge ∷ js) text ≡ outcome after js rest)
+    × ((js : List LineTest) → outcome number (judge ∷ js) text ≡ outcome after js rest) × Q ws
 
-pub taken_more : {number₀ : ℕ} {text : List ℕ} {js : List LineTest} {lines : List (List (List ℕ))} {number : ℕ} {rest : List ℕ} (judge : LineTest)
-    {after : ℕ} {rest' : List ℕ} → Taken number₀ text js lines number rest → (passes : Passes judge number rest after rest') →
-    Taken number₀ text (js ++ judge ∷ []) (lines ++ passes.0 ∷ []) after rest'
-taken_more {number₀ = number₀} {text = text} {js = js} {lines = lines} judge {rest' = rest'} taken (ws, parts, passes, left) = record {
-  parts = taken.parts ∙ ap (λ xs. lines ++ xs) parts ∙ sym (append_assoc lines (ws ∷ []) (said rest'));
-  left = λ ks. ap (λ all. outcome number₀ all text) (append_assoc js (judge ∷ []) ks) ∙ taken.left (judge ∷ ks) ∙ left ks;
-}
+module _ {number₀ : ℕ} {text : List ℕ} {js : List LineTest} {lines : List (List (List ℕ))} {number : ℕ} {rest : List ℕ}
+    (taken : Taken number₀ text js lines number rest) where
+  pub taken_more : {judge : LineTest} {after : ℕ} {rest' : List ℕ} {Q : List (List ℕ) → Type 0} → (passes : Passes judge number rest after rest' Q) →
+      Taken number₀ text (js ++ judge ∷ []) (lines ++ passes.0 ∷ []) after rest'
+  taken_more {judge = judge} {rest' = rest'} (ws, parts, passes, left, _) = record {
+    parts = taken.parts ∙ ap (λ xs. lines ++ xs) parts ∙ sym (append_assoc lines (ws ∷ []) (said rest'));
+    left = λ ks. ap (λ all. outcome number₀ all text) (append_assoc js (judge ∷ []) ks) ∙ taken.left (judge ∷ ks) ∙ left ks;
+  }
 
--- what is asked of the first six lines, so far as the lines taken say it
-pub head_fails : {number₀ : ℕ} {text : List ℕ} {js : List LineTest} {lines : List (List (List ℕ))} {number : ℕ} {rest : List ℕ} (judge : LineTest)
-    (others : List LineTest) (fault : CertFault) →
-    Taken number₀ text js lines number rest → ((ks : List LineTest) → FailsFirst (outcome number (judge ∷ ks) rest) fault) → (ks : List LineTest) →
-    FailsFirst (outcome number₀ (js ++ (judge ∷ (others ++ ks))) text) fault
-head_fails judge others fault taken asks ks =
-    subst (λ faults. FailsFirst faults fault) (sym (taken.left (judge ∷ (others ++ ks)))) (asks (others ++ ks))
-
--- a refusal of the first six lines, where their number of inputs is known or not asked for
-pub told_fails : (number₀ : ℕ) (text : List ℕ) (after : ℕ) (rest : List ℕ) (n : ℕ) (fault : CertFault) (result : Result Head CertFault) →
-    IsErrAnd result (λ e. e ≡ fault) → inputs_said (said text) ≡ n →
-    ((ks : List LineTest) → FailsFirst (outcome number₀ (head_judges n ++ ks) text) fault) → TakesHead number₀ text after rest result
-told_fails number₀ text after rest n fault (Ok head) is known fails = elim is [ ]
-told_fails number₀ text after rest n fault (Err e) is known fails =
-    rw is (λ ks. subst (λ m. FailsFirst (outcome number₀ (head_judges m ++ ks) text) fault) (sym known) (fails ks))
+  -- the next of the first six lines is refused, where their number of inputs is known or not asked for
+  pub told_fails : (judge : LineTest) (others : List LineTest) (after n : ℕ) (rest' : List ℕ) (fault : CertFault) (result : Result Head CertFault) →
+      IsErrAnd result (λ e. e ≡ fault) → inputs_said (said text) ≡ n → head_judges n ≡ js ++ (judge ∷ others) →
+      ((ks : List LineTest) → FailsFirst (outcome number (judge ∷ ks) rest) fault) → TakesHead number₀ text after rest' result
+  told_fails judge others after n rest' fault (Ok head) is known are fails = elim is [ ]
+  told_fails judge others after n rest' fault (Err e) is known are fails =
+      rw is (λ ks. subst (λ faults. FailsFirst faults fault)
+      (sym (ap (λ m. outcome number₀ (head_judges m ++ ks) text) known ∙ ap (λ all. outcome number₀ (all ++ ks) text) are
+      ∙ ap (λ all. outcome number₀ all text) (append_assoc js (judge ∷ others) ks) ∙ taken.left (judge ∷ (others ++ ks))))
+      (fails (others ++ ks)))
 
 pub head_memory : (number₀ : ℕ) (text : List ℕ) (after : ℕ) (rest : List ℕ) (fault : CertFault) (result : Result Head CertFault) →
     IsErrAnd result (λ e. e ≡ fault) → fault ≡ found.OutOfMemory → TakesHead number₀ text after rest result

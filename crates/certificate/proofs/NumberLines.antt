@@ -1,5 +1,5 @@
 -- Lines of numbers.
-use Rattle.std.proofs.Common.{◌≡◌, ℕ, ◌+◌, ◌<◌, refl, sym, ◌∙◌, ap, Bool, true, false, ◌==◌, inl, inr, ◌⊎◌, List, [], ◌∷◌, ◌++◌, length, map, None, Some, Result, Ok, Err, IfOk, IfErr, arith, append_assoc}
+use Rattle.std.proofs.Common.{◌≡◌, ℕ, ◌+◌, ◌<◌, ◌≤◌, refl, sym, ◌∙◌, ap, Bool, true, false, ◌==◌, inl, inr, ◌⊎◌, List, [], ◌∷◌, ◌++◌, length, map, get_or, None, Some, Result, Ok, Err, IfOk, IfErr, arith, append_assoc}
 use Rattle.std.specs.List.{list_all}
 use Rattle.std.specs.Result.{IsErrAnd}
 use Rattle.certificate.specs.declared.faults.LineFault.TheVariants.{BadLine, BadNumber}
@@ -9,7 +9,7 @@ use Rattle.definitions.specs.Texts.{same, number_of}
 use Rattle.certificate.specs.Faults.{words, is_decimal, field_fault}
 use Rattle.certificate.specs.Parsing.{Lacks, Cuts, Asks}
 use Rattle.certificate.specs.Decoded.{numbers_of}
-use Rattle.certificate.proofs.Judges.{same_self}
+use Rattle.certificate.proofs.Judges.{same_self, field_is, one_number}
 use Rattle.certificate.proofs.Outcomes.{said_first, step, stop}
 use Rattle.certificate.proofs.LineWords.{cut_words, whole_word}
 
@@ -77,3 +77,11 @@ asked_numbers items name count most number after text line rest digits (Err faul
 asked_numbers items name count most number after text line rest digits (Err fault) cuts next is many numbers all (inr (bad, some)) =
     rw bad (λ js. stop number (field_fault name count 0 most) js text line rest BadNumber cuts
     (field_bad name count most (words line) (words digits) is many some))
+
+-- the number of a line that passes is in bounds
+pub asked_within : (name : List ℕ) (least most number after : ℕ) (text rest : List ℕ) (result : Result ℕ CertFault) →
+    Asks (field_fault name 1 least most) number text after rest (λ ws v. v ≡ number_of (get_or ws 1 [])) result →
+    IfOk result (λ v. (least ≤ v) × (v ≤ most))
+asked_within name least most number after text rest (Ok v) (ws, parts, passes, left, is) =
+    rw is (one_number name least most ws (field_is name 1 least most ws passes)).1
+asked_within name least most number after text rest (Err fault) asks = record {}

@@ -1,5 +1,5 @@
 -- How the faults of a text follow from its first line and the lines after it.
-use Rattle.std.proofs.Common.{◌≡◌, ℕ, ◌+◌, ◌<◌, suc, refl, ◌∙◌, ap, false, ◌==◌, List, [], ◌∷◌, ◌++◌, length, map, None, Some, Result, Ok, Err, IfErr, arith}
+use Rattle.std.proofs.Common.{◌≡◌, ℕ, ◌+◌, ◌<◌, suc, refl, ◌∙◌, ap, false, ◌==◌, List, [], ◌∷◌, ◌++◌, length, map, None, Some, Result, Ok, Err, IfErr, inl, inr, arith}
 use Rattle.std.specs.List.{AllByRecursion}
 use Rattle.std.specs.Result.{IsErrAnd}
 use Rattle.std.proofs.lemmas.List.{length-append}
@@ -7,9 +7,10 @@ use Rattle.std.proofs.lemmas.List.Elements.{recursion_from_All}
 use Rattle.certificate.specs.declared.faults.LineFault.{LineFault}
 use Rattle.certificate.specs.declared.faults.LineFault.TheVariants.{MissingLine, TrailingText}
 use Rattle.certificate.specs.declared.faults.CertFault.{CertFault}
-use Rattle.certificate.specs.declared.faults.CertFault.TheVariants as found
 use Rattle.certificate.specs.Faults.{LineTest, words, said, whole_lines, line_faults}
-use Rattle.certificate.specs.Parsing.{Lacks, Cuts, FailsFirst, Asks, trailing_from, outcome}
+use Rattle.certificate.specs.Parsing.{Lacks, Cuts, FailsFirst, Says, trailing_from, outcome}
+use Rattle.certificate.specs.Reading.{LineRead, ReadsLine, TakesLine}
+use Rattle.certificate.specs.declared.reader.Lines.{Lines}
 use Rattle.certificate.proofs.WordLines.{HasNoFeed, line_first, no_line}
 
 has_none : (text : List ℕ) → AllByRecursion (λ b. (b == 10) ≡ false) text → HasNoFeed text
@@ -60,21 +61,28 @@ pub trailing_text : (number : ℕ) (text : List ℕ) → 0 < length text →
 unfolding outcome line_faults
 trailing_text number text some = grind arith
 
--- what taking a line tells
-pub asked_missing : {V : Type 0} (judge : LineTest) (number after : ℕ) (text rest' : List ℕ) (P : List (List ℕ) → V → Type 0)
-    (fault : CertFault) (result : Result V CertFault) →
-    IsErrAnd result (λ e. e ≡ fault) → Lacks 10 text →
-    fault ≡ found.Line number MissingLine → Asks judge number text after rest' P result
-asked_missing judge number after text rest' P fault (Ok value) is lacks e = elim is [ ]
-asked_missing judge number after text rest' P fault (Err given) is lacks e = rw (is ∙ e) (λ js. missing number judge js text lacks)
+-- what taking a line tells, by what its reader says
+module _ {V : Type 0} (judge : LineTest) (P : List (List ℕ) → V → Type 0) (reads : List ℕ → Result V LineFault → Type 0) (old new : Lines) where
+  asked_by : (result : Result V CertFault) → LineRead reads old new result →
+      ((line : List ℕ) (r : Result V LineFault) → reads line r → Says judge line (P (words line)) r) → TakesLine judge old new P result
+  asked_by (Ok value) (line, cuts, next, read) told =
+      let says = told line (Ok value) read in (
+        words line,
+        said_first _ line _ cuts,
+        says.0,
+        λ js. rw next (step old.number judge js _ line _ cuts says.0),
+        says.1,
+      )
+  asked_by (Err fault) (inl (is, lacks)) told = rw is (λ js. missing old.number judge js _ lacks)
+  asked_by (Err fault) (inr (line, wrong, cuts, is, read)) told =
+      rw is (λ js. stop old.number judge js _ line _ wrong cuts (told line (Err wrong) read))
 
--- a missing line, where one alone is asked for
-pub only_missing : {V : Type 0} (judge : LineTest) (number : ℕ) (text : List ℕ) (fault : CertFault) (result : Result V CertFault) →
-    IsErrAnd result (λ e. e ≡ fault) → Lacks 10 text → fault ≡ found.Line number MissingLine →
-    IfErr result (FailsFirst (outcome number (judge ∷ []) text))
-only_missing judge number text fault (Ok value) is lacks e = elim is [ ]
-only_missing judge number text fault (Err given) is lacks e = rw (is ∙ e) (missing number judge [] text lacks)
+  pub asked : (result : Result V CertFault) → ReadsLine reads old new result →
+      ((line : List ℕ) (r : Result V LineFault) → reads line r → Says judge line (P (words line)) r) → TakesLine judge old new P result
+  asked result r told = asked_by result r.read told
 
-pub no_bytes : (text : List ℕ) → length text ≡ 0 → text ≡ []
-no_bytes [] e = refl
-no_bytes (b ∷ text) e = absurd (omega arith)
+-- a refusal is handed on
+pub only_fails : {V : Type 0} (faults : List (ℕ × LineFault)) (fault : CertFault) (result : Result V CertFault) →
+    IsErrAnd result (λ e. e ≡ fault) → FailsFirst faults fault → IfErr result (FailsFirst faults)
+only_fails faults fault (Ok value) is fails = elim is [ ]
+only_fails faults fault (Err given) is fails = rw is fails

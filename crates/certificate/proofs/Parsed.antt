@@ -10,9 +10,23 @@ use Rattle.certificate.specs.Spelling.{HasSpelling, spelling}
 use Rattle.certificate.specs.Faults.{said, number_said, inputs_said, head_judges, judges, trailing, faults}
 use Rattle.certificate.specs.Decoded.{cert_of}
 use Rattle.certificate.specs.Parsing.{FailsFirst, outcome}
-use Rattle.certificate.specs.Heads.{TakesHead, TakesBody, FailsToParse, body_judges, parts_of, most_bytes}
+use Rattle.certificate.specs.Heads.{TakesHead, TakesBody, FailsToParse, body_judges, most_bytes}
+use Rattle.certificate.specs.Values.{contents}
+use Rattle.certificate.specs.declared.certificate.CertificateParts.{CertificateParts}
 use Rattle.certificate.proofs.Spelled.{by_parts}
 use Rattle.certificate.proofs.Faultless.{Faultless, faultless}
+
+-- the parts that are read
+abbrev pub parts_read : Head → Option (Vec Pair Global) → Vec ListedCell Global → CertificateParts
+parts_read head pairs cells = record {
+  inputs = head.inputs;
+  outputs = head.outputs;
+  order = head.order;
+  levels = head.levels;
+  total = head.total;
+  pairs = pairs;
+  cells = cells;
+}
 
 faults_are : (text : List ℕ) → outcome 1 (head_judges (inputs_said (said text)) ++ body_judges (said text)) text ≡ faults text
 unfolding outcome faults trailing judges
@@ -22,6 +36,11 @@ refuses : (text : List ℕ) (fault : CertFault) → length text ≤ most_bytes �
 refuses text (found.Line number fault) short (others, first) = (short, record { others = others; first = first })
 refuses text found.TooLong short fails = elim fails [ ]
 refuses text found.OutOfMemory short fails = tt
+
+-- lines that are taken from the first one on
+pub from_start : {number : ℕ} {given text : List ℕ} (after : ℕ) (rest : List ℕ) (result : Result Head CertFault) → number ≡ 1 → given ≡ text →
+    TakesHead number given after rest result → TakesHead 1 text after rest result
+from_start after rest result one same takes = rw one at (rw same at takes)
 
 pub head_refused : {V : Type 0} (text : List ℕ) (after : ℕ) (rest : List ℕ) (fault : CertFault) (result : Result V CertFault) →
     IsErrAnd result (λ e. e ≡ fault) → length text ≤ most_bytes → TakesHead 1 text after rest (Err fault) → IfErr result (FailsToParse text)
@@ -49,14 +68,14 @@ module _ (text : List ℕ) (after : ℕ) (rest : List ℕ) (head : Head) (takes 
     stated : Faultless text
     stated = faultless text (behind ∙ (body takes.1 takes.3 format_here inputs_here).0)
 
-    pub parts_are : parts_of head pairs cells.items ≡ cert_of (said text)
+    pub parts_are : contents (parts_read head pairs cells) ≡ cert_of (said text)
     parts_are =
         let b = body takes.1 takes.3 format_here inputs_here in let h = takes.0 in
         by_parts _ _ _ _ _ _ _ _ _ _ _ _ _ _ _ _ (b.1 ∙ h.format) h.inputs h.outputs h.order h.levels h.total
         (b.2 ∙ ap (λ ws. (cert_of ws).pairs) (sym takes.2)) (b.3 ∙ ap (λ ws. (cert_of ws).cells) (sym takes.2))
 
-    pub parts_spelled : HasSpelling (parts_of head pairs cells.items)
+    pub parts_spelled : HasSpelling (contents (parts_read head pairs cells))
     parts_spelled = rw parts_are stated.has
 
-    pub text_spelled : text ≡ spelling (parts_of head pairs cells.items)
+    pub text_spelled : text ≡ spelling (contents (parts_read head pairs cells))
     text_spelled = rw parts_are stated.text_is

@@ -72,14 +72,17 @@ module _ {E : Type 0} (read : List (List ℕ) → E) (key_of : E → ℕ) (name 
       (entry_judges is_entry key (pre ++ said text₀) (length pre + 1) (((length pre + 1) + i) + 1) ((count - i) - 1) ++ js)) rest
   with_next number₀ text₀ count i last items number rest r more pre js = grind (arith, next_judges, rises_is)
 
-  pub reached_fails : (number₀ : ℕ) (text₀ : List ℕ) (count i : ℕ) (last : Option ℕ) (items : List E) (number : ℕ) (rest : List ℕ)
-      (after : ℕ) (rest' : List ℕ) (P : List (List ℕ) → E → Type 0) (fault : CertFault) →
+  -- an entry is refused
+  pub reached_fails : {V : Type 0} (items_of : V → List E) {number₀ : ℕ} {text₀ : List ℕ} {count i : ℕ} {last : Option ℕ} {items : List E}
+      {number : ℕ} {rest : List ℕ} (after : ℕ) (rest' : List ℕ) (fault : CertFault) (result : Result V CertFault) → IsErrAnd result (λ e. e ≡ fault) →
       Reached number₀ text₀ count i last items number rest → i < count →
-      Asks {V = E} (entry_fault is_entry (λ a b. is_above last (key a b))) number rest after rest' P (Err fault) →
-      (pre : List (List (List ℕ))) (js : List LineTest) →
-      FailsFirst (outcome number₀ (section_judges name most is_entry key (pre ++ said text₀) (length pre) ++ js) text₀) fault
-  reached_fails number₀ text₀ count i last items number rest after rest' P fault r more asks pre js =
-      subst (λ faults. FailsFirst faults fault) (sym (with_next number₀ text₀ count i last items number rest r more pre js)) (asks _)
+      ((js : List LineTest) → FailsFirst (outcome number (entry_fault is_entry (λ a b. is_above last (key a b)) ∷ js) rest) fault) →
+      TakesSection name most is_entry key read items_of number₀ text₀ after rest' result
+  reached_fails items_of after rest' fault (Ok v) is r more asks = elim is [ ]
+  reached_fails items_of {number₀ = number₀} {text₀ = text₀} {count = count} {i = i} {last = last} {items = items} {number = number} {rest = rest} after rest'
+      fault (Err e) is r more asks =
+      rw is (λ pre js. subst (λ faults. FailsFirst faults fault)
+      (sym (with_next number₀ text₀ count i last items number rest r more pre js)) (asks _))
 
   -- one entry more
   pub reached_more : (number₀ : ℕ) (text₀ : List ℕ) (count i : ℕ) (last : Option ℕ) (items : List E) (number : ℕ) (rest : List ℕ)
@@ -127,11 +130,11 @@ module _ {E : Type 0} (read : List (List ℕ) → E) (key_of : E → ℕ) (name 
             ∙ ap (λ n. outcome after (entry_judges is_entry key (pre ++ said text₀) (length pre + 1) ((length pre + 1) + (i + 1)) n ++ js) rest') less
 
   -- all entries are taken
-  pub reached_all : {V : Type 0} (items_of : V → List E) (v : V) (number₀ : ℕ) (text₀ : List ℕ) (count i : ℕ) (last : Option ℕ) (number : ℕ)
-      (rest : List ℕ) →
+  pub reached_all : {V : Type 0} (items_of : V → List E) (v : V) {number₀ : ℕ} {text₀ : List ℕ} {count i : ℕ} {last : Option ℕ} {number : ℕ}
+      {rest : List ℕ} →
       Reached number₀ text₀ count i last (items_of v) number rest → count ≤ i → i ≤ count →
       TakesSection name most is_entry key read items_of number₀ text₀ number rest (Ok v)
-  reached_all items_of v number₀ text₀ count i last number rest r low high pre =
+  reached_all items_of v {number₀ = number₀} {text₀ = text₀} {count = count} {i = i} {number = number} {rest = rest} r low high pre =
       ((λ js. whole js), r.head ∷ r.es, r.parts, long, said_here) where
         ws : List (List (List ℕ))
         ws = pre ++ said text₀

@@ -3,19 +3,18 @@
 --     TakesHead number text after rest result      the first six lines of a text are taken
 --     TakesBody format n number text result      all lines after them are taken
 --     FailsToParse text fault      why a text is refused
-use Rattle.std.specs.Prelude.{◌≡◌, ℕ, ◌<◌, ◌≤◌, ◌⊎◌, List, [], ◌∷◌, ◌++◌, length, map, get_or, codes, Option, Some, None, Result, Ok, Err}
+use Rattle.std.specs.Prelude.{◌≡◌, ℕ, ◌<◌, ◌≤◌, ◌⊎◌, List, [], ◌∷◌, ◌++◌, length, map, get_or, codes, Option, Result, Ok, Err}
 use Rattle.std.specs.Global.{Global}
 use Rattle.std.specs.Prelude.{Vec}
 use Rattle.definitions.specs.Pairs.{Pair}
 use Rattle.definitions.specs.Listed.{listed}
 use Rattle.definitions.specs.declared.listed_cells.ListedCell.{ListedCell}
 use Rattle.certificate.specs.declared.parsing.Head.{Head}
-use Rattle.definitions.specs.Certificates.{Certificate}
 use Rattle.certificate.specs.declared.faults.CertFault.{CertFault}
 use Rattle.certificate.specs.declared.faults.CertFault.TheVariants as found
 use Rattle.certificate.specs.Faults.{FirstCertFault, LineTest, said, number_said, inputs_said, head_judges, pairs_judges, cells_judges, fixed_fault}
 use Rattle.certificate.specs.Decoded.{numbers_of, cells_place, cert_of}
-use Rattle.certificate.specs.Values.{format_of, value_of}
+use Rattle.certificate.specs.Values.{format_of, pairs_in}
 use Rattle.certificate.specs.Parsing.{FailsFirst, outcome}
 
 -- the parts that the words of the lines give
@@ -54,11 +53,6 @@ TakesSets n number text (Err fault) = (pre : List (List (List ℕ))) → length 
     FailsFirst (outcome number (cells_judges (pre ++ said text) (cells_place (pre ++ said text))
     ++ fixed_fault (codes "end" ∷ []) ∷ []) text) fault
 
--- the pairs that may be there, and the format: format 1 has none
-abbrev pub pairs_in : Option (Vec Pair Global) → List Pair
-pairs_in None = []
-pairs_in (Some pairs) = pairs.items
-
 -- what stands after six lines that say a format and a number of inputs is taken to its end, or the first fault is told
 abbrev pub TakesBody : ℕ → ℕ → ℕ → List ℕ → Result (Option (Vec Pair Global) × Vec ListedCell Global) CertFault → Type 0
 TakesBody format n number text (Ok parts) =
@@ -71,11 +65,6 @@ TakesBody format n number text (Err fault) =
     (pre : List (List (List ℕ))) → length pre ≡ 6 → number_said (pre ++ said text) 0 ≡ format →
     inputs_said (pre ++ said text) ≡ n →
     FailsFirst (outcome number (body_judges (pre ++ said text)) text) fault
-
--- the parts of a certificate, as they are read
-abbrev pub parts_of : Head → Option (Vec Pair Global) → List ListedCell → Certificate
-parts_of head pairs cells = value_of
-    (format_of pairs) head.inputs head.outputs head.order.items head.levels.items head.total (pairs_in pairs) cells
 
 -- the longest text
 abbrev pub most_bytes : ℕ

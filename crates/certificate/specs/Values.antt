@@ -1,14 +1,16 @@
 -- A certificate's parts, as the program holds them.
 --     value_of format inputs outputs order levels total pairs cells      the certificate of its parts
---     HasPairs format pairs      whether the format may have the pairs
+--     contents parts      the certificate of parts that the program holds
 --     each_spaced ns      numbers after spaces
 --     fit is key before es      whether entries are of a kind, and their keys rise
-use Rattle.std.specs.Prelude.{◌≡◌, ◌⊎◌, ℕ, ◌^◌, ◌-◌, Bool, true, ◌&&◌, nat_lt, nat_le, List, [], ◌∷◌, map, Option, Some, None, decimal}
+use Rattle.std.specs.Prelude.{ℕ, ◌^◌, ◌-◌, Bool, true, ◌&&◌, nat_lt, nat_le, List, [], ◌∷◌, map, Option, Some, None, Vec, decimal}
 use Rattle.std.specs.List.{flat_map}
+use Rattle.std.specs.Global.{Global}
 use Rattle.definitions.specs.Pairs.{Pair}
 use Rattle.definitions.specs.Certificates.{Certificate}
 use Rattle.definitions.specs.Listed.{listed}
 use Rattle.definitions.specs.declared.listed_cells.ListedCell.{ListedCell}
+use Rattle.certificate.specs.declared.certificate.CertificateParts.{CertificateParts}
 use Rattle.certificate.specs.Spelling.{most_nodes}
 
 -- the certificate of its parts
@@ -30,9 +32,15 @@ abbrev pub format_of : {A : Type 0} → Option A → ℕ
 format_of None = 1
 format_of (Some pairs) = 2
 
--- the pairs that a format may have: format 1 has none
-abbrev pub HasPairs : ℕ → List Pair → Type 0
-HasPairs format pairs = ((format ≡ 1) × (pairs ≡ [])) ⊎ (format ≡ 2)
+-- the pairs that are there: format 1 has none
+abbrev pub pairs_in : Option (Vec Pair Global) → List Pair
+pairs_in None = []
+pairs_in (Some pairs) = pairs.items
+
+-- the certificate of its parts, as the program holds them
+abbrev pub contents : CertificateParts → Certificate
+contents p =
+    value_of (format_of p.pairs) p.inputs p.outputs p.order.items p.levels.items p.total (pairs_in p.pairs) p.cells.items
 
 -- whether a key is above one that may have come before
 abbrev pub is_above : Option ℕ → ℕ → Bool

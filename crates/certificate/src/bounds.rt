@@ -3,8 +3,9 @@
 ghost use Rattle.std.specs.Prelude.{◌≡◌, ◌≤◌, ◌^◌, ◌-◌, ◌↔◌, ℕ, None, IsTrue, IsFalse, length};
 ghost use Rattle.std.specs.List.{All};
 ghost use Rattle.certificate.specs.Spelling.{HasSpelling, most_nodes, most_pairs, pair_key};
-ghost use Rattle.certificate.specs.Values.{fit, is_above as above, is_cell_of, is_pair_of, mask_in, value_of, HasPairs};
+ghost use Rattle.certificate.specs.Values.{contents, fit, is_above as above, is_cell_of, is_pair_of, mask_in};
 
+use crate::certificate::CertificateParts;
 use order_model::{ListedCell, VarIx};
 
 /// The largest cost, level count and total.
@@ -114,40 +115,29 @@ fn cells_fit(n: u8, cells: &[ListedCell]) -> bool
     cells.len() <= sets_below_all(n) as usize && cells_rise(n, cells)
 }
 
-/// Whether parts have a spelling; the pairs are none in format 1.
-pub(crate) fn have_spelling(
-    inputs: u8,
-    outputs: u8,
-    order: &[VarIx],
-    levels: &[u32],
-    total: u32,
-    pairs: &[(VarIx, VarIx)],
-    cells: &[ListedCell],
-) -> bool
-    ensures spelled { IsTrue result → (format : ℕ) → HasPairs format pairs.now →
-        HasSpelling
-        (value_of format inputs outputs order.now levels.now total pairs.now cells.now) }
-    ensures unspelled { IsFalse result → (format : ℕ) →
-        HasSpelling
-        (value_of format inputs outputs order.now levels.now total pairs.now cells.now) → ⊥ }
+/// Whether parts have a spelling.
+pub(crate) fn have_spelling(parts: &CertificateParts) -> bool
+    ensures spelled { IsTrue result → HasSpelling (contents parts.now) }
+    ensures unspelled { IsFalse result → HasSpelling (contents parts.now) → ⊥ }
 {
-    if !count_fits(inputs) {
+    let n = parts.inputs;
+    if !count_fits(n) {
         return false;
     }
-    if !count_fits(outputs) {
+    if !count_fits(parts.outputs) {
         return false;
     }
-    if !order_fits(inputs, order) {
+    if !order_fits(n, &parts.order) {
         return false;
     }
-    if !levels_fit(inputs, levels) {
+    if !levels_fit(n, &parts.levels) {
         return false;
     }
-    if total > MOST_NODES {
+    if parts.total > MOST_NODES {
         return false;
     }
-    if !pairs_fit(inputs, pairs) {
+    if !pairs_fit(n, parts.kept_pairs()) {
         return false;
     }
-    cells_fit(inputs, cells)
+    cells_fit(n, &parts.cells)
 }

@@ -3,45 +3,76 @@
 ghost use Rattle.std.specs.Prelude.{◌≡◌, [], map, IfSome, IfNone};
 ghost use Rattle.definitions.specs.Listed.{listed};
 ghost use Rattle.certificate.specs.Spelling.{HasSpelling};
-ghost use Rattle.certificate.specs.Values.{value_of};
+ghost use Rattle.certificate.specs.Values.{contents, pairs_in, value_of};
 
 use crate::bounds::have_spelling;
 use order_model::{ListedCell, VarIx};
 use std::marker::Model;
+
+/// The parts of a certificate. Format 1 has no pairs, and format 2 may have an empty list.
+#[derive(Debug, Drop)]
+pub struct CertificateParts {
+    /// The number of inputs.
+    pub inputs: u8,
+    /// The number of outputs.
+    pub outputs: u8,
+    /// The order, top first.
+    pub order: Vec<VarIx>,
+    /// The level counts, top first.
+    pub levels: Vec<u32>,
+    /// The number of nodes.
+    pub total: u32,
+    /// The pairs (a, b) of variables, of which a has to stand above b.
+    pub pairs: Option<Vec<(VarIx, VarIx)>>,
+    /// The listed sets with their costs.
+    pub cells: Vec<ListedCell>,
+}
+
+impl CertificateParts {
+    /// The pairs, none in format 1.
+    pub(crate) fn kept_pairs(&self) -> &[(VarIx, VarIx)]
+        ensures { result.now ≡ pairs_in self.now.pairs }
+    {
+        match &self.pairs {
+            None => &[],
+            Some(pairs) => pairs,
+        }
+    }
+}
 
 /// A certificate: an order with its level counts and their total, and the least costs of sets of
 /// variables by which a checker sees that no order that keeps the pairs has fewer nodes. It has a
 /// spelling.
 #[derive(Debug, Drop)]
 pub struct Certificate {
-    inputs: u8,
-    outputs: u8,
-    order: Vec<VarIx>,
-    levels: Vec<u32>,
-    total: u32,
-    // format 1 has none
-    pairs: Option<Vec<(VarIx, VarIx)>>,
-    cells: Vec<ListedCell>,
+    parts: CertificateParts,
 }
 
 impl Model for Certificate {
-    ghost use Rattle.std.specs.Prelude.{[], unwrap_or};
-    ghost use Rattle.std.specs.Option.{option_map};
     ghost use Rattle.definitions.specs.Certificates.{Certificate as Contents};
     ghost use Rattle.certificate.specs.Spelling.{HasSpelling};
-    ghost use Rattle.certificate.specs.Values.{value_of, format_of};
+    ghost use Rattle.certificate.specs.Values.{contents};
 
     ghost Value = { Contents };
 
-    ghost view = { λ c. value_of (format_of c.pairs) c.inputs c.outputs c.order.items c.levels.items
-        c.total (unwrap_or (option_map (λ v. v.items) c.pairs) []) c.cells.items };
+    ghost view = { λ c. contents c.parts };
 
-    ghost invariant = { λ c. HasSpelling
-        (value_of (format_of c.pairs) c.inputs c.outputs c.order.items c.levels.items c.total
-        (unwrap_or (option_map (λ v. v.items) c.pairs) []) c.cells.items) };
+    ghost invariant = { λ c. HasSpelling (contents c.parts) };
 }
 
 impl Certificate {
+    /// The certificate of its parts, of which pairs rise by first and then second variable, and
+    /// listed sets by mask. `None` if the format has no spelling for it.
+    pub fn from_parts(parts: CertificateParts) -> Option<Certificate>
+        ensures some { IfSome result (λ c. c ≡ contents parts) }
+        ensures none { IfNone result (HasSpelling (contents parts) → ⊥) }
+    {
+        if !have_spelling(&parts) {
+            return None;
+        }
+        Some(Certificate { parts })
+    }
+
     /// A certificate in format 1, which has no pairs. `None` if the format has no spelling for it.
     pub fn new(
         inputs: u8,
@@ -57,10 +88,7 @@ impl Certificate {
             (HasSpelling
             (value_of 1 inputs outputs order.items levels.items total [] cells.items) → ⊥) }
     {
-        if !have_spelling(inputs, outputs, &order, &levels, total, &[], &cells) {
-            return None;
-        }
-        Some(Certificate {
+        Certificate::from_parts(CertificateParts {
             inputs,
             outputs,
             order,
@@ -90,10 +118,7 @@ impl Certificate {
             (value_of 2 inputs outputs order.items levels.items total pairs.items
             cells.items) → ⊥) }
     {
-        if !have_spelling(inputs, outputs, &order, &levels, total, &pairs, &cells) {
-            return None;
-        }
-        Some(Certificate {
+        Certificate::from_parts(CertificateParts {
             inputs,
             outputs,
             order,
@@ -108,7 +133,7 @@ impl Certificate {
     pub fn format(&self) -> u8
         ensures { result ≡ self.now.format }
     {
-        match self.pairs {
+        match self.parts.pairs {
             None => 1,
             Some(_) => 2,
         }
@@ -118,35 +143,35 @@ impl Certificate {
     pub fn inputs(&self) -> u8
         ensures { result ≡ self.now.inputs }
     {
-        self.inputs
+        self.parts.inputs
     }
 
     /// The number of outputs.
     pub fn outputs(&self) -> u8
         ensures { result ≡ self.now.outputs }
     {
-        self.outputs
+        self.parts.outputs
     }
 
     /// The order, top first; whether it has each variable once is for the checker to say.
     pub fn order(&self) -> &[VarIx]
         ensures { result.now ≡ self.now.order }
     {
-        &self.order
+        &self.parts.order
     }
 
     /// The level counts, top first.
     pub fn levels(&self) -> &[u32]
         ensures { result.now ≡ self.now.levels }
     {
-        &self.levels
+        &self.parts.levels
     }
 
     /// The number of nodes.
     pub fn total(&self) -> u32
         ensures { result ≡ self.now.total }
     {
-        self.total
+        self.parts.total
     }
 
     /// The pairs (a, b) of variables, of which a has to stand above b, rising; none in format 1.
@@ -155,10 +180,7 @@ impl Certificate {
         ensures pairs { result.now ≡ self.now.pairs }
         ensures spelled { HasSpelling self.now }
     {
-        match &self.pairs {
-            None => &[],
-            Some(pairs) => pairs,
-        }
+        self.parts.kept_pairs()
     }
 
     /// The listed sets with their costs, by rising mask. The certificate has a spelling, which
@@ -167,6 +189,6 @@ impl Certificate {
         ensures cells { map listed result.now ≡ self.now.cells }
         ensures spelled { HasSpelling self.now }
     {
-        &self.cells
+        &self.parts.cells
     }
 }

@@ -12,7 +12,7 @@ mod reader;
 mod texts;
 mod words;
 
-pub use certificate::Certificate;
+pub use certificate::{Certificate, CertificateParts};
 pub use faults::{CertFault, LineFault};
 pub use order_certificates::certificate_text;
 pub use parsing::MOST_BYTES;

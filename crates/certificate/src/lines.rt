@@ -1,6 +1,6 @@
 //! What each line of a certificate's text says.
 
-ghost use Rattle.std.specs.Prelude.{◌≡◌, ◌≤◌, ◌∷◌, ℕ, [], codes, get_or, length, Some, IfSome, IfNone, IfOk};
+ghost use Rattle.std.specs.Prelude.{◌≡◌, ◌≤◌, ◌∷◌, ℕ, [], codes, get_or, length, Some, IfSome, IfNone};
 ghost use Rattle.certificate.specs.declared.faults.LineFault.TheVariants.{BadLine};
 ghost use Rattle.certificate.specs.Spelling.{most_nodes};
 ghost use Rattle.definitions.specs.Texts.{number_of};
@@ -31,9 +31,8 @@ fn two_words(line: &[u8]) -> Option<(&[u8], &[u8])>
 /// The number of a line of a fixed word and a number.
 pub(crate) fn number_line(line: &[u8], name: &[u8], least: u32, most: u32) -> Result<u32, LineFault>
     requires { most ≤ most_nodes }
-    ensures says { Says (field_fault name.now 1 least most) line.now
+    ensures { Says (field_fault name.now 1 least most) line.now
         (λ value. value ≡ number_of (get_or (words line.now) 1 [])) result }
-    ensures within { IfOk result (λ value. (least ≤ value) × (value ≤ most)) }
 {
     let Some((word, digits)) = two_words(line) else {
         return Err(LineFault::BadLine);

@@ -7,7 +7,7 @@ ghost use Rattle.definitions.specs.Listed.{listed};
 ghost use Rattle.definitions.specs.Problems.{functions};
 ghost use Rattle.order_model.specs.SizedOrders.{HasItsSize};
 
-use crate::certificate::Certificate;
+use crate::certificate::{Certificate, CertificateParts};
 use crate::laws::orders_have_certificates;
 use order_model::{ListedCell, Pairs, Problem, SizedOrder};
 use std::alloc::{AllocError, Global};
@@ -36,15 +36,16 @@ pub fn certificate_text(
     orders_have_certificates();
     let order = found.order.variables().to_vec(alloc)?;
     let kept = pairs.to_vec(alloc)?;
-    match Certificate::new2(
+    let parts = CertificateParts {
         inputs,
         outputs,
         order,
-        found.levels,
-        found.total,
-        kept,
+        levels: found.levels,
+        total: found.total,
+        pairs: Some(kept),
         cells,
-    ) {
+    };
+    match Certificate::from_parts(parts) {
         Some(cert) => cert.text(alloc),
         None => unreachable!(),
     }

@@ -3,12 +3,12 @@
 ghost use Rattle.std.specs.Prelude.{◌≡◌, ◌+◌, ◌^◌, ◌<◌, ◌≤◌, ◌⊎◌, IfOk, IfErr, IfSome, IfNone, length};
 ghost use Rattle.std.specs.List.{All};
 ghost use Rattle.certificate.specs.declared.faults.CertFault.TheVariants.{OutOfMemory};
-ghost use Rattle.certificate.specs.Heads.{FailsToParse, TakesBody, TakesHead, TakesSets, most_bytes, parts_of};
+ghost use Rattle.certificate.specs.Heads.{FailsToParse, TakesBody, TakesHead, TakesSets, most_bytes};
 ghost use Rattle.certificate.specs.Reading.{FitsCount, StaysWithin};
 ghost use Rattle.certificate.specs.Spelling.{HasSpelling, spelling};
 
 use crate::bounds::MOST_NODES;
-use crate::certificate::Certificate;
+use crate::certificate::{Certificate, CertificateParts};
 use crate::faults::CertFault;
 use crate::reader::{Lines, add};
 use order_model::{ListedCell, VarIx};
@@ -98,29 +98,6 @@ fn read_body(
     Ok((Some(pairs), cells))
 }
 
-/// The certificate of what was read.
-fn certificate_of(
-    head: Head,
-    pairs: Option<Vec<(VarIx, VarIx)>>,
-    cells: Vec<ListedCell>,
-) -> Option<Certificate>
-    ensures some { IfSome result (λ cert. cert ≡ parts_of head pairs cells.items) }
-    ensures none { IfNone result (HasSpelling (parts_of head pairs cells.items) → ⊥) }
-{
-    let Head {
-        format: _,
-        inputs,
-        outputs,
-        order,
-        levels,
-        total,
-    } = head;
-    match pairs {
-        None => Certificate::new(inputs, outputs, order, levels, total, cells),
-        Some(pairs) => Certificate::new2(inputs, outputs, order, levels, total, pairs, cells),
-    }
-}
-
 impl Certificate {
     /// The certificate whose spelling a text of at most 1,048,576 bytes is, in either format, or
     /// why there is none. Time and memory are linear in the text.
@@ -135,7 +112,16 @@ impl Certificate {
         let mut lines = Lines::of(text);
         let head = read_head(alloc, &mut lines)?;
         let (pairs, cells) = read_body(alloc, &mut lines, head.format, head.inputs)?;
-        match certificate_of(head, pairs, cells) {
+        let parts = CertificateParts {
+            inputs: head.inputs,
+            outputs: head.outputs,
+            order: head.order,
+            levels: head.levels,
+            total: head.total,
+            pairs,
+            cells,
+        };
+        match Certificate::from_parts(parts) {
             Some(cert) => Ok(cert),
             None => unreachable!(),
         }

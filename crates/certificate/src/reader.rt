@@ -1,15 +1,16 @@
 //! The lines of a text, one after another.
 
-ghost use Rattle.std.specs.Prelude.{◌≡◌, ◌+◌, ◌-◌, ◌^◌, ◌<◌, ◌≤◌, ◌⊎◌, ◌++◌, ◌∷◌, [], true, false, codes, get_or, length, map, IfOk, IfErr, OnOk};
+ghost use Rattle.std.specs.Prelude.{◌≡◌, ◌+◌, ◌-◌, ◌^◌, ◌<◌, ◌≤◌, ◌⊎◌, ◌++◌, ◌∷◌, [], true, false, codes, get_or, length, map, IfOk, IfErr, IfNone, IfSome, OnOk};
+ghost use Rattle.std.specs.Fn.{FnOnceReturnsAt};
 ghost use Rattle.std.specs.List.{list_all};
 ghost use Rattle.certificate.specs.declared.faults.CertFault.TheVariants.{Line, OutOfMemory};
-ghost use Rattle.certificate.specs.declared.faults.LineFault.TheVariants.{BadNumber, MissingLine};
+ghost use Rattle.certificate.specs.declared.faults.LineFault.TheVariants.{BadNumber};
 ghost use Rattle.definitions.specs.Listed.{listed};
 ghost use Rattle.certificate.specs.Decoded.{numbers_of, read_pair, read_cell};
 ghost use Rattle.definitions.specs.Texts.{number_of};
 ghost use Rattle.certificate.specs.Faults.{cell_key_of, entry_fault, field_fault, fixed_fault, is_cell, is_decimal, is_pair, pair_key_of, title_fault, words};
 ghost use Rattle.certificate.specs.Parsing.{Cuts, FailsFirst, Lacks, outcome};
-ghost use Rattle.certificate.specs.Reading.{FitsCount, StaysWithin, TakesEntries, TakesLine};
+ghost use Rattle.certificate.specs.Reading.{FitsCount, ReadsLine, StaysWithin, TakesEntries, TakesLine};
 ghost use Rattle.certificate.specs.Spelling.{most_nodes, most_pairs};
 ghost use Rattle.certificate.specs.Values.{is_above as above};
 
@@ -86,20 +87,34 @@ impl<'a> Lines<'a> {
     }
 
     /// Takes the next line.
-    fn next(&mut self) -> Result<&'a [u8], CertFault>
+    fn next(&mut self) -> Option<&'a [u8]>
         requires { FitsCount self.old }
-        ensures line { IfOk result (λ line. Cuts 10 self.old.rest.now line.now self.new.rest.now) }
-        ensures number { IfOk result (λ _. self.new.number ≡ self.old.number + 1) }
-        ensures fault { IfErr result (λ fault. fault ≡ Line self.old.number MissingLine) }
-        ensures none { IfErr result (λ _. Lacks 10 self.old.rest.now) }
+        ensures line { IfSome result (λ line. Cuts 10 self.old.rest.now line.now self.new.rest.now) }
+        ensures number { IfSome result (λ _. self.new.number ≡ self.old.number + 1) }
+        ensures none { IfNone result (Lacks 10 self.old.rest.now) }
         ensures bound { StaysWithin self.old self.new }
     {
-        let Some((line, rest)) = cut(self.rest, b'\n') else {
-            return Err(CertFault::Line(self.number, LineFault::MissingLine));
-        };
+        let (line, rest) = cut(self.rest, b'\n')?;
         self.rest = rest;
         self.number += 1;
-        Ok(line)
+        Some(line)
+    }
+
+    /// Takes the next line as `read` reads it, whose fault gets the line's number.
+    fn take<V, F: FnOnce(&[u8]) -> Result<V, LineFault>>(&mut self, read: F) -> Result<V, CertFault>
+        requires small { FitsCount self.old }
+        requires readable { F.IsAlwaysCallable read }
+        ensures line { ReadsLine (FnOnceReturnsAt F.FnOnce read) self.old self.new result }
+        ensures bound { StaysWithin self.old self.new }
+    {
+        let number = self.number;
+        let Some(line) = self.next() else {
+            return Err(CertFault::Line(number, LineFault::MissingLine));
+        };
+        match read(line) {
+            Ok(value) => Ok(value),
+            Err(fault) => Err(CertFault::Line(number, fault)),
+        }
     }
 
     /// Takes a line of a fixed word and a number.
@@ -111,12 +126,7 @@ impl<'a> Lines<'a> {
         ensures within { IfOk result (λ value. (least ≤ value) × (value ≤ most)) }
         ensures bound { StaysWithin self.old self.new }
     {
-        let number = self.number;
-        let line = self.next()?;
-        match number_line(line, name, least, most) {
-            Ok(value) => Ok(value),
-            Err(fault) => Err(CertFault::Line(number, fault)),
-        }
+        self.take(|line| number_line(line, name, least, most))
     }
 
     /// Takes the first line, which says the format.
@@ -126,45 +136,7 @@ impl<'a> Lines<'a> {
             (λ ws format. format ≡ number_of (get_or ws 1 [])) result }
         ensures bound { StaysWithin self.old self.new }
     {
-        let number = self.number;
-        let line = self.next()?;
-        match title_line(line) {
-            Ok(format) => Ok(format),
-            Err(fault) => Err(CertFault::Line(number, fault)),
-        }
-    }
-
-    /// Takes the line of a pair, whose key is above one that may have come before.
-    fn pair(&mut self, n: u8, last: Option<u32>) -> Result<(VarIx, VarIx), CertFault>
-        requires small { FitsCount self.old }
-        requires some { 1 ≤ n }
-        requires few { n ≤ 16 }
-        ensures line { TakesLine (entry_fault (is_pair n) (λ a b. above last (pair_key_of a b)))
-            self.old self.new (λ ws pair. pair ≡ read_pair ws) result }
-        ensures bound { StaysWithin self.old self.new }
-    {
-        let number = self.number;
-        let line = self.next()?;
-        match pair_line(line, n, last) {
-            Ok(pair) => Ok(pair),
-            Err(fault) => Err(CertFault::Line(number, fault)),
-        }
-    }
-
-    /// Takes the line of a listed set, whose mask is above one that may have come before.
-    fn cell(&mut self, n: u8, last: Option<u32>) -> Result<ListedCell, CertFault>
-        requires small { FitsCount self.old }
-        requires few { n ≤ 16 }
-        ensures line { TakesLine (entry_fault (is_cell n) (λ a b. above last (cell_key_of a b)))
-            self.old self.new (λ ws cell. listed cell ≡ read_cell ws) result }
-        ensures bound { StaysWithin self.old self.new }
-    {
-        let number = self.number;
-        let line = self.next()?;
-        match cell_line(line, n, last) {
-            Ok(cell) => Ok(cell),
-            Err(fault) => Err(CertFault::Line(number, fault)),
-        }
+        self.take(title_line)
     }
 
     /// Takes the last line, after which nothing follows.
@@ -176,12 +148,7 @@ impl<'a> Lines<'a> {
             (FailsFirst (outcome self.old.number (fixed_fault (codes "end" ∷ []) ∷ [])
             self.old.rest.now)) }
     {
-        let number = self.number;
-        let line = self.next()?;
-        match end_line(line) {
-            Ok(()) => {}
-            Err(fault) => return Err(CertFault::Line(number, fault)),
-        }
+        self.take(end_line)?;
         if !self.rest.is_empty() {
             return Err(CertFault::Line(self.number, LineFault::TrailingText));
         }
@@ -204,7 +171,9 @@ impl<'a> Lines<'a> {
         ensures bound { StaysWithin self.old self.new }
     {
         let number = self.number;
-        let line = self.next()?;
+        let Some(line) = self.next() else {
+            return Err(CertFault::Line(number, LineFault::MissingLine));
+        };
         let Some(digits) = behind_name(line, name, count) else {
             return Err(CertFault::Line(number, LineFault::BadLine));
         };
@@ -224,7 +193,7 @@ impl<'a> Lines<'a> {
         let mut pairs = Vec::new(alloc);
         let mut last = None;
         while pairs.len() < count as usize {
-            let pair = self.pair(n, last)?;
+            let pair = self.take(|line| pair_line(line, n, last))?;
             last = Some(key_of_pair(pair.0, pair.1));
             add(&mut pairs, pair)?;
         }
@@ -243,7 +212,7 @@ impl<'a> Lines<'a> {
         let mut cells = Vec::new(alloc);
         let mut last = None;
         while cells.len() < count as usize {
-            let cell = self.cell(n, last)?;
+            let cell = self.take(|line| cell_line(line, n, last))?;
             last = Some(u32::from(cell.mask));
             add(&mut cells, cell)?;
         }

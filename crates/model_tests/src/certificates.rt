@@ -1,6 +1,6 @@
 //! Certificates and their texts.
 
-use certificate::Certificate;
+use certificate::{Certificate, CertificateParts};
 use order_model::{ListedCell, VarIx};
 use std::alloc::Global;
 use std::process::Abort;
@@ -38,16 +38,19 @@ type Parts = (
 /// A certificate of parts, in format 1 if they have no list of pairs.
 fn certificate_of(rt: &impl Abort, alloc: Global, parts: &Parts) -> Option<Certificate> {
     let ((inputs, outputs), order, levels, total, pairs, cells) = parts;
-    let order = order.to_vec(alloc).expect(rt, "memory");
-    let levels = levels.to_vec(alloc).expect(rt, "memory");
-    let cells = cells.to_vec(alloc).expect(rt, "memory");
-    match pairs {
-        None => Certificate::new(*inputs, *outputs, order, levels, *total, cells),
-        Some(pairs) => {
-            let pairs = pairs.to_vec(alloc).expect(rt, "memory");
-            Certificate::new2(*inputs, *outputs, order, levels, *total, pairs, cells)
-        }
-    }
+    let pairs = match pairs {
+        None => None,
+        Some(pairs) => Some(pairs.to_vec(alloc).expect(rt, "memory")),
+    };
+    Certificate::from_parts(CertificateParts {
+        inputs: *inputs,
+        outputs: *outputs,
+        order: order.to_vec(alloc).expect(rt, "memory"),
+        levels: levels.to_vec(alloc).expect(rt, "memory"),
+        total: *total,
+        pairs,
+        cells: cells.to_vec(alloc).expect(rt, "memory"),
+    })
 }
 
 /// Parts that have a spelling, with it.
@@ -146,4 +149,14 @@ fn other_parts_have_no_spelling(rt: HostRuntime) {
     for parts in &UNSPELLED {
         assert!(rt; certificate_of(&rt, rt.alloc(), parts).is_none());
     }
+}
+
+#[test]
+fn format_2_may_have_no_pairs(rt: HostRuntime) {
+    let alloc = rt.alloc();
+    let order = [0].to_vec(alloc).expect(&rt, "memory");
+    let levels = [1].to_vec(alloc).expect(&rt, "memory");
+    let made = Certificate::new2(1, 1, order, levels, 1, Vec::new(alloc), Vec::new(alloc));
+    let cert = made.expect(&rt, "a spelling");
+    assert!(rt; cert.format() == 2 && cert.pairs().is_empty());
 }

@@ -6,8 +6,8 @@ use Rattle.certificate.specs.Decoded.{read_pair}
 use Rattle.certificate.proofs.Taking.{Reached}
 use Rattle.certificate.proofs.reader.Lines.pairs.Given as goal
 
-abbrev pub invariant-loop-last : goal.invariant-loop-last
-invariant-loop-last l = record {
+abbrev pub invariant-loop-n : goal.invariant-loop-n
+invariant-loop-n l = record {
   reached : Reached read_pair pair_key (codes "pairs") most_pairs (is_pair l.fn.n) pair_key_of (λ a b. refl) l.fn.self.number
       l.fn.self.rest.now l.count (length l.pairs.items) l.last l.pairs.items l.self.number l.self.rest.now;
   few : length l.pairs.items ≤ l.count;
@@ -15,5 +15,5 @@ invariant-loop-last l = record {
   bound : StaysWithin l.fn.self l.self;
 }
 
-abbrev pub decreases-loop-last : goal.decreases-loop-last
-decreases-loop-last l = l.count - length l.pairs.items
+abbrev pub decreases-loop-n : goal.decreases-loop-n
+decreases-loop-n l = l.count - length l.pairs.items

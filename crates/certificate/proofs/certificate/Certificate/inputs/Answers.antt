@@ -1,5 +1,0 @@
-use Rattle.std.proofs.Common.{rules}
-use Rattle.certificate.proofs.certificate.Certificate.inputs.Goals as goal
-
-pub returns : goal.returns
-returns c = search rules
