@@ -13,8 +13,7 @@ use sifting::{Manager, Sifted};
 use std::alloc::Global;
 use std::process::Abort;
 use std::thread::Threads;
-use table_diagrams::reduced_diagram;
-use truth_table::Tables;
+use truth_table::{Tables, reduced_diagram};
 
 /// A set, or a point, with the lower half of the variables exchanged with the upper one.
 fn exchanged(set: u32, inputs: u8) -> u32

@@ -9,8 +9,7 @@ use order_model::{Order, Pairs};
 use sifting::laws::diagrams_have_their_problems_tables;
 use sifting::{Manager, Sifted};
 use std::alloc::{AllocError, Global};
-use table_diagrams::reduced_diagram;
-use truth_table::Tables;
+use truth_table::{Tables, reduced_diagram};
 
 /// The order sifted from one that keeps the pairs.
 pub(crate) fn sifted_from(

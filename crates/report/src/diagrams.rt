@@ -15,7 +15,7 @@ use order_model::{Diagram, NoGate, Order};
 use small_search::is_small;
 use std::alloc::{AllocError, Global};
 use std::thread::Threads;
-use table_diagrams::reduced_diagram;
+use truth_table::reduced_diagram;
 
 /// The level counts of a diagram, one a level of its order.
 fn levels_of(alloc: Global, diagram: &Diagram) -> Result<Vec<u32>, AllocError>

@@ -14,8 +14,7 @@ use std::hint;
 use std::process::Abort;
 use std::sync::atomic::{AtomicU64, Ordering};
 use std::thread::Threads;
-use table_diagrams::reduced_diagram;
-use truth_table::Tables;
+use truth_table::{Tables, reduced_diagram};
 
 static PARITY: &[u8] = b".i 3\n.o 1\n001 1\n010 1\n100 1\n111 1\n.e\n";
 

@@ -7,3 +7,6 @@ pub mod TermWords
 pub mod Cofactors
 pub mod KeptPoints
 pub mod OfCovers
+pub mod Lists
+pub mod Refs
+pub mod Leveled

@@ -6,3 +6,4 @@ pub mod Fixing
 pub mod Numberings
 pub mod Assignments
 pub mod Reduced
+pub mod Levels

@@ -1,7 +1,7 @@
 use Rattle.std.proofs.Common.{◌≡◌, length, take}
 use Rattle.truth_table.specs.Numberings.{pairs_of}
-use Rattle.table_diagrams.specs.Levels.{IsNumbered}
-use Rattle.table_diagrams.proofs.levels.level_above.Given as goal
+use Rattle.truth_table.specs.Levels.{IsNumbered}
+use Rattle.truth_table.proofs.levels.level_above.Given as goal
 
 abbrev pub invariant-loop-j : goal.invariant-loop-j
 invariant-loop-j l = record {

@@ -1,9 +1,9 @@
 use Rattle.std.proofs.Common.{◌≡◌, ◌∷◌, ◌++◌, [], List, cond, sym, ap, ◌∙◌}
 use Rattle.definitions.specs.declared.refs.Node.{Node}
-use Rattle.table_diagrams.specs.Levels.{node_over}
-use Rattle.table_diagrams.proofs.LevelSteps.{ref_found}
-use Rattle.table_diagrams.proofs.levels.number_over.Goals as goal
-use Rattle.table_diagrams.proofs.levels.number_over.Goals.{then-is_new+in_ok-push, else-is_new}
+use Rattle.truth_table.specs.Levels.{node_over}
+use Rattle.truth_table.proofs.Refs.{ref_found}
+use Rattle.truth_table.proofs.levels.number_over.Goals as goal
+use Rattle.truth_table.proofs.levels.number_over.Goals.{then-is_new+in_ok-push, else-is_new}
 
 pub returns : goal.returns
 returns c =

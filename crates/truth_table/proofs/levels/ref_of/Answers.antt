@@ -1,7 +1,7 @@
 use Rattle.std.proofs.Common.{◌≡◌, ◌-◌, sym, ap, arith}
-use Rattle.table_diagrams.specs.Levels.{ref_named}
-use Rattle.table_diagrams.proofs.Leveled.{named_place}
-use Rattle.table_diagrams.proofs.levels.ref_of.Goals as goal
+use Rattle.truth_table.specs.Levels.{ref_named}
+use Rattle.truth_table.proofs.Leveled.{named_place}
+use Rattle.truth_table.proofs.levels.ref_of.Goals as goal
 
 pub returns-in-0 : goal.returns-in-0
 unfolding ref_named

@@ -1,8 +1,8 @@
 use Rattle.std.proofs.Common.{◌≤◌, ◌+◌, length, take}
 use Rattle.definitions.specs.Levels.{reach}
 use Rattle.definitions.specs.Problems.{functions}
-use Rattle.table_diagrams.proofs.Leveled.{Leveled}
-use Rattle.table_diagrams.proofs.building.reduced_diagram.Given as goal
+use Rattle.truth_table.proofs.Leveled.{Leveled}
+use Rattle.truth_table.proofs.diagrams.reduced_diagram.Given as goal
 
 abbrev pub invariant-loop-level : goal.invariant-loop-level
 invariant-loop-level l = record {

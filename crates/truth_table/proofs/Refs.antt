@@ -10,8 +10,8 @@ use Rattle.definitions.specs.Widths.{same_pair}
 use Rattle.definitions.specs.declared.refs.Node.{Node}
 use Rattle.definitions.proofs.Nodes.Appended.{get_left, get_right, get_cases}
 use Rattle.definitions.proofs.Widths.ClassPairs.{pair_decides}
-use Rattle.table_diagrams.proofs.Lists.{same_key}
-use Rattle.table_diagrams.specs.Levels.{IsNumberOf, IsNumbered, Seeks, node_over}
+use Rattle.truth_table.proofs.Lists.{same_key}
+use Rattle.truth_table.specs.Levels.{IsNumberOf, IsNumbered, Seeks, node_over}
 
 -- a set of pairs that a pair is put into
 pub ref_found : (base x : ℕ) (u : ℕ × ℕ) (keys keys' : List (ℕ × ℕ)) (nodes nodes' : List Node) (place : ℕ) (is_new : Bool) → u.0 ≢ u.1 →

@@ -28,8 +28,8 @@ use Rattle.definitions.specs.OrderedGraphs.{OrderedGraph}
 use Rattle.definitions.proofs.Nodes.Reduced.{reduced_levels}
 use Rattle.truth_table.specs.Reduced.{IsDiagramOf}
 use Rattle.truth_table.proofs.LevelSteps.{reach_last, length-reach, few_blocks}
-use Rattle.table_diagrams.specs.Levels.{ref_named, node_over, IsNumberOf, IsNumbered, IsLevelAbove}
-use Rattle.table_diagrams.proofs.Lists.{map_get, get_map, zip_at, zip_from, same_key}
+use Rattle.truth_table.specs.Levels.{ref_named, node_over, IsNumberOf, IsNumbered, IsLevelAbove}
+use Rattle.truth_table.proofs.Lists.{map_get, get_map, zip_at, zip_from, same_key}
 
 same_named : (a b : ℕ) → ref_named a ≡ ref_named b → a ≡ b
 unfolding ref_named

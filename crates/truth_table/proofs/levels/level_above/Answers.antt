@@ -2,9 +2,9 @@ use Rattle.std.proofs.Common.{◌+◌, ◌∷◌, ◌++◌, [], ℕ, List, take,
 use Rattle.std.proofs.lemmas.List.{take_all}
 use Rattle.truth_table.specs.Numberings.{pair_at, pairs_of}
 use Rattle.truth_table.proofs.PairNumbers.{length-pairs_of, pairs_more}
-use Rattle.table_diagrams.specs.Levels.{IsNumbered, Seeks}
-use Rattle.table_diagrams.proofs.LevelSteps.{numbered_step}
-use Rattle.table_diagrams.proofs.levels.level_above.Goals as goal
+use Rattle.truth_table.specs.Levels.{IsNumbered, Seeks}
+use Rattle.truth_table.proofs.Refs.{numbered_step}
+use Rattle.truth_table.proofs.levels.level_above.Goals as goal
 
 pub loop-j-preserved : goal.loop-j-preserved
 loop-j-preserved c =

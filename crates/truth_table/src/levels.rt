@@ -2,7 +2,7 @@
 
 ghost use Rattle.std.specs.Prelude.{◌≡◌, ◌≢◌, ◌+◌, ◌<◌, ◌≤◌, ◌^◌, length, IfOk, map};
 ghost use Rattle.truth_table.specs.Numberings.{pairs_of};
-ghost use Rattle.table_diagrams.specs.Levels.{IsLevelAbove, IsNumbered, node_over, ref_named, Seeks};
+ghost use Rattle.truth_table.specs.Levels.{IsLevelAbove, IsNumbered, node_over, ref_named, Seeks};
 
 use indexmap::IndexSet;
 use order_model::{Node, Ref, VarIx};

@@ -1,14 +1,14 @@
-//! Reduced diagrams of truth tables.
+//! Reduced diagrams of truth tables, made level by level from the bottom, without a store.
 
 ghost use Rattle.std.specs.Prelude.{◌≡◌, length, map, IfOk};
 ghost use Rattle.definitions.specs.Problems.{functions};
 ghost use Rattle.truth_table.specs.Reduced.{IsDiagramOf};
-ghost use Rattle.table_diagrams.specs.Levels.{ref_named};
+ghost use Rattle.truth_table.specs.Levels.{ref_named};
 
 use crate::levels::{level_above, ref_of};
+use crate::tables::Tables;
 use order_model::{Diagram, Order, Ref};
 use std::alloc::{AllocError, Global};
-use truth_table::Tables;
 
 /// The refs with some numbers.
 fn refs_of(alloc: Global, numbers: &[u32]) -> Result<Vec<Ref>, AllocError>
