@@ -8,10 +8,11 @@ ghost use Rattle.definitions.specs.Widths.{class_numbers, width as width_over};
 ghost use Rattle.subfunction_classes.specs.Table.{free_below};
 ghost use Rattle.class_tables.specs.Scratch.{most_entries};
 
-use crate::numbering::{number_pairs_by_index, number_pairs_with_masks};
+use crate::numbering::number_pairs_by_index;
 use crate::scratch::Scratch;
 use compaction::Tally;
 use order_model::{Mask, Problem, VarIx, contains};
+use pair_numbering::{MaskedPairs, number_with_masks};
 use std::alloc::{AllocError, Global};
 use std::marker::Model;
 use subfunction_classes::{count_with, no_dependence, rank_of, value_numbers};
@@ -121,7 +122,8 @@ impl<'a> Classes<'a> {
         ensures scratch { scratch.new ≡ scratch.old }
     {
         let rank = rank_of(self.set, x);
-        let width = scratch.count_joined(&self.numbers, rank, x, &self.masks);
+        let pairs = MaskedPairs::of_table(&self.numbers, rank, x, &self.masks);
+        let width = scratch.count_joined(&pairs);
         tally.add(1);
         width
     }
@@ -149,7 +151,8 @@ impl<'a> Classes<'a> {
         ensures { IfOk result (λ c. c ≡ with_variable self.now x) }
     {
         let rank = rank_of(self.set, x);
-        let numbered = number_pairs_with_masks(alloc, &self.numbers, rank, x, &self.masks)?;
+        let pairs = MaskedPairs::of_table(&self.numbers, rank, x, &self.masks);
+        let numbered = number_with_masks(alloc, &pairs)?;
         Ok(Classes {
             problem: self.problem,
             set: self.set | (1 << x),
@@ -165,7 +168,8 @@ impl<'a> Classes<'a> {
         ensures { IfOk result (λ c. c ≡ with_variable self.now x) }
     {
         let rank = rank_of(self.set, x);
-        let numbered = number_pairs_by_index(alloc, &self.numbers, rank, x, &self.masks)?;
+        let pairs = MaskedPairs::of_table(&self.numbers, rank, x, &self.masks);
+        let numbered = number_pairs_by_index(alloc, &pairs)?;
         Ok(Classes {
             problem: self.problem,
             set: self.set | (1 << x),

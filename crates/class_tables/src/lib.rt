@@ -7,5 +7,5 @@ mod numbering;
 mod scratch;
 
 pub use classes::Classes;
-pub use numbering::{number_pairs_by_index, number_pairs_with_masks};
+pub use numbering::number_pairs_by_index;
 pub use scratch::Scratch;

@@ -4,12 +4,11 @@ ghost use Rattle.std.specs.Prelude.{◌≡◌, ℕ, ◌*◌, ◌^◌, ◌<◌, �
 ghost use Rattle.definitions.specs.Widths.{same_pair};
 ghost use Rattle.subfunction_classes.specs.Numbering.{ranks};
 ghost use Rattle.subfunction_classes.specs.Places as places;
-ghost use Rattle.subfunction_classes.specs.PairTables.{IsPairTable, NumbersPairs};
+ghost use Rattle.subfunction_classes.specs.PairTables.{NumbersPairs};
 ghost use Rattle.pair_numbering.specs.Numbers.{ArePairsNumbered};
 
-use definitions::{Mask, VarIx};
 use indexmap::IndexSet;
-use pair_numbering::{EntryPairs, Numbered, join_masks, number_with_masks};
+use pair_numbering::{EntryPairs, MaskedPairs, Numbered, join_masks};
 use std::alloc::{AllocError, Global};
 
 /// The numbers of the pairs, in an `IndexSet`.
@@ -47,45 +46,18 @@ fn distinct_pairs(
     Ok(pairs)
 }
 
-/// The numbers of the pairs of a table's entries, and their masks.
-pub fn number_pairs_with_masks(
-    alloc: Global,
-    numbers: &[u32],
-    rank: u32,
-    x: VarIx,
-    masks: &[Mask],
-) -> Result<Numbered, AllocError>
-    requires table { IsPairTable numbers.now rank (length masks.now) }
-    requires variable { x < 16 }
-    requires few { length masks.now ≤ 2 ^ 20 }
+/// The numbers of the pairs and their masks, as `number_with_masks` gives them, in an `IndexSet`.
+/// Slower, and only there to be compared.
+pub fn number_pairs_by_index(alloc: Global, pairs: &MaskedPairs<'_>) -> Result<Numbered, AllocError>
     ensures { IfOk result
-        (λ v. NumbersPairs masks.now x (places.pairs numbers.now (2 ^ rank)) v.numbers.items
+        (λ v. NumbersPairs pairs.now.masks.now pairs.now.x
+        (places.pairs pairs.now.entries.numbers (2 ^ pairs.now.entries.rank)) v.numbers.items
         v.masks.items) }
 {
-    let entries = EntryPairs::of_table(numbers, rank);
-    let numbered = number_with_masks(alloc, &entries, x, masks)?;
-    Ok(numbered)
-}
-
-/// The same, in an `IndexSet`. Slower, and only there to be compared.
-pub fn number_pairs_by_index(
-    alloc: Global,
-    numbers: &[u32],
-    rank: u32,
-    x: VarIx,
-    masks: &[Mask],
-) -> Result<Numbered, AllocError>
-    requires table { IsPairTable numbers.now rank (length masks.now) }
-    requires variable { x < 16 }
-    requires few { length masks.now ≤ 2 ^ 20 }
-    ensures { IfOk result
-        (λ v. NumbersPairs masks.now x (places.pairs numbers.now (2 ^ rank)) v.numbers.items
-        v.masks.items) }
-{
-    let entries = EntryPairs::of_table(numbers, rank);
-    let indexed = index_pairs(alloc, &entries)?;
-    let pairs = distinct_pairs(alloc, &entries, &indexed)?;
-    let joined = join_masks(alloc, &pairs, x, masks)?;
+    prove!(pairs.rank() < 16);
+    let indexed = index_pairs(alloc, &pairs.entries)?;
+    let distinct = distinct_pairs(alloc, &pairs.entries, &indexed)?;
+    let joined = join_masks(alloc, &distinct, pairs.x, pairs.masks)?;
     Ok(Numbered {
         numbers: indexed,
         masks: joined,

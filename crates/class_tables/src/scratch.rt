@@ -3,12 +3,10 @@
 ghost use Rattle.std.specs.Prelude.{◌≡◌, ◌==◌, ℕ, ◌+◌, ◌*◌, ◌/◌, ◌^◌, ◌<◌, ◌≤◌, length, IfOk};
 ghost use Rattle.class_tables.specs.Scratch.{AreLong, CountsMasks, most_entries};
 ghost use Rattle.subfunction_classes.specs.Places as places;
-ghost use Rattle.subfunction_classes.specs.PairTables.{IsPairTable};
 ghost use Rattle.pair_numbering.specs.Chains.{AreFirsts};
 
-use definitions::{Mask, VarIx};
 use order_model::{Problem, contains};
-use pair_numbering::{EntryPairs, MaskedPairs, first_pairs};
+use pair_numbering::{MaskedPairs, first_pairs};
 use std::alloc::{AllocError, Global};
 use std::marker::Model;
 use subfunction_classes::join_mask;
@@ -51,22 +49,15 @@ impl Scratch {
     }
 
     /// How many distinct pairs have a mask with `x`.
-    pub fn count_joined(&mut self, numbers: &[u32], rank: u32, x: VarIx, masks: &[Mask]) -> u32
-        requires table { IsPairTable numbers.now rank (length masks.now) }
-        requires variable { x < 16 }
-        requires few { length masks.now ≤ length numbers.now }
-        requires long { length numbers.now ≤ self.old }
-        ensures count { CountsMasks masks.now x (places.pairs numbers.now (2 ^ rank)) result }
+    pub fn count_joined(&mut self, pairs: &MaskedPairs<'_>) -> u32
+        requires few { length pairs.now.masks.now ≤ length pairs.now.entries.numbers }
+        requires long { length pairs.now.entries.numbers ≤ self.old }
+        ensures count { CountsMasks pairs.now.masks.now pairs.now.x
+            (places.pairs pairs.now.entries.numbers (2 ^ pairs.now.entries.rank)) result }
         ensures same { self.new ≡ self.old }
     {
-        let entries = EntryPairs::of_table(numbers, rank);
-        let pairs = MaskedPairs {
-            entries: &entries,
-            masks,
-            x,
-        };
         count_in(
-            &pairs,
+            pairs,
             &mut self.heads,
             &mut self.next,
             &mut self.stamps,
@@ -85,14 +76,13 @@ fn count_in(
     marks: &mut [u32],
     first: &mut [u32],
 ) -> u32
-    requires table { IsPairTable pairs.now.entries.now.numbers pairs.now.entries.now.rank
-        (length pairs.now.masks.now) }
-    requires few { length pairs.now.masks.now ≤ length pairs.now.entries.now.numbers }
+    requires few { length pairs.now.masks.now ≤ length pairs.now.entries.numbers }
     requires rows { AreLong (length heads.old) next.old stamps.old marks.old first.old }
-    requires long { length pairs.now.entries.now.numbers ≤ length heads.old }
+    requires long { length pairs.now.entries.numbers ≤ length heads.old }
     ensures { CountsMasks pairs.now.masks.now pairs.now.x
-        (places.pairs pairs.now.entries.now.numbers (2 ^ pairs.now.entries.now.rank)) result }
+        (places.pairs pairs.now.entries.numbers (2 ^ pairs.now.entries.rank)) result }
 {
+    prove!(pairs.rank() < 16);
     let classes = pairs.masks.len();
     let half = pairs.entries.len();
     let heads = &mut heads[..classes];
@@ -100,18 +90,17 @@ fn count_in(
     let stamps = &mut stamps[..classes];
     let marks = &mut marks[..classes];
     let first = &mut first[..half];
-    first_pairs(pairs.entries, heads, next, stamps, marks, first);
+    first_pairs(&pairs.entries, heads, next, stamps, marks, first);
     count_firsts(pairs, first)
 }
 
 /// How many pairs that are the first of their kind have a mask with `x`.
 fn count_firsts(pairs: &MaskedPairs<'_>, first: &[u32]) -> u32
-    requires table { IsPairTable pairs.now.entries.now.numbers pairs.now.entries.now.rank
-        (length pairs.now.masks.now) }
-    requires first { AreFirsts pairs.now.entries.now first.now }
+    requires first { AreFirsts pairs.now.entries first.now }
     ensures { CountsMasks pairs.now.masks.now pairs.now.x
-        (places.pairs pairs.now.entries.now.numbers (2 ^ pairs.now.entries.now.rank)) result }
+        (places.pairs pairs.now.entries.numbers (2 ^ pairs.now.entries.rank)) result }
 {
+    prove!(pairs.rank() < 16);
     let masks = pairs.masks;
     let x = pairs.x;
     let mut count = 0;

@@ -7,7 +7,7 @@ ghost use Rattle.compaction.specs.Strips.{GrowsStrips};
 
 use crate::names::{NamePairs, number_names};
 use order_model::{Mask, VarIx};
-use pair_numbering::{label_pairs, label_strip_pairs};
+use pair_numbering::{MaskedPairs, label_pairs};
 use std::alloc::{AllocError, Global};
 use std::marker::Model;
 
@@ -87,13 +87,8 @@ fn add_in_order(alloc: Global, table: &StripTable<'_>, x: VarIx) -> Result<Strip
     ensures { IfOk result (λ g.
         GrowsStrips table.now x g.outer.items g.numbers.items g.masks.items) }
 {
-    let labels = label_pairs(
-        alloc,
-        table.numbers,
-        table.bits + table.rank,
-        x,
-        table.masks,
-    )?;
+    let pairs = MaskedPairs::of_table(table.numbers, table.bits + table.rank, x, table.masks);
+    let labels = label_pairs(alloc, &pairs)?;
     let outer = first_numbers(alloc, table.outer.len() / 2)?;
     Ok(StripParts {
         outer,
@@ -117,14 +112,8 @@ fn add_by_pairs(
 {
     let strips = table.numbers.len() >> table.bits;
     let runs = number_names(alloc, table.outer, table.rank, strips, known)?;
-    let labels = label_strip_pairs(
-        alloc,
-        &runs.pairs,
-        table.numbers,
-        table.bits,
-        x,
-        table.masks,
-    )?;
+    let pairs = MaskedPairs::of_strips(&runs.pairs, table.numbers, table.bits, x, table.masks);
+    let labels = label_pairs(alloc, &pairs)?;
     Ok(StripParts {
         outer: runs.numbers,
         numbers: labels.numbers,

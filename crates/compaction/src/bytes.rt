@@ -8,7 +8,7 @@ ghost use Rattle.subfunction_classes.specs.Strips.{AreNamed, unrolled};
 use crate::add_variable::StripParts;
 use crate::strips::Strips;
 use order_model::{Mask, Problem, VarIx};
-use pair_numbering::label_pairs;
+use pair_numbering::{MaskedPairs, label_pairs};
 use std::alloc::{AllocError, Global};
 use std::marker::Model;
 use subfunction_classes::rank_of;
@@ -125,7 +125,8 @@ impl<'a> ByteKeys<'a> {
         let outer = self.outer.to_vec(alloc)?;
         let mut bytes = Vec::with_capacity(alloc, self.bytes.len())?;
         bytes.extend_from_slice(&self.bytes)?;
-        let labels = label_pairs(alloc, &self.rows, rank, x, &self.masks)?;
+        let pairs = MaskedPairs::of_table(&self.rows, rank, x, &self.masks);
+        let labels = label_pairs(alloc, &pairs)?;
         Ok(ByteKeys {
             problem: self.problem,
             set: self.set | (1 << x),

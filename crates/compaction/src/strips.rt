@@ -11,7 +11,7 @@ ghost use Rattle.compaction.specs.Strips.{masks_in_use, low_variables as low_of}
 use crate::add_variable::{StripParts, StripTable, add_above, are_in_order};
 use crate::names::NamePairs;
 use order_model::{Mask, Problem, VarIx, WidthRow, contains};
-use pair_numbering::label_pairs;
+use pair_numbering::{MaskedPairs, label_pairs};
 use std::alloc::{AllocError, Global};
 use std::marker::Model;
 use subfunction_classes::{count_with, rank_of};
@@ -226,7 +226,8 @@ impl<'a> Strips<'a> {
             Some(count) => Ok(Strips::of_count(alloc, self.problem, set, count / 2)),
             None => {
                 let rank = rank_of(self.set, x);
-                let labels = label_pairs(alloc, &self.numbers, rank, x, &self.masks)?;
+                let pairs = MaskedPairs::of_table(&self.numbers, rank, x, &self.masks);
+                let labels = label_pairs(alloc, &pairs)?;
                 let outer = self.outer.to_vec(alloc)?;
                 let parts = StripParts {
                     outer,

@@ -2,6 +2,7 @@
 --     InBlock numbers rank block i      pair i of a block is one of the table
 --     in_step, in_block, step_is, place_is, all_pairs      the block, its length, the place and the end, as the code has them
 --     listed_inside      the pair is listed
+--     place_small      a place among the pairs is small
 --     pair_inside      both halves of a pair are classes
 use Rattle.std.proofs.Common.{◌≡◌, ℕ, ◌+◌, ◌*◌, ◌/◌, ◌%◌, ◌^◌, ◌<◌, ◌≤◌, List, length, sym, ap, ◌∙◌, subst, arith}
 use Rattle.std.proofs.lemmas.Nat.{one_shl, pow_pos}
@@ -9,6 +10,9 @@ use Rattle.subfunction_classes.specs.PairTables.{AllBelow, IsPaired}
 use Rattle.subfunction_classes.specs.Places.{pairs, pair_at, low_place}
 use Rattle.subfunction_classes.proofs.BlockPlaces.{block_all, block_inside}
 use Rattle.subfunction_classes.proofs.Index.{length-pairs, pair_within}
+
+pub place_small : (numbers : List ℕ) (step n place : ℕ) → place < n → n ≡ length (pairs numbers step) → length numbers < 2 ^ 32 → place < 2 ^ 31
+place_small numbers step n place l e f = omega (arith, length-pairs numbers step)
 
 -- pair i of a block is one of the table
 pub record InBlock (numbers : List ℕ) (rank block i : ℕ) : Type 0 where

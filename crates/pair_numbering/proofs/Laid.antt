@@ -8,9 +8,9 @@
 use Rattle.std.proofs.Common.{◌≡◌, ℕ, suc, ◌+◌, ◌*◌, ◌/◌, ◌^◌, ◌<◌, ◌≤◌, List, Option, None, Some, IfSome, length, get_or, sym, ap, ◌∙◌, subst, arith}
 use Rattle.std.proofs.Math.Nat.{div-lt_iff_lt-mul, mul-le-mul_right}
 use Rattle.std.proofs.lemmas.Nat.{div-mul-add, pow_pos}
-use Rattle.subfunction_classes.specs.PairTables.{AllBelow, IsPaired, IsPairTable}
-use Rattle.subfunction_classes.specs.Strips.{AreNamed, names_of, unrolled}
-use Rattle.pair_numbering.specs.Strips.{IsLaid, laid_out, strips_at}
+use Rattle.subfunction_classes.specs.PairTables.{IsPaired, IsPairTable}
+use Rattle.subfunction_classes.specs.Strips.{names_of, unrolled}
+use Rattle.pair_numbering.specs.Strips.{ArePairedStrips, IsLaid, laid_out, strips_at}
 use Rattle.subfunction_classes.proofs.Unrolled.{length_named, length_names_of, name_low, name_high, named_at, named_inside, unrolled_below}
 
 -- a pair of strips has 2 * len entries
@@ -120,6 +120,6 @@ pub pair_block : (numbers : List ℕ) (rank j : ℕ) → IsPaired numbers rank �
 pair_block numbers rank j p h = grind (arith, div-mul-add, pow_pos, div-lt_iff_lt-mul)
 
 -- the strips of pairs of names, as a table
-pub strip_table : (names : List (ℕ × ℕ)) (numbers : List ℕ) (rank classes : ℕ) → AreNamed (names_of names) numbers (2 ^ rank) → rank < 16 →
-    length names * 2 * 2 ^ rank ≤ 2 ^ 20 → AllBelow numbers classes → IsPairTable (unrolled (names_of names) numbers (2 ^ rank)) rank classes
-strip_table names numbers rank classes named small few below = grind (arith, length_named, length_names_of, two_strips, unrolled_below, pow_pos)
+pub strip_table : (names : List (ℕ × ℕ)) (numbers : List ℕ) (bits classes : ℕ) → ArePairedStrips names numbers bits classes →
+    IsPairTable (unrolled (names_of names) numbers (2 ^ bits)) bits classes
+strip_table names numbers bits classes strips = grind (arith, length_named, length_names_of, two_strips, unrolled_below, pow_pos)

@@ -34,4 +34,4 @@ pub record Fronted (masks : List ℕ) (x : ℕ) (numbers : List ℕ) (rank : ℕ
 -- the numbering has come to a block
 abbrev pub AreCelled : MaskedPairs → ℕ → List ℕ → List ℕ → List ℕ → ℕ → Type 0
 AreCelled p block cells out all count =
-    Fronted p.masks.now p.x p.entries.now.numbers p.entries.now.rank cells out all count (block * 2 ^ p.entries.now.rank)
+    Fronted p.masks.now p.x p.entries.numbers p.entries.rank cells out all count (block * 2 ^ p.entries.rank)

@@ -2,13 +2,13 @@
 
 ghost use Rattle.std.specs.Prelude.{◌≡◌, ℕ, ◌+◌, ◌*◌, ◌/◌, ◌^◌, ◌<◌, ◌≤◌, length, slice_index, take, IfOk, IfSome};
 ghost use Rattle.subfunction_classes.specs.Places as places;
-ghost use Rattle.subfunction_classes.specs.PairTables.{IsPairTable, NumbersPairs};
+ghost use Rattle.subfunction_classes.specs.PairTables.{NumbersPairs};
 ghost use Rattle.pair_numbering.specs.Cells.{AreCelled};
 
-use crate::entries::{Block, EntryPairs};
+use crate::entries::Block;
 use crate::masks::MaskedPairs;
 use crate::numbering::Numbered;
-use definitions::{Mask, VarIx};
+use definitions::Mask;
 use std::alloc::{AllocError, Global};
 use subfunction_classes::join_mask;
 
@@ -26,18 +26,16 @@ fn number_block(
     joined: &mut [Mask],
     from: u32,
 ) -> u32
-    requires table { IsPairTable pairs.now.entries.now.numbers pairs.now.entries.now.rank
-        (length pairs.now.masks.now) }
-    requires few { length pairs.now.masks.now ≤ 2 ^ 20 }
     requires block { block <
-        length pairs.now.entries.now.numbers / 2 / 2 ^ pairs.now.entries.now.rank }
+        length pairs.now.entries.numbers / 2 / 2 ^ pairs.now.entries.rank }
     requires before { AreCelled pairs.now block cells.old out.old joined.old from }
-    requires room { from + 2 ^ pairs.now.entries.now.rank < 2 ^ 16 }
+    requires room { from + 2 ^ pairs.now.entries.rank < 2 ^ 16 }
     ensures { AreCelled pairs.now (block + 1) cells.new out.new joined.new result }
 {
     let masks = pairs.masks;
+    let x = pairs.x;
     let classes = masks.len();
-    let step = 1usize << pairs.entries.rank();
+    let step = 1usize << pairs.rank();
     let Block { low, high } = pairs.entries.block(block);
     let mut count = from;
     for i in 0..step {
@@ -45,7 +43,7 @@ fn number_block(
         let cell = pair.0 as usize * classes + pair.1 as usize;
         let mut next = u32::from(cells[cell]);
         if next == 0 {
-            joined[count as usize] = join_mask(masks, pairs.x, pair);
+            joined[count as usize] = join_mask(masks, x, pair);
             count += 1;
             next = count;
             cells[cell] = next as u16;
@@ -65,18 +63,16 @@ fn number_block_evenly(
     joined: &mut [Mask],
     from: u32,
 ) -> u32
-    requires table { IsPairTable pairs.now.entries.now.numbers pairs.now.entries.now.rank
-        (length pairs.now.masks.now) }
-    requires few { length pairs.now.masks.now ≤ 2 ^ 20 }
     requires block { block <
-        length pairs.now.entries.now.numbers / 2 / 2 ^ pairs.now.entries.now.rank }
+        length pairs.now.entries.numbers / 2 / 2 ^ pairs.now.entries.rank }
     requires before { AreCelled pairs.now block cells.old out.old joined.old from }
-    requires room { from + 2 ^ pairs.now.entries.now.rank < 2 ^ 16 }
+    requires room { from + 2 ^ pairs.now.entries.rank < 2 ^ 16 }
     ensures { AreCelled pairs.now (block + 1) cells.new out.new joined.new result }
 {
     let masks = pairs.masks;
+    let x = pairs.x;
     let classes = masks.len();
-    let step = 1usize << pairs.entries.rank();
+    let step = 1usize << pairs.rank();
     let Block { low, high } = pairs.entries.block(block);
     let mut count = from;
     for i in 0..step {
@@ -85,7 +81,7 @@ fn number_block_evenly(
         let next = u32::from(cells[cell]);
         let number = if next == 0 { count } else { next - 1 };
         cells[cell] = (number + 1) as u16;
-        joined[count as usize] = join_mask(masks, pairs.x, pair);
+        joined[count as usize] = join_mask(masks, x, pair);
         out[block * step + i] = number;
         if next == 0 {
             count += 1;
@@ -103,18 +99,15 @@ fn number_blocks(
     out: &mut [u32],
     joined: &mut [Mask],
 ) -> Option<u32>
-    requires table { IsPairTable pairs.now.entries.now.numbers pairs.now.entries.now.rank
-        (length pairs.now.masks.now) }
-    requires few { length pairs.now.masks.now ≤ 2 ^ 20 }
     requires cells { length cells.old ≡ length pairs.now.masks.now * length pairs.now.masks.now }
     requires empty { (k : ℕ) → k < length cells.old → slice_index cells.old k ≡ 0 }
-    requires out { length out.old ≡ length pairs.now.entries.now.numbers / 2 }
-    requires joined { length joined.old ≡ length pairs.now.entries.now.numbers / 2 }
+    requires out { length out.old ≡ length pairs.now.entries.numbers / 2 }
+    requires joined { length joined.old ≡ length pairs.now.entries.numbers / 2 }
     ensures { IfSome result (λ count. NumbersPairs pairs.now.masks.now pairs.now.x
-        (places.pairs pairs.now.entries.now.numbers (2 ^ pairs.now.entries.now.rank))
+        (places.pairs pairs.now.entries.numbers (2 ^ pairs.now.entries.rank))
         out.new (take count joined.new)) }
 {
-    let rank = pairs.entries.rank();
+    let rank = pairs.rank();
     let step = 1usize << rank;
     let mut count = 0u32;
     for block in 0..pairs.entries.len() >> rank {
@@ -135,25 +128,20 @@ fn number_blocks(
 /// Nothing if there may be more numbers than a cell can have.
 pub(crate) fn number_pairs_by_cells(
     alloc: Global,
-    entries: &EntryPairs<'_>,
-    x: VarIx,
-    masks: &[Mask],
+    pairs: &MaskedPairs<'_>,
     cells: &mut [u16],
 ) -> Result<Option<Numbered>, AllocError>
-    requires table { IsPairTable entries.now.numbers entries.now.rank (length masks.now) }
-    requires variable { x < 16 }
-    requires few { length masks.now ≤ 2 ^ 20 }
-    requires cells { length cells.old ≡ length masks.now * length masks.now }
+    requires cells { length cells.old ≡ length pairs.now.masks.now * length pairs.now.masks.now }
     requires empty { (k : ℕ) → k < length cells.old → slice_index cells.old k ≡ 0 }
     ensures { IfOk result (λ o. IfSome o
-        (λ v. NumbersPairs masks.now x (places.pairs entries.now.numbers (2 ^ entries.now.rank))
-        v.numbers.items v.masks.items)) }
+        (λ v. NumbersPairs pairs.now.masks.now pairs.now.x
+        (places.pairs pairs.now.entries.numbers (2 ^ pairs.now.entries.rank)) v.numbers.items
+        v.masks.items)) }
 {
-    let half = entries.len();
+    let half = pairs.entries.len();
     let mut joined = vec![in alloc; 0u16; half]?;
     let mut out = vec![in alloc; 0u32; half]?;
-    let pairs = MaskedPairs { entries, masks, x };
-    let Some(count) = number_blocks(&pairs, cells, &mut out, &mut joined) else {
+    let Some(count) = number_blocks(pairs, cells, &mut out, &mut joined) else {
         return Ok(None);
     };
     joined.truncate(count as usize);

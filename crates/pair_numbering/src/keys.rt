@@ -5,10 +5,10 @@ ghost use Rattle.std.specs.Prelude.{◌≡◌, ℕ, ◌+◌, ◌*◌, ◌/◌, �
 ghost use Rattle.std.specs.List.{range_with_len};
 ghost use Rattle.subfunction_classes.specs.Places as places;
 ghost use Rattle.pair_numbering.specs.Keys.{AreUsed, TellsPairs, joined_key, joined_key_mask};
-ghost use Rattle.subfunction_classes.specs.PairTables.{AllBelow, IsPaired, IsPairTable};
-ghost use Rattle.subfunction_classes.specs.Strips.{AreNamed, names_of, unrolled};
+ghost use Rattle.subfunction_classes.specs.PairTables.{AllBelow, IsPaired};
 
 use crate::entries::{Block, EntryPairs};
+use crate::masks::MaskedPairs;
 use crate::numbering::number_with_masks;
 use definitions::{Mask, VarIx};
 use std::alloc::{AllocError, Global};
@@ -82,85 +82,30 @@ fn join_key_masks(alloc: Global, masks: &[Mask], x: VarIx) -> Result<Vec<Mask>, 
     Ok(joined)
 }
 
-/// Tells the pairs apart: by joined keys if these are few, and not more than the entries, else by
-/// numbers.
-fn tell_entries(
-    alloc: Global,
-    entries: &EntryPairs<'_>,
-    x: VarIx,
-    masks: &[Mask],
-) -> Result<PairKeys, AllocError>
-    requires table { IsPairTable entries.now.numbers entries.now.rank (length masks.now) }
-    requires variable { x < 16 }
-    requires few { length masks.now ≤ 2 ^ 20 }
+/// Labels by which the pairs of a table's entries are told apart: joined keys if these are few, and
+/// not more than the entries, else numbers.
+pub fn label_pairs(alloc: Global, pairs: &MaskedPairs<'_>) -> Result<PairKeys, AllocError>
     ensures tells { IfOk result
-        (λ v. TellsPairs masks.now x (places.pairs entries.now.numbers (2 ^ entries.now.rank))
-        v.numbers.items v.masks.items) }
+        (λ v. TellsPairs pairs.now.masks.now pairs.now.x
+        (places.pairs pairs.now.entries.numbers (2 ^ pairs.now.entries.rank)) v.numbers.items
+        v.masks.items) }
     ensures used { IfOk result (λ v. IsTrue v.all_used → AreUsed v.numbers.items v.masks.items) }
 {
-    let base = masks.len();
-    if base <= MOST_JOINED && base * base <= 2 * entries.len() {
-        let keys = join_keys(alloc, entries, base as u32)?;
-        let joined = join_key_masks(alloc, masks, x)?;
+    prove!(pairs.rank() < 16);
+    let base = pairs.masks.len();
+    if base <= MOST_JOINED && base * base <= 2 * pairs.entries.len() {
+        let keys = join_keys(alloc, &pairs.entries, base as u32)?;
+        let joined = join_key_masks(alloc, pairs.masks, pairs.x)?;
         return Ok(PairKeys {
             numbers: keys,
             masks: joined,
             all_used: false,
         });
     }
-    let numbered = number_with_masks(alloc, entries, x, masks)?;
+    let numbered = number_with_masks(alloc, pairs)?;
     Ok(PairKeys {
         numbers: numbered.numbers,
         masks: numbered.masks,
         all_used: true,
     })
-}
-
-/// Tells the pairs of a table's entries apart: by joined keys if these are few, and not more than
-/// the entries, else by numbers.
-pub fn label_pairs(
-    alloc: Global,
-    numbers: &[u32],
-    rank: u32,
-    x: VarIx,
-    masks: &[Mask],
-) -> Result<PairKeys, AllocError>
-    requires table { IsPairTable numbers.now rank (length masks.now) }
-    requires variable { x < 16 }
-    requires few { length masks.now ≤ 2 ^ 20 }
-    ensures tells { IfOk result
-        (λ v. TellsPairs masks.now x (places.pairs numbers.now (2 ^ rank)) v.numbers.items
-        v.masks.items) }
-    ensures used { IfOk result (λ v. IsTrue v.all_used → AreUsed v.numbers.items v.masks.items) }
-{
-    let entries = EntryPairs::of_table(numbers, rank);
-    let labels = tell_entries(alloc, &entries, x, masks)?;
-    Ok(labels)
-}
-
-/// The same of the entries of pairs of strips of 2 ^ bits entries, which are read where they stand.
-pub fn label_strip_pairs(
-    alloc: Global,
-    names: &[(u32, u32)],
-    numbers: &[u32],
-    bits: u32,
-    x: VarIx,
-    masks: &[Mask],
-) -> Result<PairKeys, AllocError>
-    requires named { AreNamed (names_of names.now) numbers.now (2 ^ bits) }
-    requires bits { bits < 16 }
-    requires small { length names.now * 2 * 2 ^ bits ≤ 2 ^ 20 }
-    requires below { AllBelow numbers.now (length masks.now) }
-    requires few_numbers { length numbers.now ≤ 2 ^ 20 }
-    requires variable { x < 16 }
-    requires few { length masks.now ≤ 2 ^ 20 }
-    ensures tells { IfOk result
-        (λ v. TellsPairs masks.now x
-        (places.pairs (unrolled (names_of names.now) numbers.now (2 ^ bits)) (2 ^ bits))
-        v.numbers.items v.masks.items) }
-    ensures used { IfOk result (λ v. IsTrue v.all_used → AreUsed v.numbers.items v.masks.items) }
-{
-    let entries = EntryPairs::of_strips(names, numbers, bits);
-    let labels = tell_entries(alloc, &entries, x, masks)?;
-    Ok(labels)
 }

@@ -14,6 +14,6 @@ mod slots;
 
 pub use chains::first_pairs;
 pub use entries::EntryPairs;
-pub use keys::{PairKeys, label_pairs, label_strip_pairs};
+pub use keys::{PairKeys, label_pairs};
 pub use masks::{MaskedPairs, join_masks};
 pub use numbering::{Numbered, NumberedPairs, number_pairs, number_with_masks};

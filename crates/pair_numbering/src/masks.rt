@@ -1,7 +1,10 @@
 //! What the functions of a class depend on, as a mask for each class.
 
-ghost use Rattle.std.specs.Prelude.{◌≡◌, ℕ, ◌<◌, map, length, IfOk};
+ghost use Rattle.std.specs.Prelude.{◌≡◌, ℕ, ◌*◌, ◌^◌, ◌<◌, ◌≤◌, map, length, IfOk};
 ghost use Rattle.subfunction_classes.specs.Dependence.{joined_mask};
+ghost use Rattle.subfunction_classes.specs.PairTables.{AllBelow, IsPairTable};
+ghost use Rattle.subfunction_classes.specs.Strips.{names_of, unrolled};
+ghost use Rattle.pair_numbering.specs.Strips.{ArePairedStrips};
 ghost use Rattle.pair_numbering.specs.Numbers.{ArePairsBelow};
 
 use crate::entries::EntryPairs;
@@ -12,10 +15,68 @@ use subfunction_classes::join_mask;
 /// The pairs of a class table's entries that differ in variable `x`, and the mask of each class.
 #[derive(Drop)]
 pub struct MaskedPairs<'e> {
-    pub entries: &'e EntryPairs<'e>,
+    pub entries: EntryPairs<'e>,
     pub masks: &'e [Mask],
     pub x: VarIx,
+    ghost few_entries: { length entries.numbers ≤ 2 ^ 20 },
+    ghost below: { AllBelow entries.numbers (length masks.now) },
+    ghost few: { length masks.now ≤ 2 ^ 20 },
     ghost variable: { x < 16 },
+}
+
+impl<'e> MaskedPairs<'e> {
+    /// The pairs of a table by a variable that has `rank` variables outside the set below it.
+    #[inline(always)]
+    pub fn of_table(numbers: &'e [u32], rank: u32, x: VarIx, masks: &'e [Mask]) -> MaskedPairs<'e>
+        requires table { IsPairTable numbers.now rank (length masks.now) }
+        requires few { length masks.now ≤ 2 ^ 20 }
+        requires variable { x < 16 }
+        ensures numbers { result.entries.numbers ≡ numbers.now }
+        ensures rank { result.entries.rank ≡ rank }
+        ensures masks { result.masks.now ≡ masks.now }
+        ensures variable { result.x ≡ x }
+    {
+        MaskedPairs {
+            entries: EntryPairs::of_table(numbers, rank),
+            masks,
+            x,
+        }
+    }
+
+    /// The pairs of strips of 2 ^ bits entries, which are read where they stand.
+    #[inline(always)]
+    pub fn of_strips(
+        names: &'e [(u32, u32)],
+        numbers: &'e [u32],
+        bits: u32,
+        x: VarIx,
+        masks: &'e [Mask],
+    ) -> MaskedPairs<'e>
+        requires strips { ArePairedStrips names.now numbers.now bits (length masks.now) }
+        requires few { length masks.now ≤ 2 ^ 20 }
+        requires variable { x < 16 }
+        ensures numbers { result.entries.numbers ≡
+            unrolled (names_of names.now) numbers.now (2 ^ bits) }
+        ensures rank { result.entries.rank ≡ bits }
+        ensures masks { result.masks.now ≡ masks.now }
+        ensures variable { result.x ≡ x }
+    {
+        MaskedPairs {
+            entries: EntryPairs::of_strips(names, numbers, bits),
+            masks,
+            x,
+        }
+    }
+
+    /// The entries of a block are so many powers of 2.
+    #[inline(always)]
+    pub fn rank(&self) -> u32
+        ensures rank { result ≡ self.now.entries.rank }
+        ensures table { IsPairTable self.now.entries.numbers self.now.entries.rank
+            (length self.now.masks.now) }
+    {
+        self.entries.rank()
+    }
 }
 
 /// The masks of pairs.

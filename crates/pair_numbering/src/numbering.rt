@@ -8,9 +8,9 @@ ghost use Rattle.pair_numbering.specs.Numbers.{ArePairsNumbered};
 use crate::cells::number_pairs_by_cells;
 use crate::chains::number_pairs_by_chains;
 use crate::entries::EntryPairs;
-use crate::masks::join_masks;
+use crate::masks::{MaskedPairs, join_masks};
 use crate::slots::number_pairs_by_slots;
-use definitions::{Mask, VarIx};
+use definitions::Mask;
 use std::alloc::{AllocError, Global};
 
 /// The number of each pair, and the mask of each number.
@@ -48,30 +48,24 @@ fn number_entries(
 
 /// The numbers of the pairs, and the masks of the numbers, from those of the classes: by a cell for
 /// each pair of classes if these are few, else by slots or chains.
-pub fn number_with_masks(
-    alloc: Global,
-    entries: &EntryPairs<'_>,
-    x: VarIx,
-    masks: &[Mask],
-) -> Result<Numbered, AllocError>
-    requires table { IsPairTable entries.now.numbers entries.now.rank (length masks.now) }
-    requires variable { x < 16 }
-    requires few { length masks.now ≤ 2 ^ 20 }
+pub fn number_with_masks(alloc: Global, pairs: &MaskedPairs<'_>) -> Result<Numbered, AllocError>
     ensures { IfOk result
-        (λ v. NumbersPairs masks.now x (places.pairs entries.now.numbers (2 ^ entries.now.rank))
-        v.numbers.items v.masks.items) }
+        (λ v. NumbersPairs pairs.now.masks.now pairs.now.x
+        (places.pairs pairs.now.entries.numbers (2 ^ pairs.now.entries.rank)) v.numbers.items
+        v.masks.items) }
 {
-    let classes = masks.len();
-    let half = entries.len();
-    let pairs = classes * classes;
-    if pairs <= 16 * half {
-        let mut cells = vec![in alloc; 0u16; pairs]?;
-        if let Some(numbered) = number_pairs_by_cells(alloc, entries, x, masks, &mut cells)? {
+    prove!(pairs.rank() < 16);
+    let classes = pairs.masks.len();
+    let half = pairs.entries.len();
+    let cells = classes * classes;
+    if cells <= 16 * half {
+        let mut cells = vec![in alloc; 0u16; cells]?;
+        if let Some(numbered) = number_pairs_by_cells(alloc, pairs, &mut cells)? {
             return Ok(numbered);
         }
     }
-    let numbered = number_entries(alloc, entries, classes)?;
-    let joined = join_masks(alloc, &numbered.pairs, x, masks)?;
+    let numbered = number_entries(alloc, &pairs.entries, classes)?;
+    let joined = join_masks(alloc, &numbered.pairs, pairs.x, pairs.masks)?;
     Ok(Numbered {
         numbers: numbered.numbers,
         masks: joined,

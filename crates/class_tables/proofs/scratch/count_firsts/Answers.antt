@@ -9,10 +9,10 @@ use Rattle.class_tables.proofs.scratch.count_firsts.Goals.{then-f-j, else-f-j}
 
 pub loop-j-preserved : goal.loop-j-preserved
 loop-j-preserved c =
-    let cs = c.args.pairs.now.entries.now.numbers in
+    let cs = c.args.pairs.now.entries.numbers in
     let masks = c.args.pairs.now.masks.now in
     let x = c.args.pairs.now.x in
-    let step = 2 ^ c.args.pairs.now.entries.now.rank in
+    let step = 2 ^ c.args.pairs.now.entries.rank in
     let ps = places.pairs cs step in
     let j = c.loop-j.j in
     let lp = length-pairs cs step in
@@ -32,8 +32,8 @@ loop-j-preserved c =
 
 pub returns : goal.returns
 returns c =
-    let cs = c.args.pairs.now.entries.now.numbers in
-    let step = 2 ^ c.args.pairs.now.entries.now.rank in
+    let cs = c.args.pairs.now.entries.numbers in
+    let step = 2 ^ c.args.pairs.now.entries.rank in
     counting_all (places.pairs cs step) c.args.pairs.now.masks.now c.args.pairs.now.x c.loop-j.count c.loop-j.j (omega (
       arith,
       length-pairs cs step,

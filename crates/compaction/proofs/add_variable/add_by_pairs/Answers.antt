@@ -1,8 +1,9 @@
-use Rattle.std.proofs.Common.{ℕ, List, refl, ◌*◌, ◌^◌, length, sym, ap, ◌∙◌, subst, arith}
+use Rattle.std.proofs.Common.{refl, ◌*◌, ◌^◌, length, sym, ap, ◌∙◌, subst, arith}
 use Rattle.std.proofs.lemmas.Grind.{common_steps}
 use Rattle.std.proofs.Math.Nat.{add-mul-div_right, div-eq_of_lt, mul-le-mul_left}
 use Rattle.std.proofs.lemmas.Nat.{pow_pos}
-use Rattle.subfunction_classes.specs.Strips.{AreNamed, names_of, unrolled}
+use Rattle.subfunction_classes.specs.Strips.{names_of, unrolled}
+use Rattle.pair_numbering.specs.Strips.{ArePairedStrips}
 use Rattle.pair_numbering.specs.Keys.{TellsPairs}
 use Rattle.subfunction_classes.specs.Places as places
 use Rattle.subfunction_classes.proofs.Index.{length-pairs}
@@ -16,16 +17,8 @@ use Rattle.compaction.proofs.add_variable.add_by_pairs.Goals as goal
 pub number_names-requires-clause-table : goal.number_names-requires-clause-table
 number_names-requires-clause-table c = grind (arith, pow_pos, mul-le-mul_left, div-eq_of_lt, add-mul-div_right)
 
-pub label_strip_pairs-requires-clause-named : goal.label_strip_pairs-requires-clause-named
-label_strip_pairs-requires-clause-named c =
-    let t = c.table.inside in
-    let table = c.table.invariant in
-    subst (λ us. AreNamed (names_of us) t.numbers.now (2 ^ t.bits)) (sym c.deref.ensures.value)
-    (paired_named t.outer.now t.numbers.now (2 ^ t.bits) t.rank table.strips table.whole c.in_ok-runs.runs.numbers.items
-    c.in_ok-runs.runs.pairs.items c.in_ok-runs.ensures)
-
-pub label_strip_pairs-requires-clause-small : goal.label_strip_pairs-requires-clause-small
-label_strip_pairs-requires-clause-small c =
+pub of_strips-pairs-requires-clause-strips : goal.of_strips-pairs-requires-clause-strips
+of_strips-pairs-requires-clause-strips c =
     let t = c.table.inside in
     let table = c.table.invariant in
     let len = 2 ^ t.bits in
@@ -36,9 +29,14 @@ label_strip_pairs-requires-clause-small c =
     let few = paired_few t.outer.now t.numbers.now len t.rank table.strips table.whole c.in_ok-runs.runs.numbers.items pairs
     c.in_ok-runs.ensures (unrolled (names_of pairs) t.numbers.now len) refl in
     let long = length_named (names_of pairs) t.numbers.now len named ∙ ap (λ k. k * len) (length_names_of pairs) in
-    let same = ap (λ (us : List (ℕ × ℕ)). length us * 2 * len) c.deref.ensures.value in
-    let most = table.len in
-    omega arith
+    subst (λ us. ArePairedStrips us t.numbers.now t.bits (length t.masks.now)) (sym c.deref.ensures.value)
+    (record {
+      named = named;
+      narrow = grind (arith, common_steps);
+      few = grind arith;
+      small = (let most = table.len in omega arith);
+      below = grind arith;
+    })
 
 pub returns : goal.returns
 returns c =
@@ -54,9 +52,10 @@ returns c =
     let long = paired_long outer numbers len t.rank table.strips table.whole runs pairs c.in_ok-runs.ensures paired refl in
     let lower = paired_lower outer numbers len t.rank table.strips table.whole runs pairs c.in_ok-runs.ensures paired refl in
     let upper = paired_upper outer numbers len t.rank table.strips table.whole runs pairs c.in_ok-runs.ensures paired refl in
-    let names =
-    subst (λ us. TellsPairs t.masks.now c.args.x (places.pairs (unrolled (names_of us) numbers len) len) labels.numbers.items labels.masks.items)
-    c.deref.ensures.value
+    let p = c.of_strips-pairs.ensures in
+    let whole = p.numbers ∙ ap (λ us. unrolled (names_of us) numbers len) c.deref.ensures.value in
+    let names = subst (λ z. z)
+    (λ i. TellsPairs (p.masks i) (p.variable i) (places.pairs (whole i) (2 ^ p.rank i)) labels.numbers.items labels.masks.items)
     c.in_ok-labels.ensures.tells in
     subst (λ (z : StripTableOf). GrowsStrips z c.args.x runs labels.numbers.items labels.masks.items) c.table.view_is
     (record {
@@ -72,9 +71,3 @@ returns c =
           let m = length-pairs paired len in
           omega arith;
     })
-
-pub label_strip_pairs-requires-clause-below : goal.label_strip_pairs-requires-clause-below
-label_strip_pairs-requires-clause-below c = grind arith
-
-pub label_strip_pairs-requires-clause-bits : goal.label_strip_pairs-requires-clause-bits
-label_strip_pairs-requires-clause-bits c = grind (arith, common_steps)

@@ -9,8 +9,8 @@ use Rattle.pair_numbering.proofs.Names.{names_below, length_names}
 use Rattle.compaction.proofs.Ordered.{ordered_strips, ordered_tells, ordered_whole}
 use Rattle.compaction.proofs.add_variable.add_in_order.Goals as goal
 
-pub label_pairs-requires-clause-table : goal.label_pairs-requires-clause-table
-label_pairs-requires-clause-table c =
+pub of_table-pairs-requires-clause-table : goal.of_table-pairs-requires-clause-table
+of_table-pairs-requires-clause-table c =
     let t = c.table.inside in
     let table = c.table.invariant in
     let own = subst (λ (z : StripTableOf). AreOwn z.outer) (sym c.table.view_is) c.requires.own in
@@ -38,7 +38,10 @@ returns c =
     let numbers = t.numbers.now in
     let step = 2 ^ (t.bits + t.rank) in
     let labels = c.in_ok-labels.labels in
-    let tells = c.in_ok-labels.ensures.tells in
+    let p = c.of_table-pairs.ensures in
+    let tells = subst (λ z. z)
+    (λ i. TellsPairs (p.masks i) (p.variable i) (places.pairs (p.numbers i) (2 ^ p.rank i)) labels.numbers.items labels.masks.items)
+    c.in_ok-labels.ensures.tells in
     let names =
     subst (λ k. TellsPairs t.masks.now c.args.x (places.pairs numbers k) labels.numbers.items labels.masks.items)
     (pow-add 2 t.bits t.rank) tells in

@@ -1,74 +1,69 @@
-use Rattle.std.proofs.Common.{◌≡◌, ℕ, ◌+◌, ◌-◌, ◌*◌, ◌^◌, ◌<◌, List, length, sym, subst, ◌∙◌, arith}
-use Rattle.subfunction_classes.specs.Places as places
+use Rattle.std.proofs.Common.{◌≡◌, ◌+◌, ◌-◌, ◌*◌, ◌^◌, ◌<◌, length, sym, subst, ◌∙◌, arith}
 use Rattle.subfunction_classes.proofs.Index.{length-pairs}
-use Rattle.pair_numbering.proofs.InBlocks.{in_step, place_is, step_is}
+use Rattle.pair_numbering.proofs.InBlocks.{in_step, place_is, place_small, step_is}
 use Rattle.pair_numbering.proofs.CellSteps.{fronted_block, pair_classes, place_inside, cell_inside, fronted_new, fronted_old}
 use Rattle.pair_numbering.proofs.cells.number_block.Goals as goal
 use Rattle.pair_numbering.proofs.cells.number_block.Goals.{then-next-eq0, else-next-eq0}
 
 pub loop-i-init : goal.loop-i-init
 loop-i-init c =
-    let e : c.args.block * 2 ^ c.args.pairs.now.entries.now.rank + 0 ≡ c.args.block * 2 ^ c.args.pairs.now.entries.now.rank = omega arith in
+    let e : c.args.block * 2 ^ c.args.pairs.now.entries.rank + 0 ≡ c.args.block * 2 ^ c.args.pairs.now.entries.rank = omega arith in
     record { fronted = rw e c.requires.before; few = omega arith }
 
 pub bounds-cells-cell : goal.bounds-cells-cell
 bounds-cells-cell c =
-    let w = in_step c.requires.table.paired c.rank.ensures.rank c.requires.block c.loop-i-test.true in
-    cell_inside c.requires.table c.loop-i.invariant.fronted w (c.block.ensures.pairs c.loop-i.i w.early)
+    let w = in_step c.rank.ensures.table.paired c.rank.ensures.rank c.requires.block c.loop-i-test.true in
+    cell_inside c.rank.ensures.table c.loop-i.invariant.fronted w (c.block.ensures.pairs c.loop-i.i w.early)
 
 pub join_mask-requires-clause-lower : goal.join_mask-requires-clause-lower
 join_mask-requires-clause-lower c =
-    let w = in_step c.requires.table.paired c.rank.ensures.rank c.requires.block c.loop-i-test.true in
-    (pair_classes c.requires.table c.loop-i.invariant.fronted w (c.block.ensures.pairs c.loop-i.i w.early)).0
+    let w = in_step c.rank.ensures.table.paired c.rank.ensures.rank c.requires.block c.loop-i-test.true in
+    (pair_classes c.rank.ensures.table c.loop-i.invariant.fronted w (c.block.ensures.pairs c.loop-i.i w.early)).0
 
 pub join_mask-requires-clause-upper : goal.join_mask-requires-clause-upper
 join_mask-requires-clause-upper c =
-    let w = in_step c.requires.table.paired c.rank.ensures.rank c.requires.block c.loop-i-test.true in
-    (pair_classes c.requires.table c.loop-i.invariant.fronted w (c.block.ensures.pairs c.loop-i.i w.early)).1
+    let w = in_step c.rank.ensures.table.paired c.rank.ensures.rank c.requires.block c.loop-i-test.true in
+    (pair_classes c.rank.ensures.table c.loop-i.invariant.fronted w (c.block.ensures.pairs c.loop-i.i w.early)).1
 
 pub bounds-cells-cell-then-next-eq0 : goal.bounds-cells-cell-then-next-eq0
 bounds-cells-cell-then-next-eq0 c =
-    let w = in_step c.requires.table.paired c.rank.ensures.rank c.requires.block c.loop-i-test.true in
-    cell_inside c.requires.table c.loop-i.invariant.fronted w (c.block.ensures.pairs c.loop-i.i w.early)
+    let w = in_step c.rank.ensures.table.paired c.rank.ensures.rank c.requires.block c.loop-i-test.true in
+    cell_inside c.rank.ensures.table c.loop-i.invariant.fronted w (c.block.ensures.pairs c.loop-i.i w.early)
 
 pub bounds-out-block : goal.bounds-out-block
 bounds-out-block c =
-    let w = in_step c.requires.table.paired c.rank.ensures.rank c.requires.block c.loop-i-test.true in
-    let k = place_inside c.requires.table c.loop-i.invariant.fronted w (c.block.ensures.pairs c.loop-i.i w.early) in
-    subst (λ z. z < length c.loop-i.out) (sym (place_is c.requires.table.paired c.args.block c.loop-i.i c.rank.ensures.rank)) k
-
--- a place among the pairs is small
-place_small : (cs : List ℕ) (step n place : ℕ) → place < n → n ≡ length (places.pairs cs step) → length cs < 2 ^ 32 → place < 2 ^ 31
-place_small cs step n place l e f = omega (arith, length-pairs cs step)
+    let w = in_step c.rank.ensures.table.paired c.rank.ensures.rank c.requires.block c.loop-i-test.true in
+    let k = place_inside c.rank.ensures.table c.loop-i.invariant.fronted w (c.block.ensures.pairs c.loop-i.i w.early) in
+    subst (λ z. z < length c.loop-i.out) (sym (place_is c.rank.ensures.table.paired c.args.block c.loop-i.i c.rank.ensures.rank)) k
 
 pub overflow_mul-out : goal.overflow_mul-out
 overflow_mul-out c =
-    let w = place_small _ _ _ _ (bounds-out-block c) c.loop-i.invariant.fronted.celled.made.long c.requires.table.paired.short in
+    let w = place_small _ _ _ _ (bounds-out-block c) c.loop-i.invariant.fronted.celled.made.long c.rank.ensures.table.paired.short in
     omega arith
 
 pub overflow_add-out : goal.overflow_add-out
 overflow_add-out c =
-    let w = place_small _ _ _ _ (bounds-out-block c) c.loop-i.invariant.fronted.celled.made.long c.requires.table.paired.short in
+    let w = place_small _ _ _ _ (bounds-out-block c) c.loop-i.invariant.fronted.celled.made.long c.rank.ensures.table.paired.short in
     omega arith
 
 pub offset_bounds-out-block : goal.offset_bounds-out-block
 offset_bounds-out-block c =
-    let w = place_small _ _ _ _ (bounds-out-block c) c.loop-i.invariant.fronted.celled.made.long c.requires.table.paired.short in
+    let w = place_small _ _ _ _ (bounds-out-block c) c.loop-i.invariant.fronted.celled.made.long c.rank.ensures.table.paired.short in
     omega arith
 
 pub bounds-joined-count : goal.bounds-joined-count
 bounds-joined-count c =
-    let w = in_step c.requires.table.paired c.rank.ensures.rank c.requires.block c.loop-i-test.true in
-    let k = place_inside c.requires.table c.loop-i.invariant.fronted w (c.block.ensures.pairs c.loop-i.i w.early) in
+    let w = in_step c.rank.ensures.table.paired c.rank.ensures.rank c.requires.block c.loop-i-test.true in
+    let k = place_inside c.rank.ensures.table c.loop-i.invariant.fronted w (c.block.ensures.pairs c.loop-i.i w.early) in
     let few = c.loop-i.invariant.fronted.few in
     let long = c.loop-i.invariant.fronted.long in
     let made = c.loop-i.invariant.fronted.celled.made.long in
-    let p = length-pairs c.args.pairs.now.entries.now.numbers (2 ^ c.args.pairs.now.entries.now.rank) in
+    let p = length-pairs c.args.pairs.now.entries.numbers (2 ^ c.args.pairs.now.entries.rank) in
     omega arith
 
 pub overflow_add-count : goal.overflow_add-count
 overflow_add-count c =
-    let w = in_step c.requires.table.paired c.rank.ensures.rank c.requires.block c.loop-i-test.true in
+    let w = in_step c.rank.ensures.table.paired c.rank.ensures.rank c.requires.block c.loop-i-test.true in
     let early = w.early in
     let few = c.loop-i.invariant.few in
     let room = c.requires.room in
@@ -76,21 +71,21 @@ overflow_add-count c =
 
 pub loop-i-preserved : goal.loop-i-preserved
 loop-i-preserved c =
-    let w = in_step c.requires.table.paired c.rank.ensures.rank c.requires.block c.loop-i-test.true in
+    let w = in_step c.rank.ensures.table.paired c.rank.ensures.rank c.requires.block c.loop-i-test.true in
     let is = c.block.ensures.pairs c.loop-i.i w.early in
-    let e = place_is c.requires.table.paired c.args.block c.loop-i.i c.rank.ensures.rank in
+    let e = place_is c.rank.ensures.table.paired c.args.block c.loop-i.i c.rank.ensures.rank in
     elim c.if-next-eq0.branch [
       | then-next-eq0 v ↦
           let next : c.if-next-eq0.next ≡ c.loop-i.count + 1 = omega arith in
           let number : c.loop-i.count + 1 - 1 ≡ c.loop-i.count = omega arith in
           record {
             fronted = rw (e, v.cells-is, v.joined-is, v.count-is, next, number)
-                (fronted_new c.requires.table c.loop-i.invariant.fronted w is v.join_mask.result v.join_mask.ensures (sym c.from-next.ensures ∙ v.if-next-eq0.true));
+                (fronted_new c.rank.ensures.table c.loop-i.invariant.fronted w is v.join_mask.result v.join_mask.ensures (sym c.from-next.ensures ∙ v.if-next-eq0.true));
             few = omega (arith, v.count-is, c.loop-i.invariant.few);
           }
       | else-next-eq0 v ↦ record {
         fronted = rw (e, v.cells-is, v.joined-is, v.count-is, v.next-is, c.from-next.ensures)
-            (fronted_old c.requires.table c.loop-i.invariant.fronted w is (λ z. v.if-next-eq0.false (c.from-next.ensures ∙ z)));
+            (fronted_old c.rank.ensures.table c.loop-i.invariant.fronted w is (λ z. v.if-next-eq0.false (c.from-next.ensures ∙ z)));
         few = omega (arith, v.count-is, c.loop-i.invariant.few);
       }
     ]

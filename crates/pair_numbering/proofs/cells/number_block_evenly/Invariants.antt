@@ -4,7 +4,7 @@ use Rattle.pair_numbering.proofs.cells.number_block_evenly.Given as goal
 
 abbrev pub invariant-loop-i : goal.invariant-loop-i
 invariant-loop-i l = record {
-  fronted : Fronted l.pairs.masks.now l.pairs.x l.pairs.entries.now.numbers l.pairs.entries.now.rank l.cells l.out l.joined l.count
-      (l.block * 2 ^ l.pairs.entries.now.rank + l.i);
+  fronted : Fronted l.pairs.masks.now l.pairs.x l.pairs.entries.numbers l.pairs.entries.rank l.cells l.out l.joined l.count
+      (l.block * 2 ^ l.pairs.entries.rank + l.i);
   few : l.count ≤ l.from + l.i;
 }

@@ -8,14 +8,14 @@ use Rattle.pair_numbering.proofs.numbering.number_with_masks.Goals as goal
 pub join_masks-requires-clause-classes : goal.join_masks-requires-clause-classes
 join_masks-requires-clause-classes c =
     let n = c.in_ok-numbered-2.ensures in
-    subst (λ us. ArePairsBelow us (length c.args.masks.now)) (sym c.deref.ensures.value)
-    (met_classes c.args.entries.now.numbers c.args.entries.now.rank (length c.args.masks.now) c.requires.table.paired.whole c.requires.table.below
+    subst (λ us. ArePairsBelow us (length c.args.pairs.now.masks.now)) (sym c.deref.ensures.value)
+    (met_classes c.args.pairs.now.entries.numbers c.args.pairs.now.entries.rank (length c.args.pairs.now.masks.now) c.rank.ensures.table.paired.whole c.rank.ensures.table.below
     c.in_ok-numbered-2.numbered.numbers.items c.in_ok-numbered-2.numbered.pairs.items n.numbered_are n.many n.labels)
 
 pub returns : goal.returns
 returns c =
-    let ps = places.pairs c.args.entries.now.numbers (2 ^ c.args.entries.now.rank) in
-    let join = joined_mask c.args.masks.now c.args.x in
+    let ps = places.pairs c.args.pairs.now.entries.numbers (2 ^ c.args.pairs.now.entries.rank) in
+    let join = joined_mask c.args.pairs.now.masks.now c.args.pairs.now.x in
     let numbers = c.in_ok-numbered-2.numbered.numbers.items in
     let pairs = c.in_ok-numbered-2.numbered.pairs.items in
     let n = c.in_ok-numbered-2.ensures in

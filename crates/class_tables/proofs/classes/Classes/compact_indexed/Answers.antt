@@ -6,11 +6,11 @@ use Rattle.subfunction_classes.specs.Table.{ClassesOf, HoldsClasses, classes_of,
 use Rattle.subfunction_classes.proofs.Extended.{is_ready, ready_table, holds_more}
 use Rattle.class_tables.proofs.classes.Classes.compact_indexed.Goals as goal
 
-pub number_pairs_by_index-requires-clause-table : goal.number_pairs_by_index-requires-clause-table
-number_pairs_by_index-requires-clause-table c = grind (arith, is_ready, ready_table)
+pub of_table-pairs-requires-clause-table : goal.of_table-pairs-requires-clause-table
+of_table-pairs-requires-clause-table c = grind (arith, is_ready, ready_table)
 
-pub number_pairs_by_index-requires-clause-few : goal.number_pairs_by_index-requires-clause-few
-number_pairs_by_index-requires-clause-few c = grind (arith, is_ready)
+pub of_table-pairs-requires-clause-few : goal.of_table-pairs-requires-clause-few
+of_table-pairs-requires-clause-few c = grind (arith, is_ready)
 
 pub invariant_of-result : goal.invariant_of-result
 invariant_of-result c =
@@ -19,10 +19,11 @@ invariant_of-result c =
     let n = c.requires.inside in
     let m = h.few_inputs in
     let s = one_shl c.args.x 16 (omega arith) in
-    let v = c.deref.ensures.value in
-    let w = c.deref-2.ensures.value in
+    let t = c.of_table-pairs.ensures in
+    let v = t.numbers ∙ c.deref.ensures.value in
+    let w = t.masks ∙ c.deref-2.ensures.value in
     let q = subst (λ z. z)
-    (λ i. NumbersPairs (w i) c.args.x (places.pairs (v i) (2 ^ e i)) c.in_ok-numbered.numbered.numbers.items
+    (λ i. NumbersPairs (w i) (t.variable i) (places.pairs (v i) (2 ^ (t.rank ∙ e) i)) c.in_ok-numbered.numbered.numbers.items
     c.in_ok-numbered.numbered.masks.items)
     c.in_ok-numbered.ensures in
     let k = holds_more c.args.self.now c.args.x c.requires.inside c.requires.new c.self.inside.numbers.items c.self.inside.masks.items

@@ -9,8 +9,8 @@ use Rattle.subfunction_classes.specs.Table.{ClassesOf, classes_of, free_below}
 use Rattle.compaction.proofs.HeldBytes.{bytes_more, bytes_table}
 use Rattle.compaction.proofs.bytes.ByteKeys.add.Goals as goal
 
-pub label_pairs-requires-clause-table : goal.label_pairs-requires-clause-table
-label_pairs-requires-clause-table c =
+pub of_table-pairs-requires-clause-table : goal.of_table-pairs-requires-clause-table
+of_table-pairs-requires-clause-table c =
     let h = subst
     (λ (z : ClassesOf). HoldsBytes z 8 c.self.inside.outer.items c.self.inside.bytes.items c.self.inside.rows.items
     c.self.inside.masks.items)
@@ -33,16 +33,12 @@ invariant_of-result c =
     let e = c.rank_of-rank.ensures ∙ ap (λ (z : ClassesOf). free_below z.set c.args.x) c.self.view_is in
     let s = one_shl c.args.x 16 (omega arith) in
     let labels = c.in_ok-labels.labels in
+    let p = c.of_table-pairs.ensures in
     let k = bytes_more c.args.self.now c.args.x (omega arith) c.requires.new n c.self.inside.outer.items c.self.inside.bytes.items
     c.self.inside.rows.items c.self.inside.masks.items h labels.numbers.items labels.masks.items
-    (subst (λ us. TellsPairs us c.args.x (places.pairs c.self.inside.rows.items (2 ^ free_below c.args.self.now.set c.args.x))
-    labels.numbers.items labels.masks.items)
-    c.deref-4.ensures.value
-    (subst (λ us. TellsPairs c.deref-4.result.now c.args.x (places.pairs us (2 ^ free_below c.args.self.now.set c.args.x)) labels.numbers.items
-    labels.masks.items)
-    c.deref-3.ensures.value
-    (subst (λ r. TellsPairs c.deref-4.result.now c.args.x (places.pairs c.deref-3.result.now (2 ^ r)) labels.numbers.items labels.masks.items) e
-    c.in_ok-labels.ensures.tells))) in
+    (subst (λ z. z) (λ i. TellsPairs ((p.masks ∙ c.deref-4.ensures.value) i) (p.variable i)
+    (places.pairs ((p.numbers ∙ c.deref-3.ensures.value) i) (2 ^ (p.rank ∙ e) i)) labels.numbers.items labels.masks.items)
+    c.in_ok-labels.ensures.tells) in
     let outer = c.in_ok-outer.ensures.items_if_clones_equal (λ x y h. h) ∙ c.deref.ensures.value in
     let bytes = c.in_ok-extend_from_slice.ensures.items ∙ (λ i. c.in_ok-bytes.ensures.items i ++ c.deref-2.ensures.value i) in
     subst (λ us. HoldsBytes (classes_of c.self.inside.problem.now (bit_or c.self.inside.set (1 * 2 ^ c.args.x % 2 ^ 16))) 8 us

@@ -8,8 +8,8 @@ use Rattle.compaction.proofs.AllDistinct.{distinct_more, table_distinct, table_s
 use Rattle.compaction.proofs.HeldStrips.{table_low, holds_low}
 use Rattle.compaction.proofs.strips.Strips.add_low.Goals as goal
 
-pub label_pairs-requires-clause-table : goal.label_pairs-requires-clause-table
-label_pairs-requires-clause-table c = grind (arith, table_strips, table_low)
+pub of_table-pairs-requires-clause-table : goal.of_table-pairs-requires-clause-table
+of_table-pairs-requires-clause-table c = grind (arith, table_strips, table_low)
 
 pub of_parts-requires : goal.of_parts-requires
 of_parts-requires c =
@@ -23,18 +23,15 @@ of_parts-requires c =
     let e = c.rank_of-rank.ensures ∙ ap (λ (z : ClassesOf). free_below z.set c.args.x) c.self.view_is in
     let few = h.keys.few_inputs in
     let s = one_shl c.args.x 16 (omega arith) in
-    let v = c.deref.ensures.value in
-    let m = c.deref-in-None.ensures.value in
+    let p = c.of_table-pairs.ensures in
+    let v = p.numbers ∙ c.deref.ensures.value in
+    let m = p.masks ∙ c.deref-in-None.ensures.value in
     let k = holds_low c.args.self.now c.args.x (omega arith) c.requires.new (low_variables c.args.self.now.problem) c.self.inside.outer.items
     c.self.inside.numbers.items c.self.inside.masks.items h l
     c.in_ok-labels-in-None.labels.numbers.items c.in_ok-labels-in-None.labels.masks.items
-    (subst (λ us. TellsPairs us c.args.x (places.pairs c.self.inside.numbers.items (2 ^ free_below c.args.self.now.set c.args.x))
-    c.in_ok-labels-in-None.labels.numbers.items c.in_ok-labels-in-None.labels.masks.items) m
-    (subst (λ us. TellsPairs c.deref-in-None.result.now c.args.x (places.pairs us (2 ^ free_below c.args.self.now.set c.args.x))
-    c.in_ok-labels-in-None.labels.numbers.items c.in_ok-labels-in-None.labels.masks.items) v
-    (subst (λ r. TellsPairs c.deref-in-None.result.now c.args.x (places.pairs c.deref.result.now (2 ^ r))
+    (subst (λ z. z) (λ i. TellsPairs (m i) (p.variable i) (places.pairs (v i) (2 ^ (p.rank ∙ e) i))
     c.in_ok-labels-in-None.labels.numbers.items c.in_ok-labels-in-None.labels.masks.items)
-    e c.in_ok-labels-in-None.ensures.tells))) in
+    c.in_ok-labels-in-None.ensures.tells) in
     let outer = c.in_ok-outer-in-None.ensures.items_if_clones_equal (λ x y h. h) ∙ c.deref-in-None-2.ensures.value in
     subst (λ us. HoldsStrips (classes_of c.self.inside.problem.now (bit_or c.self.inside.set (1 * 2 ^ c.args.x % 2 ^ 16)))
     (low_variables c.self.inside.problem.now) us c.in_ok-labels-in-None.labels.numbers.items c.in_ok-labels-in-None.labels.masks.items) (sym outer)
@@ -57,5 +54,5 @@ of_count-requires c =
     (λ i. classes_of (sym c.self.view_is i).problem (bit_or (sym c.self.view_is i).set (sym s i)))
     (distinct_more c.args.self.now c.in-Some.count d c.args.x (omega arith) c.requires.new)
 
-pub label_pairs-requires-clause-few : goal.label_pairs-requires-clause-few
-label_pairs-requires-clause-few c = grind (arith, table_strips)
+pub of_table-pairs-requires-clause-few : goal.of_table-pairs-requires-clause-few
+of_table-pairs-requires-clause-few c = grind (arith, table_strips)

@@ -2,7 +2,7 @@ use Rattle.std.proofs.Common.{◌^◌, arith}
 use Rattle.subfunction_classes.specs.Places as places
 use Rattle.subfunction_classes.proofs.Index.{length-pairs}
 use Rattle.pair_numbering.proofs.Names.{names_joined, names_numbered, ranks_used}
-use Rattle.pair_numbering.proofs.keys.tell_entries.Goals as goal
+use Rattle.pair_numbering.proofs.keys.label_pairs.Goals as goal
 
 pub returns-then-base-len-clause-tells : goal.returns-then-base-len-clause-tells
 returns-then-base-len-clause-tells c = grind (arith, names_joined)
@@ -12,5 +12,5 @@ returns-clause-tells c = grind (arith, names_numbered, length-pairs)
 
 pub returns-clause-used : goal.returns-clause-used
 returns-clause-used c =
-    λ e. ranks_used c.args.masks.now c.args.x (places.pairs c.args.entries.now.numbers (2 ^ c.args.entries.now.rank)) c.in_ok-numbered.numbered.numbers.items
+    λ e. ranks_used c.args.pairs.now.masks.now c.args.pairs.now.x (places.pairs c.args.pairs.now.entries.numbers (2 ^ c.args.pairs.now.entries.rank)) c.in_ok-numbered.numbered.numbers.items
     c.in_ok-numbered.numbered.masks.items c.in_ok-numbered.ensures
