@@ -1,8 +1,8 @@
 -- The layers of all sets.
---     layers_push      a layer more
+--     layers_push, layers_done      a layer more; the layers that a slice of them has
 --     set_there, cell_found      the layer in which a set is, and its cell there
 --     ones_le, ones_some      how many members a set has
-use Rattle.std.proofs.Common.{◌≡◌, ℕ, ◌^◌, ◌<◌, ◌≤◌, inl, inr, true, List, [], ◌∷◌, ◌++◌, length, length-append, Some, IfSome, Option, sym, ap, ◌∙◌, subst, arith, count_ones, eqb}
+use Rattle.std.proofs.Common.{◌≡◌, ℕ, ◌+◌, ◌^◌, ◌<◌, ◌≤◌, inl, inr, true, List, [], ◌∷◌, ◌++◌, length, length-append, Some, IfSome, Option, sym, ap, ◌∙◌, subst, arith, count_ones, eqb}
 use Rattle.std.proofs.lemmas.Bool.{cases_eq, cases_lt}
 use Rattle.std.proofs.lemmas.List.FromFn.{length-range_with_len}
 use Rattle.std.proofs.lemmas.List.{get_or_append_left, get_or_push}
@@ -22,7 +22,7 @@ use Rattle.subset_layers.specs.Costs.{CostsOf, layer_of_costs, as_pair, AreTrueC
 use Rattle.subset_layers.proofs.BlockLists.{masks_has}
 use Rattle.definitions.proofs.Bits.Ones.{ones-members}
 use Rattle.layer_core.specs.Instances.{Instance, cell_for}
-use Rattle.solutions.specs.LayerCosts.{IsLayerFor, AreLayersFor}
+use Rattle.solutions.specs.LayerCosts.{IsLayerFor, AreLayersFor, AreDone}
 use Rattle.definitions.proofs.Lists.Ranges.{filter_at_most}
 
 -- ---- layers
@@ -40,6 +40,11 @@ layers_push t layers c h new k d e = elim (cases_lt k (length layers)) [
       let is : d ≡ c = sym (get_or_from_slice_get (layers ++ c ∷ []) k d d e) ∙ get_or_push layers c d k at in
       subst (λ (z : CostsOf). IsLayerFor t k z) (sym is) (subst (λ (i : ℕ). IsLayerFor t i c) at new)
 ]
+
+pub layers_done : (t : Instance) (layers items : List CostsOf) (size end : ℕ) → items ≡ layers → length layers ≡ size + 1 → AreLayersFor t layers →
+    size < end → end ≡ t.problem.inputs → AreDone t items
+layers_done t layers items size end is many are lt e =
+    subst (AreDone t) (sym is) (record { some = omega (arith, many); few = omega (arith, many, lt, e); layers_are = are })
 
 -- ---- the layer of a set
 

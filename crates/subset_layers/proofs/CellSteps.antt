@@ -17,6 +17,7 @@ use Rattle.definitions.specs.BoundsAbove.{nodes_above}
 use Rattle.definitions.specs.declared.limits.BoundAbove.{BoundAbove}
 use Rattle.definitions.specs.declared.limits.BoundAbove.TheVariants.{Variables, Widths}
 use Rattle.definitions.specs.Cells.{first_of, cell_of, AreForCell, asked, candidates}
+use Rattle.definitions.proofs.Lists.Ranges.{filter_same}
 use Rattle.definitions.proofs.Precedence.MaskLaws.{member_bit}
 use Rattle.definitions.proofs.Widths.Cells.{rising_members, first_has, first_le, all_asked, found, clipped, members_zero}
 use Rattle.subset_layers.specs.Layers.{masks_of, layer_with}
@@ -71,20 +72,14 @@ module _ (n : ℕ) (r : BoundAbove) (mask bound : ℕ) (costs widths : ℕ → �
 
 -- ---- the same costs at all members
 
-filter_alike : (p q : ℕ → Bool) (xs : List ℕ) → ((y : ℕ) → has xs y ≡ true → p y ≡ q y) → filter p xs ≡ filter q xs
-filter_alike p q [] h = refl
-filter_alike p q (x ∷ xs) h =
-    ap₂ (λ b ys. cond b (x ∷ ys) ys) (h x (ap (λ b. b || has xs x) (eq-eqb x x refl)))
-    (filter_alike p q xs (λ y m. h y (or_right (nat_eq y x) (has xs y) m)))
-
 pub asked_alike : (n : ℕ) (r : BoundAbove) (bound mask : ℕ) (f g : ℕ → ℕ) → ((y : ℕ) → has (members n mask) y ≡ true → f y ≡ g y) →
     asked n r bound mask f ≡ asked n r bound mask g
 unfolding asked candidates
 asked_alike n Variables bound mask f g h =
-    filter_alike (λ x. nat_le (f x) bound) (λ x. nat_le (g x) bound) (members n mask) (λ y m. ap (λ k. nat_le k bound) (h y m))
+    filter_same (λ x. nat_le (f x) bound) (λ x. nat_le (g x) bound) (members n mask) (λ y m. ap (λ k. nat_le k bound) (h y m))
 asked_alike n Widths bound mask f g h =
     ap (λ xs. if nat_eq (length xs) 0 then [] else members n mask)
-    (filter_alike (λ x. nat_le (f x) bound) (λ x. nat_le (g x) bound) (members n mask) (λ y m. ap (λ k. nat_le k bound) (h y m)))
+    (filter_same (λ x. nat_le (f x) bound) (λ x. nat_le (g x) bound) (members n mask) (λ y m. ap (λ k. nat_le k bound) (h y m)))
 
 -- the costs of the layer before are those of the sets without one member
 pub costs_for_cell : (c : CostsOf) (r : BoundAbove) (mask bound : ℕ) (below widths : List ℕ) (F : List Function) (P : List Pair) →

@@ -16,15 +16,9 @@ use Rattle.symmetries.specs.SymmetricPairs.{AreSymmetricPairs, IsHarmless}
 use Rattle.definitions.proofs.Nodes.Construction.{exact_diagram}
 use Rattle.definitions.proofs.Nodes.LevelBound.{size_bound}
 use Rattle.definitions.proofs.Widths.Fewest.{fewest_unique}
-use Rattle.symmetries.proofs.SortedOrders.{sorted_order}
+use Rattle.symmetries.proofs.SortedOrders.{not_greater, sorted_order}
 
 -- ---- lists that do not come later
-
--- the test of an ordering says so where it is not Greater
-not_greater : (r : Ordering) → r ≢ Greater → is_gt r ≡ false
-not_greater Less h = refl
-not_greater Equal h = refl
-not_greater Greater h = absurd (h refl)
 
 -- of three lists, if the first does not come later than the second, nor the second than the third, then nor does the first than the third
 not_later : (xs ys zs : List ℕ) → slice_cmp nat_cmp xs ys ≢ Greater → slice_cmp nat_cmp ys zs ≢ Greater → slice_cmp nat_cmp xs zs ≢ Greater

@@ -212,7 +212,7 @@ step_at n F a b s order o h =
     }
 
 -- a list that does not come later passes the test of that
-not_greater : (r : Ordering) → r ≢ Greater → is_gt r ≡ false
+pub not_greater : (r : Ordering) → r ≢ Greater → is_gt r ≡ false
 not_greater Less h = refl
 not_greater Equal h = refl
 not_greater Greater h = absurd (h refl)

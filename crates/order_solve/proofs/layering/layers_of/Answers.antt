@@ -1,26 +1,19 @@
 use Rattle.std.proofs.Common.{ℕ, ◌+◌, ◌<◌, ◌≡◌, List, [], ◌∷◌, length, length-append, slice_get, sym, ap, ◌∙◌, subst, arith}
 use Rattle.subset_layers.specs.Costs.{CostsOf}
-use Rattle.layer_core.specs.Instances.{Instance}
-use Rattle.solutions.specs.LayerCosts.{IsLayerFor, AreLayersFor, AreDone}
-use Rattle.solutions.proofs.Layers.{layers_push}
+use Rattle.solutions.specs.LayerCosts.{IsLayerFor}
+use Rattle.solutions.proofs.Layers.{layers_done, layers_push}
 use Rattle.order_solve.proofs.layering.layers_of.Goals as goal
-
--- the layers that a slice of them has
-done : (t : Instance) (layers items : List CostsOf) (size end : ℕ) → items ≡ layers → length layers ≡ size + 1 → AreLayersFor t layers →
-    size < end → end ≡ t.problem.inputs → AreDone t items
-done t layers items size end is many are lt e =
-    subst (AreDone t) (sym is) (record { some = omega (arith, many); few = omega (arith, many, lt, e); layers_are = are })
 
 pub look_ahead-ahead-requires : goal.look_ahead-ahead-requires
 look_ahead-ahead-requires g c =
     let i = c.loop-size.invariant in
-    done c.args.instance.now c.loop-size.layers.items _ c.loop-size._size _ c.deref.ensures.value i.many i.layers_are c.loop-size-test.true
+    layers_done c.args.instance.now c.loop-size.layers.items _ c.loop-size._size _ c.deref.ensures.value i.many i.layers_are c.loop-size-test.true
     c.inputs-size-end.ensures.value
 
 pub next_layer-requires-clause-done : goal.next_layer-requires-clause-done
 next_layer-requires-clause-done g c κs within =
     let i = c.loop-size.invariant in
-    done c.args.instance.now c.loop-size.layers.items _ c.loop-size._size _ c.deref-in-loop-size.ensures.value i.many i.layers_are
+    layers_done c.args.instance.now c.loop-size.layers.items _ c.loop-size._size _ c.deref-in-loop-size.ensures.value i.many i.layers_are
     c.loop-size-test.true c.inputs-size-end.ensures.value
 
 pub loop-size-preserved : goal.loop-size-preserved
