@@ -11,7 +11,7 @@ use Rattle.minorder_c.specs.Certified.{IsCertificateText}
 
 -- the text of an order's certificate, if the order is the first of the fewest nodes
 first_text : (t : TruthTables) (P : List Pair) (order text : List ℕ) → IsFirstKeeping t.inputs (functions t) P order →
-    Spells text (certificate_of t.inputs (functions t) P order) → IsCertificateText t.inputs (functions t) P text
+    Spells text (certificate_of t.inputs (functions t) P order) → IsCertificateText t P text
 unfolding certificate_of
 first_text t P order text first spells =
     let n = t.inputs in
@@ -26,8 +26,8 @@ first_text t P order text first spells =
 
 pub solution_text : (t t' : TruthTables) (P P' P'' : List Pair) (order text : List ℕ) → t' ≡ t → P' ≡ P → P'' ≡ P →
     IsFirstKeeping t'.inputs (functions t') P' order → Spells text (certificate_of t'.inputs (functions t') P'' order) →
-    IsCertificateText t.inputs (functions t) P text
+    IsCertificateText t P text
 solution_text t t' P P' P'' order text tables pairs kept first spells =
     let first' = subst (λ (p : List Pair). IsFirstKeeping t'.inputs (functions t') p order) pairs first in
     let spells' = subst (λ (p : List Pair). Spells text (certificate_of t'.inputs (functions t') p order)) kept spells in
-    subst (λ (z : TruthTables). IsCertificateText z.inputs (functions z) P text) tables (first_text t' P order text first' spells')
+    subst (λ (z : TruthTables). IsCertificateText z P text) tables (first_text t' P order text first' spells')

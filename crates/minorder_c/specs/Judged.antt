@@ -1,9 +1,9 @@
 -- What minorder_check answers.
 --     returned_verdict v      a verdict, as C is told it
 --     IsNoCertificate text, RefusesText shape text r      why a text is refused
---     IsJudged n F text returned      the verdict on the certificate that a text spells
+--     IsJudged given text cert v      the text spells the certificate, and this is the verdict on it
+--     IsVerdictReturned given text returned      it spells some certificate, and this is the verdict on it, as C is told it
 use Rattle.std.specs.Prelude.{◌≡◌, ℕ, ◌<◌, ◌⊎◌, List, length}
-use Rattle.definitions.specs.Functions.{Function}
 use Rattle.definitions.specs.Certificates.{Certificate}
 use Rattle.certificate.specs.Faults.{FirstCertFault}
 use Rattle.certificate.specs.declared.faults.LineFault.{LineFault}
@@ -16,6 +16,8 @@ use Rattle.cert_check.specs.Verdicts.{IsVerdict}
 use Rattle.minorder_c.specs.declared.status.Refusal.{Refusal}
 use Rattle.minorder_c.specs.declared.status.Refusal.TheVariants as refused
 use Rattle.minorder_c.specs.declared.judging.ReturnedVerdict.{ReturnedVerdict}
+use Rattle.minorder_c.specs.declared.arguments.GivenTables.{GivenTables}
+use Rattle.minorder_c.specs.Answers.{functions_in}
 use Rattle.minorder_c.specs.Statuses.{IsPlainStatus}
 
 -- a reason without an edge
@@ -45,16 +47,16 @@ RefusesText shape text refused.Certificate = shape × IsNoCertificate text
 RefusesText shape text refused.OutOfMemory = shape
 RefusesText shape text _ = ⊥
 
--- the text spells a certificate, and this is the verdict on it
-pub record IsJudged (n : ℕ) (F : List Function) (text : List ℕ) (v : Verdict) : Type 0 where
-  pub cert : Certificate
+-- the text spells the certificate, and this is the verdict on it
+pub record IsJudged (given : GivenTables) (text : List ℕ) (cert : Certificate) (v : Verdict) : Type 0 where
   pub text_is : text ≡ spelling cert
-  pub verdict : IsVerdict n F cert v
+  pub verdict : IsVerdict given.inputs (functions_in given) cert v
 
--- the same, as C is told it
-pub record IsVerdictReturned (n : ℕ) (F : List Function) (text : List ℕ) (returned : ReturnedVerdict) : Type 0 where
+-- the text spells a certificate, and this is the verdict on it, as C is told it
+pub record IsVerdictReturned (given : GivenTables) (text : List ℕ) (returned : ReturnedVerdict) : Type 0 where
+  pub cert : Certificate
   pub verdict : Verdict
-  pub judged : IsJudged n F text verdict
+  pub judged : IsJudged given text cert verdict
   pub returned_is : returned ≡ returned_verdict verdict
 
 -- the numbers of a call with a certificate

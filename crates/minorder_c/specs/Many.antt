@@ -1,26 +1,30 @@
 -- What minorder_exact_many takes and answers.
---     HasManyShape inputs outputs words places counts many      truth tables of so many problems, one behind the other, and places for their answers
---     AreFirstFewest n m words many orders levels totals      of each problem the first order of the fewest nodes, its level counts and its size
-use Rattle.std.specs.Prelude.{◌≡◌, ℕ, ◌*◌, ◌<◌, ◌≤◌, List, [], length, slice_index}
-use Rattle.definitions.specs.Problems.{words_of, words_per_table}
+--     HasManyShape given places counts many      truth tables of so many problems, one behind the other, and places for their answers
+--     tables_at given k      the truth tables of problem k
+--     AreFirstFewest given many orders levels totals      of each problem the first order of the fewest nodes, its level counts and its size
+use Rattle.std.specs.Prelude.{◌≡◌, ℕ, ◌*◌, ◌<◌, List, [], length, slice_index}
+use Rattle.definitions.specs.Problems.{TruthTables, functions, packed_tables, words_of, words_per_table}
 use Rattle.solutions.specs.Solutions.{IsFirstFewest}
-use Rattle.minorder_c.specs.Answers.{functions_in}
+use Rattle.minorder_c.specs.declared.arguments.GivenTables.{GivenTables}
+use Rattle.minorder_c.specs.Answers.{IsInRange}
 
 -- truth tables of so many problems, one behind the other, each of 1 to 16 functions of 1 to 16 variables; for each problem a place in
 -- an order and a level count for each variable
-pub record HasManyShape (inputs outputs : ℕ) (words : List ℕ) (places counts many : ℕ) : Type 0 where
-  pub some_inputs : 1 ≤ inputs
-  pub few_inputs : inputs ≤ 16
-  pub some_outputs : 1 ≤ outputs
-  pub few_outputs : outputs ≤ 16
-  pub long : length words ≡ many * (outputs * words_per_table inputs)
-  pub places_are : places ≡ many * inputs
-  pub counts_are : counts ≡ many * inputs
+pub record HasManyShape (given : GivenTables) (places counts many : ℕ) : Type 0 where
+  pub in_range : IsInRange given
+  pub long : length given.words.now ≡ many * (given.outputs * words_per_table given.inputs)
+  pub places_are : places ≡ many * given.inputs
+  pub counts_are : counts ≡ many * given.inputs
+
+-- the truth tables of problem k
+abbrev pub tables_at : GivenTables → ℕ → TruthTables
+tables_at given k =
+    packed_tables given.inputs given.outputs (words_of (given.outputs * words_per_table given.inputs) given.words.now k)
 
 -- of each problem the first order of the fewest nodes, its level counts and its size; each list has those of one problem behind
 -- those of the other
-abbrev pub AreFirstFewest : ℕ → ℕ → List ℕ → ℕ → List ℕ → List ℕ → List ℕ → Type 0
-AreFirstFewest n m words many orders levels totals =
+abbrev pub AreFirstFewest : GivenTables → ℕ → List ℕ → List ℕ → List ℕ → Type 0
+AreFirstFewest given many orders levels totals =
     (k : ℕ) → k < many →
-    IsFirstFewest n (functions_in n m (words_of (m * words_per_table n) words k)) [] (words_of n orders k) (words_of n levels k)
+    IsFirstFewest given.inputs (functions (tables_at given k)) [] (words_of given.inputs orders k) (words_of given.inputs levels k)
     (slice_index totals k)

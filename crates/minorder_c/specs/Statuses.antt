@@ -50,9 +50,9 @@ TellsShape shape s = (s ≡ 2) ↔ (shape → ⊥)
 abbrev pub TellsOrder : Type 0 → ℕ → Type 0
 TellsOrder order s = (s ≡ 5 → order → ⊥) × (s ≡ 0 → order)
 
--- 8 is the number of calls with pairs that no order keeps, 0 of calls with pairs that some order keeps
+-- 8 is the number of calls with pairs that no order keeps, 0 and 7 are those of calls with pairs that some order keeps
 abbrev pub TellsPairs : Type 0 → ℕ → Type 0
-TellsPairs keepable s = (s ≡ 8 → keepable → ⊥) × (s ≡ 0 → keepable)
+TellsPairs keepable s = (s ≡ 8 → keepable → ⊥) × ((s ≡ 0) ⊎ (s ≡ 7) → keepable)
 
 -- the numbers of the calls that take an order
 abbrev pub IsOrderStatus : ℕ → Type 0

@@ -1,9 +1,8 @@
 //! What calls are given.
 
-ghost use Rattle.std.specs.Prelude.{◌≡◌, ◌≤◌, length, IfOk, IfErr, OnOk};
-ghost use Rattle.definitions.specs.Problems.{packed_tables};
+ghost use Rattle.std.specs.Prelude.{◌≡◌, ◌≤◌, ◌↔◌, length, IsTrue, IfOk, IfErr, OnOk};
 ghost use Rattle.definitions.specs.Orders.{IsOrder};
-ghost use Rattle.minorder_c.specs.Answers.{AreTables, HasCallShape};
+ghost use Rattle.minorder_c.specs.Answers.{AreTables, HasCallShape, IsInRange, tables_in};
 ghost use Rattle.minorder_c.specs.Statuses.{RefusesShape, RefusesOrder};
 
 use crate::status::Refusal;
@@ -12,29 +11,57 @@ use order_model::{BadOrder, Order};
 use std::alloc::Global;
 use truth_table::Tables;
 
-/// The truth tables that words hold.
-pub(crate) fn tables_of(
-    alloc: Global,
-    words: &[u64],
-    inputs: u32,
-    outputs: u32,
-) -> Result<Tables, Refusal>
-    ensures there { OnOk result (AreTables inputs outputs words.now) }
-    ensures tables { IfOk result (λ t. t ≡ packed_tables inputs outputs words.now) }
-    ensures refused { IfErr result (RefusesShape (AreTables inputs outputs words.now)) }
+/// What a caller gives as the truth tables of so many outputs of so many inputs. The words need
+/// not be tables.
+#[derive(Clone, Copy, Debug)]
+pub(crate) struct GivenTables<'a> {
+    pub words: &'a [u64],
+    pub inputs: u32,
+    pub outputs: u32,
+}
+
+/// Whether the numbers are those of 1 to 16 functions of 1 to 16 variables.
+pub(crate) fn is_in_range(given: &GivenTables) -> bool
+    ensures { IsTrue result ↔ IsInRange given.now }
 {
-    if inputs < 1 || 16 < inputs || outputs < 1 || 16 < outputs {
+    (1..=16).contains(&given.inputs) && (1..=16).contains(&given.outputs)
+}
+
+/// The truth tables that the words hold.
+pub(crate) fn tables_of(alloc: Global, given: &GivenTables) -> Result<Tables, Refusal>
+    ensures there { OnOk result (AreTables given.now) }
+    ensures tables { IfOk result (λ t. t ≡ tables_in given.now) }
+    ensures refused { IfErr result (RefusesShape (AreTables given.now)) }
+{
+    if !is_in_range(given) {
         return Err(Refusal::Shape);
     }
-    let n = inputs as u8;
-    let m = outputs as u8;
-    if words.len() != usize::from(m) * words_per_table(n) {
+    let n = given.inputs as u8;
+    let m = given.outputs as u8;
+    if given.words.len() != usize::from(m) * words_per_table(n) {
         return Err(Refusal::Shape);
     }
-    match Tables::of_words(alloc, n, m, words) {
+    match Tables::of_words(alloc, n, m, given.words) {
         Ok(tables) => Ok(tables),
         Err(_) => Err(Refusal::OutOfMemory),
     }
+}
+
+/// The truth tables that the words hold, for so many places of variables and level counts.
+pub(crate) fn tables_for(
+    alloc: Global,
+    given: &GivenTables,
+    places: usize,
+    counts: usize,
+) -> Result<Tables, Refusal>
+    ensures shape { OnOk result (HasCallShape given.now places counts) }
+    ensures tables { IfOk result (λ t. t ≡ tables_in given.now) }
+    ensures refused { IfErr result (RefusesShape (HasCallShape given.now places counts)) }
+{
+    if places != given.inputs as usize || counts != given.inputs as usize {
+        return Err(Refusal::Shape);
+    }
+    tables_of(alloc, given)
 }
 
 /// The order that variables are listed in.
@@ -61,28 +88,22 @@ pub(crate) struct Arguments {
     pub(crate) order: Order,
 }
 
-/// The truth tables that words hold and an order of their variables, if a level count is asked for
-/// each.
+/// The truth tables that the words hold and an order of their variables, for so many level counts.
 pub(crate) fn arguments_of(
     alloc: Global,
-    words: &[u64],
-    inputs: u32,
-    outputs: u32,
+    given: &GivenTables,
     variables: &[u8],
     counts: usize,
 ) -> Result<Arguments, Refusal>
-    ensures shape { OnOk result (HasCallShape inputs outputs words.now (length variables.now) counts) }
-    ensures is_order { OnOk result (IsOrder inputs variables.now) }
-    ensures tables { IfOk result (λ g. g.tables ≡ packed_tables inputs outputs words.now) }
+    ensures shape { OnOk result (HasCallShape given.now (length variables.now) counts) }
+    ensures is_order { OnOk result (IsOrder given.now.inputs variables.now) }
+    ensures tables { IfOk result (λ g. g.tables ≡ tables_in given.now) }
     ensures order { IfOk result (λ g. g.order ≡ variables.now) }
     ensures refused { IfErr result
-        (RefusesOrder (HasCallShape inputs outputs words.now (length variables.now) counts)
-        (IsOrder inputs variables.now)) }
+        (RefusesOrder (HasCallShape given.now (length variables.now) counts)
+        (IsOrder given.now.inputs variables.now)) }
 {
-    if variables.len() != inputs as usize || counts != inputs as usize {
-        return Err(Refusal::Shape);
-    }
-    let tables = tables_of(alloc, words, inputs, outputs)?;
+    let tables = tables_for(alloc, given, variables.len(), counts)?;
     let order = order_of(alloc, variables)?;
     Ok(Arguments { tables, order })
 }

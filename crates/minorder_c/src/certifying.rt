@@ -1,16 +1,14 @@
 //! The certificate of the first order of the fewest nodes.
 
-ghost use Rattle.std.specs.Prelude.{◌≡◌, ◌≢◌, ◌⊎◌, ◌≤◌, ◌++◌, drop, length, string_bytes, IfOk, IfErr, OnOk};
+ghost use Rattle.std.specs.Prelude.{◌≡◌, ◌≢◌, ◌≤◌, ◌++◌, drop, length, string_bytes, IfOk, IfErr, OnOk};
 ghost use Rattle.definitions.specs.KeptPairs.{CanBeKept};
-ghost use Rattle.definitions.specs.Pairs.{sorted_pairs};
-ghost use Rattle.definitions.specs.Problems.{functions};
 ghost use Rattle.solutions.specs.Solutions.{IsSolution};
-ghost use Rattle.minorder_c.specs.Answers.{AreTables, functions_in, pairs_given};
-ghost use Rattle.minorder_c.specs.Certified.{Holds, IsCertificateText, IsCertifyStatus, IsShort};
-ghost use Rattle.minorder_c.specs.Statuses.{RefusesPairs, TellsShape};
+ghost use Rattle.minorder_c.specs.Answers.{AreTables, given, pairs_given};
+ghost use Rattle.minorder_c.specs.Certified.{Holds, IsTextFor, IsCertificateText, IsCertifyStatus, IsShort};
+ghost use Rattle.minorder_c.specs.Statuses.{RefusesPairs, TellsPairs, TellsShape};
 
 use crate::above::{AbovePair, kept_pairs};
-use crate::arguments::tables_of;
+use crate::arguments::{GivenTables, tables_of};
 use crate::sifting_from::bound_of;
 use crate::status::Refusal;
 use certificate::certificate_text;
@@ -42,8 +40,7 @@ fn solution(alloc: Global, tables: &Tables, pairs: Pairs) -> Result<Solution, Al
 fn text_of(alloc: Global, tables: &Tables, pairs: Pairs) -> Result<String, AllocError>
     requires { pairs.inputs ≡ tables.now.inputs }
     ensures { IfOk result
-        (λ text. IsCertificateText tables.now.inputs (functions tables.now) pairs.pairs
-        (string_bytes text)) }
+        (λ text. IsCertificateText tables.now pairs.pairs (string_bytes text)) }
 {
     let kept = pairs.copied();
     let problem = tables.problem();
@@ -56,25 +53,16 @@ fn text_of(alloc: Global, tables: &Tables, pairs: Pairs) -> Result<String, Alloc
     Ok(text)
 }
 
-/// The same, of what a call is given.
-fn certificate(
-    alloc: Global,
-    words: &[u64],
-    inputs: u32,
-    outputs: u32,
-    above: &[AbovePair],
-) -> Result<String, Refusal>
-    ensures shape { OnOk result (AreTables inputs outputs words.now) }
-    ensures kept { OnOk result (CanBeKept inputs (pairs_given above.now)) }
-    ensures text { IfOk result
-        (λ text. IsCertificateText inputs (functions_in inputs outputs words.now)
-        (sorted_pairs inputs (pairs_given above.now)) (string_bytes text)) }
+/// The certificate for the truth tables and the pairs that a call is given.
+fn certificate(alloc: Global, given: &GivenTables, above: &[AbovePair]) -> Result<String, Refusal>
+    ensures shape { OnOk result (AreTables given.now) }
+    ensures kept { OnOk result (CanBeKept given.now.inputs (pairs_given above.now)) }
+    ensures text { IfOk result (λ text. IsTextFor given.now above.now (string_bytes text)) }
     ensures refused { IfErr result
-        (RefusesPairs (AreTables inputs outputs words.now)
-        (CanBeKept inputs (pairs_given above.now))) }
+        (RefusesPairs (AreTables given.now) (CanBeKept given.now.inputs (pairs_given above.now))) }
 {
-    let tables = tables_of(alloc, words, inputs, outputs)?;
-    let pairs = kept_pairs(alloc, above, inputs as u8)?;
+    let tables = tables_of(alloc, given)?;
+    let pairs = kept_pairs(alloc, above, given.inputs as u8)?;
     let text = text_of(alloc, &tables, pairs)?;
     Ok(text)
 }
@@ -102,19 +90,21 @@ pub extern "C" fn minorder_certify_with_pairs(
     size: &mut usize,
 ) -> u32
     ensures status { IsCertifyStatus result }
-    ensures shape { TellsShape (AreTables inputs outputs tables.now) result }
-    ensures bad_pairs { result ≡ 8 → CanBeKept inputs (pairs_given above.now) → ⊥ }
-    ensures kept { (result ≡ 0) ⊎ (result ≡ 7) → CanBeKept inputs (pairs_given above.now) }
+    ensures shape { TellsShape (AreTables (given tables.entry inputs outputs)) result }
+    ensures kept { TellsPairs (CanBeKept inputs (pairs_given above.now)) result }
     ensures written { result ≡ 0 →
-        Holds (IsCertificateText inputs (functions_in inputs outputs tables.now)
-        (sorted_pairs inputs (pairs_given above.now))) text.old text.new size.new }
+        Holds (IsTextFor (given tables.entry inputs outputs) above.now) text.old text.new size.new }
     ensures short { result ≡ 7 →
-        IsShort (IsCertificateText inputs (functions_in inputs outputs tables.now)
-        (sorted_pairs inputs (pairs_given above.now))) text.old size.new }
+        IsShort (IsTextFor (given tables.entry inputs outputs) above.now) text.old size.new }
     ensures stays { result ≢ 0 → text.new ≡ text.old }
     ensures refused { result ≢ 0 → result ≢ 7 → size.new ≡ size.old }
 {
-    match certificate(alloc, tables, inputs, outputs, above) {
+    let given = GivenTables {
+        words: tables,
+        inputs,
+        outputs,
+    };
+    match certificate(alloc, &given, above) {
         Ok(made) => {
             let bytes = made.as_bytes();
             *size = bytes.len();

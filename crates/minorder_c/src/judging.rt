@@ -2,11 +2,11 @@
 
 ghost use Rattle.std.specs.Prelude.{◌≡◌, ◌≢◌, IfOk, IfErr, OnOk};
 ghost use Rattle.certificate.specs.Spelling.{spelling};
-ghost use Rattle.minorder_c.specs.Answers.{AreTables, functions_in};
+ghost use Rattle.minorder_c.specs.Answers.{AreTables, given};
 ghost use Rattle.minorder_c.specs.Judged.{IsJudged, IsNoCertificate, IsTextStatus, IsVerdictReturned, RefusesText, returned_verdict};
 ghost use Rattle.minorder_c.specs.Statuses.{TellsShape};
 
-use crate::arguments::tables_of;
+use crate::arguments::{GivenTables, tables_of};
 use crate::status::Refusal;
 use cert_check::{Reason, Verdict, check_alone};
 use certificate::{CertFault, Certificate};
@@ -54,7 +54,7 @@ pub(crate) fn verdict_for_c(verdict: Verdict) -> ReturnedVerdict
 }
 
 /// The certificate that a text spells.
-pub(crate) fn certificate_of(alloc: Global, text: &[u8]) -> Result<Certificate, Refusal>
+fn certificate_of(alloc: Global, text: &[u8]) -> Result<Certificate, Refusal>
     ensures spelled { IfOk result (λ cert. text.now ≡ spelling cert) }
     ensures refused { IfErr result (RefusesText (Unit {0}) text.now) }
 {
@@ -66,23 +66,30 @@ pub(crate) fn certificate_of(alloc: Global, text: &[u8]) -> Result<Certificate, 
     }
 }
 
-/// The verdict on the certificate that a text spells.
-fn verdict_on(
+/// A certificate, and the verdict on it.
+#[derive(Drop)]
+pub(crate) struct Judgement {
+    pub(crate) certificate: Certificate,
+    pub(crate) verdict: Verdict,
+}
+
+/// The certificate that a text spells, and the verdict on it.
+pub(crate) fn judgement_on(
     alloc: Global,
-    words: &[u64],
-    inputs: u32,
-    outputs: u32,
+    given: &GivenTables,
     text: &[u8],
-) -> Result<Verdict, Refusal>
-    ensures shape { OnOk result (AreTables inputs outputs words.now) }
-    ensures judged { IfOk result
-        (IsJudged inputs (functions_in inputs outputs words.now) text.now) }
-    ensures refused { IfErr result (RefusesText (AreTables inputs outputs words.now) text.now) }
+) -> Result<Judgement, Refusal>
+    ensures shape { OnOk result (AreTables given.now) }
+    ensures judged { IfOk result (λ j. IsJudged given.now text.now j.certificate j.verdict) }
+    ensures refused { IfErr result (RefusesText (AreTables given.now) text.now) }
 {
-    let tables = tables_of(alloc, words, inputs, outputs)?;
-    let cert = certificate_of(alloc, text)?;
-    match check_alone(alloc, &tables, &cert) {
-        Ok(verdict) => Ok(verdict),
+    let tables = tables_of(alloc, given)?;
+    let certificate = certificate_of(alloc, text)?;
+    match check_alone(alloc, &tables, &certificate) {
+        Ok(verdict) => Ok(Judgement {
+            certificate,
+            verdict,
+        }),
         Err(_) => Err(Refusal::OutOfMemory),
     }
 }
@@ -98,15 +105,20 @@ pub extern "C" fn minorder_check(
     verdict: &mut ReturnedVerdict,
 ) -> u32
     ensures status { IsTextStatus result }
-    ensures shape { TellsShape (AreTables inputs outputs tables.now) result }
+    ensures shape { TellsShape (AreTables (given tables.entry inputs outputs)) result }
     ensures no_certificate { result ≡ 3 → IsNoCertificate certificate.now }
     ensures returned { result ≡ 0 →
-        IsVerdictReturned inputs (functions_in inputs outputs tables.now) certificate.now verdict.new }
+        IsVerdictReturned (given tables.entry inputs outputs) certificate.now verdict.new }
     ensures refused { result ≢ 0 → verdict.new ≡ verdict.old }
 {
-    match verdict_on(alloc, tables, inputs, outputs, certificate) {
+    let given = GivenTables {
+        words: tables,
+        inputs,
+        outputs,
+    };
+    match judgement_on(alloc, &given, certificate) {
         Ok(found) => {
-            *verdict = verdict_for_c(found);
+            *verdict = verdict_for_c(found.verdict);
             0
         }
         Err(refusal) => refusal.status(),

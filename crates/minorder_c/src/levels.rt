@@ -3,33 +3,31 @@
 ghost use Rattle.std.specs.Prelude.{◌≡◌, ◌≢◌, length, IfOk, IfErr, OnOk};
 ghost use Rattle.definitions.specs.Levels.{level_counts};
 ghost use Rattle.definitions.specs.Orders.{IsOrder};
-ghost use Rattle.minorder_c.specs.Answers.{HasCallShape, functions_in};
-ghost use Rattle.minorder_c.specs.Statuses.{IsOrderStatus, RefusesOrder, TellsShape};
+ghost use Rattle.minorder_c.specs.Answers.{HasCallShape, functions_in, given};
+ghost use Rattle.minorder_c.specs.Statuses.{IsOrderStatus, RefusesOrder, TellsOrder, TellsShape};
 
-use crate::arguments::arguments_of;
+use crate::arguments::{GivenTables, arguments_of};
 use crate::status::Refusal;
 use std::alloc::Global;
 
 /// The level counts under an order, for so many places of theirs.
 fn level_counts_of(
     alloc: Global,
-    words: &[u64],
-    inputs: u32,
-    outputs: u32,
+    given: &GivenTables,
     order: &[u8],
     counts: usize,
 ) -> Result<Vec<u32>, Refusal>
-    ensures shape { OnOk result (HasCallShape inputs outputs words.now (length order.now) counts) }
-    ensures order { OnOk result (IsOrder inputs order.now) }
+    ensures shape { OnOk result (HasCallShape given.now (length order.now) counts) }
+    ensures order { OnOk result (IsOrder given.now.inputs order.now) }
     ensures levels { IfOk result
-        (λ v. v.items ≡ level_counts inputs (functions_in inputs outputs words.now) order.now) }
+        (λ v. v.items ≡ level_counts given.now.inputs (functions_in given.now) order.now) }
     ensures counts { IfOk result (λ v. length v.items ≡ counts) }
     ensures refused { IfErr result
-        (RefusesOrder (HasCallShape inputs outputs words.now (length order.now) counts)
-        (IsOrder inputs order.now)) }
+        (RefusesOrder (HasCallShape given.now (length order.now) counts)
+        (IsOrder given.now.inputs order.now)) }
 {
-    let given = arguments_of(alloc, words, inputs, outputs, order, counts)?;
-    let levels = given.tables.widths_of(alloc, &given.order)?;
+    let arguments = arguments_of(alloc, given, order, counts)?;
+    let levels = arguments.tables.widths_of(alloc, &arguments.order)?;
     Ok(levels)
 }
 
@@ -45,15 +43,20 @@ pub extern "C" fn minorder_levels_with_lengths(
     levels: &mut [u32],
 ) -> u32
     ensures status { IsOrderStatus result }
-    ensures shape { TellsShape
-        (HasCallShape inputs outputs tables.now (length order.now) (length levels.old)) result }
-    ensures no_order { result ≡ 5 → IsOrder inputs order.now → ⊥ }
-    ensures order { result ≡ 0 → IsOrder inputs order.now }
+    ensures shape { TellsShape (HasCallShape (given tables.entry inputs outputs)
+        (length order.now) (length levels.old)) result }
+    ensures order { TellsOrder (IsOrder inputs order.now) result }
     ensures levels { result ≡ 0 →
-        levels.new ≡ level_counts inputs (functions_in inputs outputs tables.now) order.now }
+        levels.new ≡ level_counts inputs (functions_in (given tables.entry inputs outputs))
+        order.now }
     ensures refused { result ≢ 0 → levels.new ≡ levels.old }
 {
-    match level_counts_of(alloc, tables, inputs, outputs, order, levels.len()) {
+    let given = GivenTables {
+        words: tables,
+        inputs,
+        outputs,
+    };
+    match level_counts_of(alloc, &given, order, levels.len()) {
         Ok(counts) => {
             levels.copy_from_slice(&counts);
             0

@@ -1,36 +1,17 @@
 //! The orders of the fewest nodes of many problems by one call.
 
 ghost use Rattle.std.specs.Prelude.{◌≡◌, ◌≢◌, ◌*◌, ◌↔◌, ◌++◌, ◌∷◌, [], length, IsTrue, IfOk, IfErr, OnOk};
-ghost use Rattle.solutions.specs.Solutions.{IsFirstFewest};
-ghost use Rattle.minorder_c.specs.Answers.{AreTables, HasLengths, ListsStay, functions_in};
+ghost use Rattle.minorder_c.specs.Answers.{ListsStay, given};
 ghost use Rattle.minorder_c.specs.Many.{AreFirstFewest, HasManyShape};
-ghost use Rattle.minorder_c.specs.Statuses.{IsPlainStatus, RefusesShape, TellsShape};
+ghost use Rattle.minorder_c.specs.Statuses.{IsPlainStatus, TellsShape};
 ghost use Rattle.minorder_c.specs.declared.status.Refusal.TheVariants.{OutOfMemory};
 
-use crate::arguments::tables_of;
-use crate::exact::optimum;
+use crate::arguments::{GivenTables, is_in_range};
+use crate::exact::exact;
 use crate::status::Refusal;
+use order_model::SizedOrder;
 use order_model::packed::{block, words_per_table};
-use order_model::{Pairs, SizedOrder};
 use std::alloc::{AllocError, Global};
-
-/// The first order of the fewest nodes of one problem.
-fn optimum_of(
-    alloc: Global,
-    words: &[u64],
-    inputs: u32,
-    outputs: u32,
-) -> Result<SizedOrder, Refusal>
-    ensures optimum { IfOk result
-        (λ s. IsFirstFewest inputs (functions_in inputs outputs words.now) [] s.order s.levels.items
-        s.total) }
-    ensures long { IfOk result (HasLengths inputs inputs) }
-    ensures refused { IfErr result (RefusesShape (AreTables inputs outputs words.now)) }
-{
-    let tables = tables_of(alloc, words, inputs, outputs)?;
-    let best = optimum(alloc, &tables, Pairs::none(inputs as u8))?;
-    Ok(best)
-}
 
 /// The answers of many problems, one behind the other.
 #[derive(Drop)]
@@ -51,28 +32,22 @@ fn is_length(length: usize, many: usize, size: usize) -> bool
 }
 
 /// Whether these lengths are what so many problems ask for.
-fn is_shape(
-    words: &[u64],
-    inputs: u32,
-    outputs: u32,
-    places: usize,
-    counts: usize,
-    many: usize,
-) -> bool
-    ensures { IsTrue result ↔ HasManyShape inputs outputs words.now places counts many }
+fn is_shape(given: &GivenTables, places: usize, counts: usize, many: usize) -> bool
+    ensures { IsTrue result ↔ HasManyShape given.now places counts many }
 {
-    if inputs < 1 || 16 < inputs || outputs < 1 || 16 < outputs {
+    if !is_in_range(given) {
         return false;
     }
-    let size = outputs as usize * words_per_table(inputs as u8);
-    is_length(words.len(), many, size)
-        && is_length(places, many, inputs as usize)
-        && is_length(counts, many, inputs as usize)
+    let size = given.outputs as usize * words_per_table(given.inputs as u8);
+    is_length(given.words.len(), many, size)
+        && is_length(places, many, given.inputs as usize)
+        && is_length(counts, many, given.inputs as usize)
 }
 
 /// Puts one problem's answers behind the others.
 fn put(answers: &mut Answers, best: &SizedOrder) -> Result<(), AllocError>
-    ensures orders { OnOk result (answers.new.orders.items ≡ answers.old.orders.items ++ best.now.order) }
+    ensures orders { OnOk result
+        (answers.new.orders.items ≡ answers.old.orders.items ++ best.now.order) }
     ensures levels { OnOk result
         (answers.new.levels.items ≡ answers.old.levels.items ++ best.now.levels.items) }
     ensures totals { OnOk result
@@ -85,30 +60,25 @@ fn put(answers: &mut Answers, best: &SizedOrder) -> Result<(), AllocError>
 }
 
 /// The first order of the fewest nodes of each of many problems, whose words have their shape.
-fn optima_of(
-    alloc: Global,
-    words: &[u64],
-    inputs: u32,
-    outputs: u32,
-    many: usize,
-) -> Result<Answers, Refusal>
-    requires { HasManyShape inputs outputs words.now (many * inputs) (many * inputs) many }
+fn optima_of(alloc: Global, given: &GivenTables, many: usize) -> Result<Answers, Refusal>
+    requires { HasManyShape given.now (many * given.now.inputs) (many * given.now.inputs) many }
     ensures optima { IfOk result
-        (λ a. AreFirstFewest inputs outputs words.now many a.orders.items a.levels.items
-        a.totals.items) }
-    ensures orders { IfOk result (λ a. length a.orders.items ≡ many * inputs) }
-    ensures levels { IfOk result (λ a. length a.levels.items ≡ many * inputs) }
+        (λ a. AreFirstFewest given.now many a.orders.items a.levels.items a.totals.items) }
+    ensures orders { IfOk result (λ a. length a.orders.items ≡ many * given.now.inputs) }
+    ensures levels { IfOk result (λ a. length a.levels.items ≡ many * given.now.inputs) }
     ensures totals { IfOk result (λ a. length a.totals.items ≡ many) }
     ensures refused { IfErr result (λ r. r ≡ OutOfMemory) }
 {
-    let size = outputs as usize * words_per_table(inputs as u8);
+    let n = given.inputs as usize;
+    let size = given.outputs as usize * words_per_table(given.inputs as u8);
     let mut answers = Answers {
         orders: Vec::new(alloc),
         levels: Vec::new(alloc),
         totals: Vec::new(alloc),
     };
     for i in 0..many {
-        let best = optimum_of(alloc, block(words, size, i), inputs, outputs)?;
+        let words = block(given.words, size, i);
+        let best = exact(alloc, &GivenTables { words, ..*given }, n, n)?;
         put(&mut answers, &best)?;
     }
     Ok(answers)
@@ -128,20 +98,24 @@ pub extern "C" fn minorder_exact_many_with_lengths(
     totals: &mut [u32],
 ) -> u32
     ensures status { IsPlainStatus result }
-    ensures shape { TellsShape
-        (HasManyShape inputs outputs tables.now (length orders.old) (length levels.old)
-        (length totals.old)) result }
+    ensures shape { TellsShape (HasManyShape (given tables.entry inputs outputs)
+        (length orders.old) (length levels.old) (length totals.old)) result }
     ensures optima { result ≡ 0 →
-        AreFirstFewest inputs outputs tables.now (length totals.old) orders.new levels.new
+        AreFirstFewest (given tables.entry inputs outputs) (length totals.old) orders.new levels.new
         totals.new }
     ensures refused { result ≢ 0 →
         ListsStay orders.old orders.new levels.old levels.new totals.old totals.new }
 {
+    let given = GivenTables {
+        words: tables,
+        inputs,
+        outputs,
+    };
     let many = totals.len();
-    if !is_shape(tables, inputs, outputs, orders.len(), levels.len(), many) {
+    if !is_shape(&given, orders.len(), levels.len(), many) {
         return Refusal::Shape.status();
     }
-    match optima_of(alloc, tables, inputs, outputs, many) {
+    match optima_of(alloc, &given, many) {
         Ok(found) => {
             orders.copy_from_slice(&found.orders);
             levels.copy_from_slice(&found.levels);

@@ -1,13 +1,13 @@
 //! One pass of sifting from any order.
 
-ghost use Rattle.std.specs.Prelude.{◌≡◌, ◌≢◌, ◌<◌, ℕ, [], length, slice_index, IfOk, IfErr, OnOk};
+ghost use Rattle.std.specs.Prelude.{◌≡◌, ◌≢◌, ◌<◌, ℕ, length, slice_index, IfOk, IfErr, OnOk};
 ghost use Rattle.definitions.specs.Orders.{IsOrder};
 ghost use Rattle.definitions.specs.Problems.{functions};
 ghost use Rattle.definitions.specs.Levels.{level_count};
-ghost use Rattle.minorder_c.specs.Answers.{AllStay, HasCallShape, HasLengths, IsSiftedFrom, functions_in};
+ghost use Rattle.minorder_c.specs.Answers.{AllStay, HasCallShape, HasLengths, IsSiftedFrom, given};
 ghost use Rattle.minorder_c.specs.Statuses.{IsOrderStatus, RefusesOrder, TellsOrder, TellsShape};
 
-use crate::arguments::arguments_of;
+use crate::arguments::{GivenTables, arguments_of};
 use crate::sifting_from::sifted_from;
 use crate::status::Refusal;
 use order_model::{Pairs, SizedOrder};
@@ -29,25 +29,22 @@ fn levels_of(alloc: Global, sifted: &Sifted) -> Result<Vec<u32>, AllocError>
 /// What sifting makes of an order, for so many places of level counts.
 fn sifted_order(
     alloc: Global,
-    words: &[u64],
-    inputs: u32,
-    outputs: u32,
+    given: &GivenTables,
     order: &[u8],
     counts: usize,
 ) -> Result<SizedOrder, Refusal>
-    ensures shape { OnOk result (HasCallShape inputs outputs words.now (length order.now) counts) }
-    ensures order { OnOk result (IsOrder inputs order.now) }
+    ensures shape { OnOk result (HasCallShape given.now (length order.now) counts) }
+    ensures order { OnOk result (IsOrder given.now.inputs order.now) }
     ensures sifted { IfOk result
-        (λ f. IsSiftedFrom inputs (functions_in inputs outputs words.now) [] order.now f.order
-        f.levels.items f.total) }
-    ensures long { IfOk result (HasLengths (length order.now) counts) }
+        (λ f. IsSiftedFrom given.now order.now f.order f.levels.items f.total) }
+    ensures long { IfOk result (HasLengths given.now.inputs) }
     ensures refused { IfErr result
-        (RefusesOrder (HasCallShape inputs outputs words.now (length order.now) counts)
-        (IsOrder inputs order.now)) }
+        (RefusesOrder (HasCallShape given.now (length order.now) counts)
+        (IsOrder given.now.inputs order.now)) }
 {
-    let given = arguments_of(alloc, words, inputs, outputs, order, counts)?;
-    let pairs = Pairs::none(inputs as u8);
-    let sifted = sifted_from(alloc, &given.tables, &given.order, pairs)?;
+    let arguments = arguments_of(alloc, given, order, counts)?;
+    let pairs = Pairs::none(given.inputs as u8);
+    let sifted = sifted_from(alloc, &arguments.tables, &arguments.order, pairs)?;
     Ok(SizedOrder {
         order: sifted.order().try_clone(alloc)?,
         levels: levels_of(alloc, &sifted)?,
@@ -68,16 +65,20 @@ pub extern "C" fn minorder_sift_with_lengths(
     total: &mut u32,
 ) -> u32
     ensures status { IsOrderStatus result }
-    ensures shape { TellsShape
-        (HasCallShape inputs outputs tables.now (length order.old) (length levels.old)) result }
+    ensures shape { TellsShape (HasCallShape (given tables.entry inputs outputs)
+        (length order.old) (length levels.old)) result }
     ensures order { TellsOrder (IsOrder inputs order.old) result }
     ensures sifted { result ≡ 0 →
-        IsSiftedFrom inputs (functions_in inputs outputs tables.now) [] order.old order.new
-        levels.new total.new }
+        IsSiftedFrom (given tables.entry inputs outputs) order.old order.new levels.new total.new }
     ensures refused { result ≢ 0 →
         AllStay order.old order.new levels.old levels.new total.old total.new }
 {
-    match sifted_order(alloc, tables, inputs, outputs, order, levels.len()) {
+    let given = GivenTables {
+        words: tables,
+        inputs,
+        outputs,
+    };
+    match sifted_order(alloc, &given, order, levels.len()) {
         Ok(found) => {
             order.copy_from_slice(found.order.variables());
             levels.copy_from_slice(&found.levels);

@@ -8,7 +8,7 @@ returns-clause-levels c = search rules
 
 pub returns-clause-counts : goal.returns-clause-counts
 returns-clause-counts c =
-    let s = c.in_ok-given.ensures.shape in
+    let s = c.in_ok-arguments.ensures.shape in
     ap length (returns-clause-levels c)
-    ∙ counts_long c.args.inputs (functions_in c.args.inputs c.args.outputs c.args.words.now) c.args.order.now ∙ s.places_are
+    ∙ counts_long c.args.given.now.inputs (functions_in c.args.given.now) c.args.order.now ∙ s.places_are
     ∙ sym s.counts_are

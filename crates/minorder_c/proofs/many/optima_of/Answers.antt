@@ -8,7 +8,7 @@ loop-i-preserved c =
     let best = c.in_ok-best.best in
     let returned = c.in_ok-best.ensures in
     let kept = c.in_ok-put.ensures in
-    more_put c.args.inputs c.args.outputs c.args.words.now c.loop-i.i a.orders.items a.levels.items a.totals.items best.order
-    best.levels.items best.total c.block.result.now (c.args.outputs * c.words_per_table.result) c.put.new.answers.orders.items
-    c.put.new.answers.levels.items c.put.new.answers.totals.items c.loop-i.invariant returned.long.0 returned.long.1 c.block.ensures
-    (ap (λ (w : ℕ). c.args.outputs * w) c.words_per_table.ensures.value) returned.optimum kept.orders kept.levels kept.totals
+    more_put c.args.given.now c.loop-i.i a.orders.items a.levels.items a.totals.items best.order best.levels.items best.total c.block-words.result.now
+    (c.args.given.now.outputs * c.words_per_table.result) c.put.new.answers.orders.items c.put.new.answers.levels.items
+    c.put.new.answers.totals.items c.loop-i.invariant returned.long.0 returned.long.1 c.block-words.ensures
+    (ap (λ (w : ℕ). c.args.given.now.outputs * w) c.words_per_table.ensures.value) returned.optimum kept.orders kept.levels kept.totals
