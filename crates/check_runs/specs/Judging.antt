@@ -14,6 +14,7 @@ use Rattle.pla_reader.specs.Reading.{FirstFault}
 use Rattle.command_line.specs.declared.check_line.CheckLine.{CheckLine}
 use Rattle.command_line.specs.Lines.{IsCheckLineOf, ordercheck}
 use Rattle.command_line.specs.Usages.{AsksForHelp}
+use Rattle.counted_io.specs.Counts.{one_more}
 use Rattle.counted_io.specs.declared.whole.Refused.{Refused as NoBytes}
 use Rattle.counted_io.specs.declared.whole.Refused.TheVariants as refused
 use Rattle.outcomes.specs.declared.outcome.Fault.{Fault}
@@ -50,11 +51,11 @@ IsTextFault Device = Unit {0}
 IsTextFault OutOfMemory = Unit {0}
 IsTextFault _ = ⊥
 
--- how many calls failed in reading a certificate
-abbrev pub failed_reads : {A : Type 0} → Result A Fault → ℕ
-failed_reads (Ok a) = 0
-failed_reads (Err Device) = 1
-failed_reads (Err _) = 0
+-- how many calls of a certificate's reader have failed, by how many had before
+abbrev pub failed_after : {A : Type 0} → Result A Fault → ℕ → ℕ
+failed_after (Ok a) before = before
+failed_after (Err Device) before = one_more before
+failed_after (Err _) before = before
 
 -- the line of a certificate for a cover: it is good, or this is the first reason why not
 abbrev pub HasVerdict : NamedCover → Certificate → Outcome → List ℕ → Type 0
@@ -125,12 +126,12 @@ MayEndCheck StoreFull = ⊥
 MayEndCheck (Pairs fault) = ⊥
 MayEndCheck fault = Unit {0}
 
--- what a check's output holds, if it is known, and how many calls of its devices have failed
+-- what a check's output holds, if it is known, and how many calls of each of its devices have failed
 pub record Devices : Type 0 where
   pub out : Option (List ℕ)
-  pub failed : ℕ
+  pub failed : List ℕ
 
-abbrev pub devices : Option (List ℕ) → ℕ → Devices
+abbrev pub devices : Option (List ℕ) → List ℕ → Devices
 devices out failed = record { out = out; failed = failed }
 
 -- how a check ends, by the bytes of the file and of the certificate, if they are known, and by what its devices were before and after

@@ -1,6 +1,5 @@
 //! The program ordercheck: words, files and messages.
 
-ghost use Rattle.std.specs.Prelude.{◌<◌, ◌^◌};
 ghost use Rattle.command_line.specs.Lines.{texts};
 ghost use Rattle.check_runs.specs.Judging.{OrdercheckEnds, Verdicts};
 ghost use Rattle.outcomes.specs.Messages.{writer};
@@ -20,7 +19,6 @@ fn check_files<'a, R: Files + AllocGlobal + Threads + Sync, W: CountedWrite>(
     line: &CheckLine<'a>,
     out: &mut W,
 ) -> Outcome
-    requires { W.failures out.old < 2 ^ 32 }
     ensures { Verdicts (W.contents out.old) (W.contents out.new) result }
 {
     let Ok(file) = fs::open(rt, line.file) else {
@@ -44,8 +42,6 @@ pub fn ordercheck<'a, R: Files + AllocGlobal + Threads + Sync, W: CountedWrite, 
     out: &mut W,
     err: &mut E,
 ) -> u8
-    requires out { W.failures out.old < 2 ^ 32 }
-    requires err { E.failures err.old < 2 ^ 32 }
     ensures { OrdercheckEnds (texts words.now) result
         (streams (W.contents out.old) (writer (E.contents err.old) (E.failures err.old)))
         (streams (W.contents out.new) (writer (E.contents err.new) (E.failures err.new))) }

@@ -1,7 +1,7 @@
 //! Checks of certificates, over any readers and writer.
 
-ghost use Rattle.std.specs.Prelude.{◌≡◌, ◌+◌, ◌<◌, ◌^◌, IfOk, IfErr, IfSome, string_bytes};
-ghost use Rattle.check_runs.specs.Judging.{CheckEnds, HasVerdict, IsRefusedText, IsTextFault, bytes_fault, devices, failed_reads};
+ghost use Rattle.std.specs.Prelude.{◌≡◌, [], ◌∷◌, IfOk, IfErr, IfSome, string_bytes};
+ghost use Rattle.check_runs.specs.Judging.{CheckEnds, HasVerdict, IsRefusedText, IsTextFault, bytes_fault, devices, failed_after};
 ghost use Rattle.outcomes.specs.Limits.{SpellsWithin};
 
 use crate::verdict_texts::{invalid_text, valid_text};
@@ -27,12 +27,11 @@ fn fault_of_bytes(refused: Refused) -> Fault
 
 /// Reads a certificate to its end, and decides what it says.
 fn read_certificate<C: CountedRead>(alloc: Global, cert: &mut C) -> Result<Certificate, Fault>
-    requires { C.failures cert.old < 2 ^ 32 }
     ensures cert { IfOk result (λ c. IfSome (C.remaining cert.old) (λ text. SpellsWithin text c)) }
     ensures refused { IfErr result
         (λ fault. IfSome (C.remaining cert.old) (λ text. IsRefusedText text fault)) }
     ensures faults { IfErr result IsTextFault }
-    ensures calls { C.failures cert.new ≡ C.failures cert.old + failed_reads result }
+    ensures calls { C.failures cert.new ≡ failed_after result (C.failures cert.old) }
 {
     let bytes = match read_all(alloc, cert, MOST_BYTES) {
         Ok(bytes) => bytes,
@@ -72,14 +71,11 @@ pub fn run_check<R: Threads + Sync, F: CountedRead, C: CountedRead, W: CountedWr
     cert: &mut C,
     out: &mut W,
 ) -> Outcome
-    requires file { F.failures file.old < 2 ^ 32 }
-    requires cert { C.failures cert.old < 2 ^ 32 }
-    requires out { W.failures out.old < 2 ^ 32 }
     ensures { CheckEnds (F.remaining file.old) (C.remaining cert.old)
         (devices (W.contents out.old)
-        (F.failures file.old + C.failures cert.old + W.failures out.old))
+        (F.failures file.old ∷ C.failures cert.old ∷ W.failures out.old ∷ []))
         (devices (W.contents out.new)
-        (F.failures file.new + C.failures cert.new + W.failures out.new)) result }
+        (F.failures file.new ∷ C.failures cert.new ∷ W.failures out.new ∷ [])) result }
 {
     let cover = match read_cover(alloc, file) {
         Ok(cover) => cover,

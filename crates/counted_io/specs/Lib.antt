@@ -1,3 +1,4 @@
 pub mod Counted
+pub mod Counts
 pub mod Reading
 pub mod Writing

@@ -1,11 +1,12 @@
 -- Why reading a device to its end is refused.
 --     Refuses limit bytes before after fault      why there are no bytes
-use Rattle.std.specs.Prelude.{◌≡◌, ℕ, ◌+◌, ◌<◌, List, length, Option, IfSome}
+use Rattle.std.specs.Prelude.{◌≡◌, ℕ, ◌<◌, List, length, Option, IfSome}
+use Rattle.counted_io.specs.Counts.{one_more}
 use Rattle.counted_io.specs.declared.whole.Refused.{Refused}
 use Rattle.counted_io.specs.declared.whole.Refused.TheVariants.{TooLong, Device, OutOfMemory}
 
 -- why a refusal is given, by the bytes that the device had, and the number of failed calls before and after
 abbrev pub Refuses : ℕ → Option (List ℕ) → ℕ → ℕ → Refused → Type 0
 Refuses limit bytes before after TooLong = IfSome bytes (λ xs. limit < length xs) × (after ≡ before)
-Refuses limit bytes before after Device = after ≡ before + 1
+Refuses limit bytes before after Device = after ≡ one_more before
 Refuses limit bytes before after OutOfMemory = after ≡ before

@@ -1,8 +1,9 @@
 //! Readers and writers that count their failed calls.
 
-ghost use Rattle.std.specs.Prelude.{◌≡◌, ◌+◌, ◌^◌, ◌<◌, ◌&&◌, ◌==◌, ℕ, List, None, Option, is_ok, if◌then◌else◌};
+ghost use Rattle.std.specs.Prelude.{◌≡◌, ◌&&◌, ◌==◌, ℕ, List, None, Option, is_ok, if◌then◌else◌};
 ghost use Rattle.std.specs.Io.KnownBytes.{ReadConsumes, WriteAppends};
 ghost use Rattle.std.specs.Io.{ReadsAtMost, WritesAtMost};
+ghost use Rattle.counted_io.specs.Counts.{one_more};
 ghost use Rattle.counted_io.specs.Writing.{has_failed};
 
 use std::io;
@@ -13,16 +14,15 @@ use std::marker::Model;
 pub trait CountedRead {
     // The bytes that reads will give from here on, if they are known.
     ghost remaining: { Self → Option (List ℕ) } = { λ _. None };
-    // How many calls have failed.
+    // How many calls have failed, counted up to the greatest value of a u64.
     ghost failures: { Self → ℕ };
 
     /// Reads as std's `read` does: the number of bytes that were put into the buffer, 0 at the end.
     fn read_some(&mut self, buf: &mut [u8]) -> io::Result<usize>
-        requires { failures self.old < 2 ^ 32 }
         ensures bound { ReadsAtMost result buf.new }
         ensures bytes { ReadConsumes (remaining self.old) (remaining self.new) result buf.new }
         ensures counted { failures self.new
-            ≡ (if is_ok result then failures self.old else failures self.old + 1) };
+            ≡ (if is_ok result then failures self.old else one_more (failures self.old)) };
 }
 
 /// A writer with a count of its failed calls. One that takes no byte of a non-empty piece has
@@ -30,16 +30,15 @@ pub trait CountedRead {
 pub trait CountedWrite {
     // The bytes that the writer holds, if they are known.
     ghost contents: { Self → Option (List ℕ) } = { λ _. None };
-    // How many calls have failed.
+    // How many calls have failed, counted up to the greatest value of a u64.
     ghost failures: { Self → ℕ };
 
     /// Writes as std's `write` does: the number of bytes that were taken.
     fn write_some(&mut self, buf: &[u8]) -> io::Result<usize>
-        requires { failures self.old < 2 ^ 32 }
         ensures bound { WritesAtMost result buf.now }
         ensures bytes { WriteAppends (contents self.old) (contents self.new) result buf.now }
-        ensures counted { failures self.new
-            ≡ (if has_failed result buf.now then failures self.old + 1 else failures self.old) };
+        ensures counted { failures self.new ≡ (if has_failed result buf.now
+            then one_more (failures self.old) else failures self.old) };
 }
 
 /// Counts the failed calls of a reader or a writer.
@@ -85,7 +84,7 @@ impl<T: Read> CountedRead for Counting<T> {
     fn read_some(&mut self, buf: &mut [u8]) -> io::Result<usize> {
         let result = self.inner.read(buf);
         if result.is_err() {
-            self.failed += 1;
+            self.failed = self.failed.saturating_add(1);
         }
         result
     }
@@ -103,7 +102,7 @@ impl<T: Write> CountedWrite for Counting<T> {
             Err(_) => true,
         };
         if failed {
-            self.failed += 1;
+            self.failed = self.failed.saturating_add(1);
         }
         result
     }

@@ -1,7 +1,8 @@
 //! Reading a device to its end, and writing a whole text.
 
-ghost use Rattle.std.specs.Prelude.{◌≡◌, ◌+◌, ◌^◌, ◌<◌, ◌≤◌, ℕ, IfSome, IfOk, IfErr, OnOk, OnErr, IsErrOf, take, vec_len};
+ghost use Rattle.std.specs.Prelude.{◌≡◌, ◌^◌, ◌<◌, ◌≤◌, ℕ, IfSome, IfOk, IfErr, OnOk, OnErr, IsErrOf, take, vec_len};
 ghost use Rattle.std.specs.Io.KnownBytes.{Appends, IsAtEnd};
+ghost use Rattle.counted_io.specs.Counts.{one_more};
 ghost use Rattle.counted_io.specs.Reading.{Refuses};
 
 use crate::counting::{CountedRead, CountedWrite};
@@ -28,8 +29,7 @@ pub fn read_all<R: CountedRead>(
     device: &mut R,
     limit: usize,
 ) -> Result<Vec<u8>, Refused>
-    requires limit { limit < 2 ^ 32 }
-    requires calls { R.failures device.old < 2 ^ 32 }
+    requires { limit < 2 ^ 32 }
     ensures bytes { IfOk result (λ v. IfSome (R.remaining device.old) (λ xs. v.items ≡ xs)) }
     ensures fits { IfOk result (λ v. vec_len v ≤ limit) }
     ensures end { OnOk result (IsAtEnd (R.remaining device.new)) }
@@ -59,12 +59,11 @@ pub fn read_all<R: CountedRead>(
 
 /// Writes a whole text. After a failure what was written is a beginning of it.
 pub fn write_whole<W: CountedWrite>(device: &mut W, text: &[u8]) -> Result<(), Refused>
-    requires { W.failures device.old < 2 ^ 32 }
     ensures ok { OnOk result (Appends (W.contents device.old) (W.contents device.new) text.now) }
     ensures ok_calls { OnOk result (W.failures device.new ≡ W.failures device.old) }
     ensures err { OnErr result
         ((n : ℕ) × Appends (W.contents device.old) (W.contents device.new) (take n text.now)) }
-    ensures err_calls { OnErr result (W.failures device.new ≡ W.failures device.old + 1) }
+    ensures err_calls { OnErr result (W.failures device.new ≡ one_more (W.failures device.old)) }
     ensures device { OnErr result (IsErrOf result Refused.Device) }
 {
     let mut at = 0;

@@ -1,8 +1,6 @@
 //! minorder: the exact minimum variable order of a PLA file's shared decision diagram.
 #![tactic(auto)]
 
-ghost use Rattle.std.specs.Prelude.{◌<◌, ◌^◌};
-
 use counted_io::{CountedWrite, Counting};
 use outcomes::{texts_of, words_of_program};
 use report::minorder;
@@ -16,10 +14,7 @@ fn minorder_status<R: Env + Files + AllocGlobal + Threads + Sync, W: CountedWrit
     rt: &R,
     out: &mut W,
     err: &mut E,
-) -> Result<u8, u8>
-    requires out { W.failures out.old < 2 ^ 32 }
-    requires err { E.failures err.old < 2 ^ 32 }
-{
+) -> Result<u8, u8> {
     let words = words_of_program(rt)?;
     let words = texts_of(rt.alloc(), &words)?;
     Ok(minorder(rt, &words, out, err))

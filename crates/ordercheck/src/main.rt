@@ -2,8 +2,6 @@
 //! fewer nodes.
 #![tactic(auto)]
 
-ghost use Rattle.std.specs.Prelude.{◌<◌, ◌^◌};
-
 use check_runs::ordercheck;
 use counted_io::{CountedWrite, Counting};
 use outcomes::{texts_of, words_of_program};
@@ -17,10 +15,7 @@ fn ordercheck_status<
     R: Env + Files + AllocGlobal + Threads + Sync,
     W: CountedWrite,
     E: CountedWrite,
->(rt: &R, out: &mut W, err: &mut E) -> Result<u8, u8>
-    requires out { W.failures out.old < 2 ^ 32 }
-    requires err { E.failures err.old < 2 ^ 32 }
-{
+>(rt: &R, out: &mut W, err: &mut E) -> Result<u8, u8> {
     let words = words_of_program(rt)?;
     let words = texts_of(rt.alloc(), &words)?;
     Ok(ordercheck(rt, &words, out, err))

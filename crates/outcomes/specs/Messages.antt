@@ -2,8 +2,9 @@
 --     fault_line program fault      the line that names a fault
 --     Receives text before after      what a writer gets of a text
 --     IsTold program MayEnd status before after      what it gets at a status that stands for faults
-use Rattle.std.specs.Prelude.{◌≡◌, ◌⊎◌, ℕ, ◌+◌, List, ◌++◌, take, codes, decimal, Option}
+use Rattle.std.specs.Prelude.{◌≡◌, ◌⊎◌, ℕ, List, ◌++◌, take, codes, decimal, Option}
 use Rattle.std.specs.Io.KnownBytes.{Appends}
+use Rattle.counted_io.specs.Counts.{one_more}
 use Rattle.definitions.specs.declared.faults.PairsFault.{PairsFault}
 use Rattle.definitions.specs.declared.faults.PairsFault.TheVariants as pairs
 use Rattle.pla_reader.specs.declared.errors.LineFault.{LineFault as FileFault}
@@ -80,7 +81,7 @@ writer holds failed = record { holds = holds; failed = failed }
 abbrev pub Receives : List ℕ → Writer → Writer → Type 0
 Receives text before after =
     (Appends before.holds after.holds text × (after.failed ≡ before.failed))
-    ⊎ (((n : ℕ) × Appends before.holds after.holds (take n text)) × (after.failed ≡ before.failed + 1))
+    ⊎ (((n : ℕ) × Appends before.holds after.holds (take n text)) × (after.failed ≡ one_more before.failed))
 
 -- the writer receives the line of a fault that the status stands for, one of those that may end the program
 pub record IsTold (program : Program) (MayEnd : Fault → Type 0) (status : ℕ) (before after : Writer) : Type 0 where

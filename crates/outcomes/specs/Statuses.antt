@@ -1,5 +1,6 @@
 -- Exit statuses, and how a refused file ends a run.
-use Rattle.std.specs.Prelude.{◌≡◌, ℕ, ◌+◌, List, [], ◌∷◌}
+use Rattle.std.specs.Prelude.{◌≡◌, ◌⊎◌, ℕ, List, [], ◌∷◌}
+use Rattle.counted_io.specs.Counts.{one_more}
 use Rattle.command_line.specs.declared.usage.Usage.{Usage}
 use Rattle.command_line.specs.declared.usage.Usage.TheVariants as usage
 use Rattle.pla_reader.specs.declared.errors.PlaError.{PlaError}
@@ -57,7 +58,13 @@ exits = 0 ∷ 2 ∷ 3 ∷ 4 ∷ 5 ∷ 8 ∷ []
 abbrev pub check_exits : List ℕ
 check_exits = 0 ∷ 1 ∷ 2 ∷ 3 ∷ 4 ∷ 5 ∷ []
 
--- how many calls of devices failed, before and after
-abbrev pub FailsOnlyByDevice : ℕ → ℕ → Outcome → Type 0
-FailsOnlyByDevice before after (Refused Device) = after ≡ before + 1
+-- of the counts of failed calls, one of each device, one counts one more and the others stay
+abbrev pub OneFails : List ℕ → List ℕ → Type 0
+OneFails (failed ∷ others) (now ∷ others_now) =
+    ((now ≡ one_more failed) × (others_now ≡ others)) ⊎ ((now ≡ failed) × OneFails others others_now)
+OneFails _ _ = ⊥
+
+-- how many calls of each device have failed, before and after
+abbrev pub FailsOnlyByDevice : List ℕ → List ℕ → Outcome → Type 0
+FailsOnlyByDevice before after (Refused Device) = OneFails before after
 FailsOnlyByDevice before after _ = after ≡ before

@@ -1,6 +1,5 @@
 //! What programs do with their words and their messages.
 
-ghost use Rattle.std.specs.Prelude.{◌<◌, ◌^◌};
 ghost use Rattle.outcomes.specs.Messages.{Receives, fault_line as line_of, writer};
 ghost use Rattle.outcomes.specs.Programs.{UsageEnds, streams};
 
@@ -43,7 +42,6 @@ pub fn texts_of<'a>(alloc: Global, words: &'a [String]) -> Result<Vec<&'a str>, 
 
 /// Writes why a program was refused, which takes no memory. A failure of the writer has no effect.
 pub fn write_fault<E: CountedWrite>(err: &mut E, program: Program, fault: Fault)
-    requires { E.failures err.old < 2 ^ 32 }
     ensures { Receives (line_of program fault) (writer (E.contents err.old) (E.failures err.old))
         (writer (E.contents err.new) (E.failures err.new)) }
 {
@@ -60,8 +58,6 @@ pub fn write_usage<W: CountedWrite, E: CountedWrite>(
     out: &mut W,
     err: &mut E,
 ) -> u8
-    requires out { W.failures out.old < 2 ^ 32 }
-    requires err { E.failures err.old < 2 ^ 32 }
     ensures { UsageEnds program usage.now result
         (streams (W.contents out.old) (writer (E.contents err.old) (E.failures err.old)))
         (streams (W.contents out.new) (writer (E.contents err.new) (E.failures err.new))) }

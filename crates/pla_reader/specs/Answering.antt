@@ -1,8 +1,9 @@
 -- What the reader of covers returns.
 --     Answers bytes result      the answer for the bytes of an input within the limit
 --     IsReading bytes result      the answer for the bytes that a device has left
---     failed_calls result      how many calls of the device failed
+--     failed_after result before      how many calls of the device have failed, by how many had before
 use Rattle.std.specs.Prelude.{ℕ, ◌≤◌, ◌<◌, List, length, Result, Ok, Err}
+use Rattle.counted_io.specs.Counts.{one_more}
 use Rattle.pla_reader.specs.declared.cover.Cover.{Cover}
 use Rattle.pla_reader.specs.declared.errors.PlaError.{PlaError}
 use Rattle.pla_reader.specs.declared.errors.PlaError.TheVariants.{Line, TooLong, Device, OutOfMemory}
@@ -28,7 +29,7 @@ IsReading bytes (Err TooLong) = longest < length bytes
 IsReading bytes (Err Device) = Unit {0}
 IsReading bytes (Err OutOfMemory) = Unit {0}
 
--- how many calls of the device failed
-abbrev pub failed_calls : Result Cover PlaError → ℕ
-failed_calls (Err Device) = 1
-failed_calls _ = 0
+-- how many calls of the device have failed, by how many had before
+abbrev pub failed_after : Result Cover PlaError → ℕ → ℕ
+failed_after (Err Device) before = one_more before
+failed_after _ before = before

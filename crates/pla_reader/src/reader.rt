@@ -1,9 +1,9 @@
 //! Covers from devices.
 
-ghost use Rattle.std.specs.Prelude.{◌≡◌, ◌+◌, ◌^◌, ◌<◌, IfOk, IfSome, OnOk};
+ghost use Rattle.std.specs.Prelude.{◌≡◌, IfOk, IfSome, OnOk};
 ghost use Rattle.std.specs.Io.KnownBytes.{IsAtEnd};
 ghost use Rattle.pla_reader.specs.Covers.{IsCover};
-ghost use Rattle.pla_reader.specs.Answering.{Answers, IsReading, failed_calls};
+ghost use Rattle.pla_reader.specs.Answering.{Answers, IsReading, failed_after};
 
 use crate::cover::Cover;
 use crate::errors::PlaError;
@@ -41,11 +41,10 @@ fn read_bytes(alloc: Global, bytes: &[u8]) -> Result<Cover, PlaError>
 ///
 /// Nothing is decided before the last byte was read; time and memory are linear in the bytes.
 pub fn read_cover<R: CountedRead>(alloc: Global, reader: &mut R) -> Result<Cover, PlaError>
-    requires { R.failures reader.old < 2 ^ 32 }
     ensures answer { IfSome (R.remaining reader.old) (λ bytes. IsReading bytes result) }
     ensures formed { IfOk result IsCover }
     ensures end { OnOk result (IsAtEnd (R.remaining reader.new)) }
-    ensures calls { R.failures reader.new ≡ R.failures reader.old + failed_calls result }
+    ensures calls { R.failures reader.new ≡ failed_after result (R.failures reader.old) }
 {
     match read_all(alloc, reader, 16_777_216) {
         Ok(bytes) => read_bytes(alloc, &bytes),

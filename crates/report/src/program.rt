@@ -1,6 +1,6 @@
 //! The program minorder: words, files and messages.
 
-ghost use Rattle.std.specs.Prelude.{◌<◌, ◌^◌, None};
+ghost use Rattle.std.specs.Prelude.{None};
 ghost use Rattle.command_line.specs.Lines.{texts};
 ghost use Rattle.pla_reader.specs.Covers.{IsCover};
 ghost use Rattle.report_texts.specs.Runs.{DeliversReport, IsHindered, MinorderEnds};
@@ -22,7 +22,6 @@ fn run_on_files<'a, R: Files + AllocGlobal + Threads + Sync, W: CountedWrite>(
     line: &Line<'a>,
     out: &mut W,
 ) -> Outcome
-    requires { W.failures out.old < 2 ^ 32 }
     ensures report { DeliversReport line.now.plan IsCover (W.contents out.old) (W.contents out.new)
         result }
     ensures hindered { IsHindered line.now.plan IsCover result }
@@ -54,8 +53,6 @@ pub fn minorder<'a, R: Files + AllocGlobal + Threads + Sync, W: CountedWrite, E:
     out: &mut W,
     err: &mut E,
 ) -> u8
-    requires out { W.failures out.old < 2 ^ 32 }
-    requires err { E.failures err.old < 2 ^ 32 }
     ensures { MinorderEnds (texts words.now) result
         (streams (W.contents out.old) (writer (E.contents err.old) (E.failures err.old)))
         (streams (W.contents out.new) (writer (E.contents err.new) (E.failures err.new))) }

@@ -1,6 +1,6 @@
 //! Runs of minorder, over any reader and writers.
 
-ghost use Rattle.std.specs.Prelude.{◌+◌, ◌<◌, ◌^◌, IfOk, IfErr, option_map, string_bytes};
+ghost use Rattle.std.specs.Prelude.{[], ◌∷◌, IfOk, IfErr, option_map, string_bytes};
 ghost use Rattle.report_texts.specs.Answers.{HasCertificate, Hinders, IsTextOf};
 ghost use Rattle.report_texts.specs.Runs.{RunEnds, devices, failures_in, held};
 
@@ -59,14 +59,11 @@ pub fn run<'a, R: Threads + Sync, F: CountedRead, W: CountedWrite, C: CountedWri
     out: &mut W,
     cert: &mut Option<C>,
 ) -> Outcome
-    requires file { F.failures file.old < 2 ^ 32 }
-    requires out { W.failures out.old < 2 ^ 32 }
-    requires cert { failures_in C.failures cert.old < 2 ^ 32 }
     ensures { RunEnds plan.now (F.remaining file.old)
         (devices (held (W.contents out.old) (option_map C.contents cert.old))
-        (F.failures file.old + W.failures out.old + failures_in C.failures cert.old))
+        (F.failures file.old ∷ W.failures out.old ∷ failures_in C.failures cert.old ∷ []))
         (devices (held (W.contents out.new) (option_map C.contents cert.new))
-        (F.failures file.new + W.failures out.new + failures_in C.failures cert.new)) result }
+        (F.failures file.new ∷ W.failures out.new ∷ failures_in C.failures cert.new ∷ [])) result }
 {
     let cover = match read_cover(alloc, file) {
         Ok(cover) => cover,

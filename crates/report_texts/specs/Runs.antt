@@ -9,7 +9,7 @@
 --     MayEndRun words fault      the faults that standard error may name
 --     LeaveTheSame plan other      what is written of a file by two plans is the same
 --     RunEnds plan file before after outcome, MinorderEnds words status before after      how a run and minorder end
-use Rattle.std.specs.Prelude.{◌≡◌, ◌≢◌, ◌⊎◌, ℕ, ◌+◌, ◌<◌, ◌≤◌, Bool, true, false, List, length, take, Option, Some, None, Err, IfSome, String, option_map, string_bytes}
+use Rattle.std.specs.Prelude.{◌≡◌, ◌≢◌, ◌⊎◌, ℕ, ◌<◌, ◌≤◌, Bool, true, false, List, length, take, Option, Some, None, Err, IfSome, String, option_map, string_bytes}
 use Rattle.std.specs.Borrow.{Bor}
 use Rattle.std.specs.Global.{Global}
 use Rattle.std.specs.Io.KnownBytes.{Appends}
@@ -68,18 +68,6 @@ whole text = text
 -- the part of a text that may be missing
 abbrev pub part_in : (List ℕ → List ℕ) → Option (String Global) → Option (List ℕ)
 part_in part = option_map (λ text. part (string_bytes text))
-
--- a writer of certificates that may be missing: what it holds, and how many of its calls have failed
-pub record CertificateWriter : Type 0 where
-  pub holds : Option (Option (List ℕ))
-  pub failed : ℕ
-
-abbrev pub certificate_writer : Option (Option (List ℕ)) → ℕ → CertificateWriter
-certificate_writer holds failed = record { holds = holds; failed = failed }
-
--- it gets a text that may be missing, and so many of its calls fail
-abbrev pub Puts : Option (List ℕ) → ℕ → CertificateWriter → CertificateWriter → Type 0
-Puts text failing before after = GetsText text before.holds after.holds × (after.failed ≡ before.failed + failing)
 
 -- after a failed write: a beginning of the certificate and no byte of the report, or the whole certificate and a beginning of the report
 abbrev pub SendsPart : List ℕ → Option (String Global) → Held → Held → Type 0
@@ -208,12 +196,12 @@ pub record LeaveTheSame (plan other : RunPlan) : Type 0 where
       Delivers plan (Reads file) (held c (Some (Some before))) (held d (Some (Some after))) Done →
       Delivers other (Reads file) (held e (Some (Some before))) (held f (Some (Some later))) Done → after ≡ later
 
--- what a run's writers hold, and how many calls of its devices have failed
+-- what a run's writers hold, and how many calls of each of its devices have failed
 pub record Devices : Type 0 where
   pub held : Held
-  pub failed : ℕ
+  pub failed : List ℕ
 
-abbrev pub devices : Held → ℕ → Devices
+abbrev pub devices : Held → List ℕ → Devices
 devices held failed = record { held = held; failed = failed }
 
 -- how a run ends, by the bytes of its file, if they are known, and by what its devices were before and after

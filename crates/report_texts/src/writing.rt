@@ -1,8 +1,9 @@
 //! Writing the texts of a run.
 
-ghost use Rattle.std.specs.Prelude.{◌+◌, ◌<◌, ◌^◌, ℕ, OnErr, OnOk, option_map, string_bytes, take};
+ghost use Rattle.std.specs.Prelude.{◌≡◌, [], ◌∷◌, ℕ, OnErr, OnOk, option_map, string_bytes, take};
+ghost use Rattle.counted_io.specs.Counts.{one_more};
 ghost use Rattle.outcomes.specs.Statuses.{FailsOnlyByDevice};
-ghost use Rattle.report_texts.specs.Runs.{Puts, Sends, certificate_writer, failures_in, held, part_in, whole};
+ghost use Rattle.report_texts.specs.Runs.{GetsText, Sends, failures_in, held, part_in, whole};
 
 use counted_io::{CountedWrite, Refused, write_whole};
 use outcomes::{Fault, Outcome};
@@ -19,13 +20,14 @@ fn write_certificate<C: CountedWrite>(
     cert: &mut Option<C>,
     text: &Option<String>,
 ) -> Result<(), Refused>
-    requires { failures_in C.failures cert.old < 2 ^ 32 }
-    ensures ok { OnOk result (Puts (part_in whole text.now) 0
-        (certificate_writer (option_map C.contents cert.old) (failures_in C.failures cert.old))
-        (certificate_writer (option_map C.contents cert.new) (failures_in C.failures cert.new))) }
-    ensures err { OnErr result ((n : ℕ) × Puts (part_in (take n) text.now) 1
-        (certificate_writer (option_map C.contents cert.old) (failures_in C.failures cert.old))
-        (certificate_writer (option_map C.contents cert.new) (failures_in C.failures cert.new))) }
+    ensures ok { OnOk result (GetsText (part_in whole text.now)
+        (option_map C.contents cert.old) (option_map C.contents cert.new)) }
+    ensures ok_calls { OnOk result
+        (failures_in C.failures cert.new ≡ failures_in C.failures cert.old) }
+    ensures err { OnErr result ((n : ℕ) × GetsText (part_in (take n) text.now)
+        (option_map C.contents cert.old) (option_map C.contents cert.new)) }
+    ensures err_calls { OnErr result
+        (failures_in C.failures cert.new ≡ one_more (failures_in C.failures cert.old)) }
 {
     let Some(text) = text else {
         return Ok(());
@@ -43,14 +45,12 @@ pub fn write_texts<W: CountedWrite, C: CountedWrite>(
     out: &mut W,
     cert: &mut Option<C>,
 ) -> Outcome
-    requires out { W.failures out.old < 2 ^ 32 }
-    requires cert { failures_in C.failures cert.old < 2 ^ 32 }
     ensures sends { Sends (string_bytes texts.now.report) texts.now.certificate
         (held (W.contents out.old) (option_map C.contents cert.old))
         (held (W.contents out.new) (option_map C.contents cert.new)) result }
     ensures devices { FailsOnlyByDevice
-        (W.failures out.old + failures_in C.failures cert.old)
-        (W.failures out.new + failures_in C.failures cert.new) result }
+        (W.failures out.old ∷ failures_in C.failures cert.old ∷ [])
+        (W.failures out.new ∷ failures_in C.failures cert.new ∷ []) result }
 {
     if write_certificate(cert, &texts.certificate).is_err() {
         return Outcome::Refused(Fault::Device);

@@ -1,6 +1,7 @@
 use Rattle.std.proofs.Common.{option_map, string_bytes, rules}
 use Rattle.pla_reader.specs.Covers.{IsCover, NamedCover}
 use Rattle.pla_reader.specs.Reading.{Reads}
+use Rattle.outcomes.proofs.Failed.{first_stays}
 use Rattle.outcomes.proofs.Known.{with_known, with_read}
 use Rattle.report_texts.specs.Runs.{Delivers, held}
 use Rattle.report_texts.proofs.Sent.{delivers, good, hindered, optimum, tells}
@@ -29,6 +30,6 @@ returns g c =
       tells = with_known _ _ _ c.in-Ok.ensures.answer
           (λ bytes answer. tells plan bytes report texts.certificate before after outcome answer.0 sends);
       hindered_whatever_is_read = hindered plan IsCover report texts.certificate before after outcome sends;
-      fails_only_by_device = search rules;
+      fails_only_by_device = first_stays _ _ _ _ outcome c.in-Ok.ensures.calls c.write_texts.ensures.devices;
       never_full = search rules;
     }
