@@ -191,11 +191,16 @@ class Lane:
         shutil.copy(f"{TOP}/HANDLES", f"{self.folder}/HANDLES")
 
     def prove(self, jobs):
-        """Builds the library. What was kept of earlier proofs is used, and what this one leaves is kept, also if it fails."""
+        """Builds the library. What was kept of earlier proofs is used, and what this one adds to it is kept, also if it fails."""
+        is_new = not os.path.isdir(f"{self.home}/incremental")
         if os.path.isdir(self.home):
             os.rename(self.home, self.own)
         try:
-            return called(f"{self.folder}/crates/{self.crate}", "lib", "--jobs", str(jobs))
+            ended = called(f"{self.folder}/crates/{self.crate}", "lib", "--jobs", str(jobs))
+            if is_new and not ended[0]:
+                # what only the proof of the next edit would use
+                shutil.rmtree(f"{self.own}/incremental", ignore_errors=True)
+            return ended
         finally:
             if os.path.isdir(self.own):
                 os.rename(self.own, self.home)
@@ -338,8 +343,9 @@ def build(name, made, words):
     crates = needed(name, uses)
     seconds = seconds_of(TOP, crates)
     report = Report(command_of(name), seconds, Estimate(seconds, uses, processors()))
-    # what this build leaves in a folder that was there before is someone's work
-    own = [it for it in crates if not os.path.isdir(f"{TOP}/crates/{it}/out/incremental")]
+    # what rt leaves there serves the next edit alone, unless it was there before as someone's work
+    left = f"{TOP}/crates/{name}/out/incremental"
+    is_new = not os.path.isdir(left)
     answer = None
     try:
         with begin(report, crates, words) as answer:
@@ -348,9 +354,8 @@ def build(name, made, words):
     except NotProved as refused:
         stands = f"\n{name}: the answer above stands unproved" if answer and answer.has_answered else ""
         sys.exit(f"{refused}{stands}")
-    for crate in own:
-        # what only the proof of the next edit would use
-        shutil.rmtree(f"{TOP}/crates/{crate}/out/incremental", ignore_errors=True)
+    if is_new:
+        shutil.rmtree(left, ignore_errors=True)
     report.say(f"built in {spoken(report.passed())}, of {spoken(report.taken)} of processor time")
 
 
