@@ -17,13 +17,13 @@ use Rattle.definitions.proofs.Lists.Ranges.{range_at}
 use Rattle.subfunction_classes.specs.Dependence.{joined_mask}
 use Rattle.subfunction_classes.specs.Places.{low_place, pairs}
 use Rattle.subfunction_classes.specs.Table.{functions_of, set_of}
-use Rattle.subfunction_classes.proofs.Apart.{distinct_first}
-use Rattle.subfunction_classes.proofs.Counted.{width_is_dependent_classes}
+use Rattle.subfunction_classes.proofs.DistinctClasses.{distinct_first}
+use Rattle.subfunction_classes.proofs.CountedWidths.{width_is_dependent_classes}
 use Rattle.subfunction_classes.specs.Made.{Made}
 use Rattle.subfunction_classes.proofs.Firsts.{made_none, made_first, made_numbers, made_many, made_told}
 use Rattle.subfunction_classes.proofs.Index.{length-pairs, pair_listed, pair_within}
 use Rattle.cert_check.specs.Tables.{HoldsRows, IsFull, TableOf, classes_at, rows_with}
-use Rattle.cert_check.proofs.Shortened.{rows, rows_more}
+use Rattle.cert_check.proofs.ShortenedTables.{rows, rows_more}
 
 pub full_of : (t : TableOf) (numbers masks : List ℕ) → HoldsRows t numbers masks → length masks ≡ length numbers →
     ((i : ℕ) → i < length numbers → get_or numbers i 0 ≡ i) →

@@ -12,7 +12,7 @@ use Rattle.definitions.specs.Orders.{has, variables}
 use Rattle.definitions.proofs.Lists.Orders.{has_filter}
 use Rattle.definitions.proofs.Widths.Recurrence.{distinct_filter, distinct_variables}
 use Rattle.subfunction_classes.specs.Dependence.{joined_mask}
-use Rattle.subfunction_classes.proofs.Counted.{length_filter_map}
+use Rattle.subfunction_classes.proofs.CountedWidths.{length_filter_map}
 use Rattle.cert_check.specs.LowerClasses.{AreLowerMasks, pairs_with}
 use Rattle.cert_check.proofs.LowerPairs.{lowers_le}
 

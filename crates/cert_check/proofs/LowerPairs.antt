@@ -18,13 +18,13 @@ use Rattle.subfunction_classes.specs.Dependence.{joined_mask}
 use Rattle.subfunction_classes.specs.Numbering.{rank, ranks}
 use Rattle.subfunction_classes.specs.Places.{pairs}
 use Rattle.subfunction_classes.specs.Table.{functions_of, set_of}
-use Rattle.subfunction_classes.proofs.Counted.{distinct_by_numbers, length_filter_map, same_at, width_is_dependent_classes}
+use Rattle.subfunction_classes.proofs.CountedWidths.{distinct_by_numbers, length_filter_map, same_at, width_is_dependent_classes}
 use Rattle.subfunction_classes.proofs.DistinctPairs.{masks_many, masks_told}
-use Rattle.subfunction_classes.proofs.Numbered.{numbers_told}
+use Rattle.subfunction_classes.proofs.NumberedKeys.{numbers_told}
 use Rattle.subfunction_classes.proofs.Progress.{take_among}
 use Rattle.subfunction_classes.proofs.RankLaws.{Numbers, numbers_none, numbers_push}
 use Rattle.cert_check.specs.Tables.{HoldsRows, TableOf, classes_at, rows_with}
-use Rattle.cert_check.proofs.Shortened.{rows_more}
+use Rattle.cert_check.proofs.ShortenedTables.{rows_more}
 use mathlib.Core.List.{map-map}
 
 pub lowers_le : (ps : List (ℕ × ℕ)) (P : ℕ × ℕ → Bool) (lowers : List ℕ) → IsDistinct nat_eq lowers →

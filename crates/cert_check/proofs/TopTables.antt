@@ -8,7 +8,7 @@ use Rattle.std.proofs.lemmas.List.{get_or_append_left, get_or_at, length_push}
 use Rattle.definitions.specs.Problems.{TruthTables}
 use Rattle.cert_check.specs.Blocks.{StandsAt}
 use Rattle.cert_check.specs.Tables.{TableOf}
-use Rattle.cert_check.proofs.Stands.{stands_lower}
+use Rattle.cert_check.proofs.WalkTables.{stands_lower}
 
 -- tables from which a walk can go on from x on, the first ones from y on
 pub record AreTopsTo (P : TruthTables) (x y made : ℕ) (tops : List TableOf) : Type 0 where

@@ -13,10 +13,10 @@ use Rattle.certificate.specs.Spelling.{most_nodes, most_pairs, field, section, p
 use Rattle.definitions.specs.Texts.{number_of}
 use Rattle.certificate.specs.Faults.{whole_lines, onto_line, words, said, number_said, inputs_said, is_pair, is_cell, pair_key_of, cell_key_of, title_fault, fixed_fault, section_judges, pairs_judges, cells_judges, judges, LineTest, numbered, line_faults, with_feeds, trailing, faults, Spells, FirstCertFault}
 use Rattle.certificate.proofs.WordLines.{decimal_back}
-use Rattle.certificate.proofs.Judges.{Pass, pass_length, all_same_is, IsFrom, field_is, one_number}
-use Rattle.certificate.proofs.Spelled.{no_fault}
+use Rattle.certificate.proofs.LineTests.{Pass, pass_length, all_same_is, IsFrom, field_is, one_number}
+use Rattle.certificate.proofs.Spellings.{no_fault}
 use Rattle.certificate.specs.Decoded.{read_pair, read_cell, mask_key, cells_place, cert_of}
-use Rattle.certificate.proofs.Decoded.{pair_kind, cell_kind, section_is}
+use Rattle.certificate.proofs.CertificateLines.{pair_kind, cell_kind, section_is}
 use Rattle.definitions.proofs.Bits.Masks.{power_small}
 
 -- lines without a fault pass

@@ -15,7 +15,7 @@ use Rattle.certificate.specs.Spelling.{HasSpelling, IsCell, IsPair, hex4, field,
 use Rattle.certificate.specs.Faults.{Spells}
 use Rattle.certificate.specs.Heads.{most_bytes}
 use Rattle.certificate.specs.Values.{each_spaced}
-use Rattle.certificate.proofs.Written.{numbers_written, pair_written, cell_written}
+use Rattle.certificate.proofs.WrittenLines.{numbers_written, pair_written, cell_written}
 
 -- decimals of numbers that are known to be small
 one : (n : ℕ) → n ≤ 2 → length (decimal n) ≤ 1

@@ -7,7 +7,7 @@ use Rattle.certificate.specs.declared.faults.LineFault.TheVariants.{BadLine}
 use Rattle.definitions.specs.Texts.{same, number_of}
 use Rattle.certificate.specs.Faults.{words, fixed_fault, title_fault, field_fault}
 use Rattle.certificate.specs.Parsing.{Lacks, Cuts}
-use Rattle.certificate.proofs.Judges.{same_is, same_self, all_same_is}
+use Rattle.certificate.proofs.LineTests.{same_is, same_self, all_same_is}
 use Rattle.std.proofs.lemmas.Bool.{false_from_ne_true}
 
 -- the words of a line that a space parts

@@ -3,7 +3,7 @@ use Rattle.std.proofs.Common.{◌≡◌, ℕ, ◌+◌, ◌-◌, ◌*◌, ◌/◌
 use Rattle.certificate.specs.Spelling.{hex4}
 use Rattle.certificate.specs.Faults.{is_mask, mask_of}
 use Rattle.certificate.proofs.WordLines.{glyph, glyph_value}
-use Rattle.certificate.proofs.Judges.{same_self, mask_is}
+use Rattle.certificate.proofs.LineTests.{same_self, mask_is}
 use Rattle.std.proofs.lemmas.Bool.{false_from_ne_true}
 
 -- four digits, highest first

@@ -9,7 +9,7 @@ use Rattle.definitions.specs.Texts.{same, number_of}
 use Rattle.certificate.specs.Faults.{words, is_decimal, field_fault}
 use Rattle.certificate.specs.Parsing.{Lacks, Cuts, Asks}
 use Rattle.certificate.specs.Decoded.{numbers_of}
-use Rattle.certificate.proofs.Judges.{same_self, field_is, one_number}
+use Rattle.certificate.proofs.LineTests.{same_self, field_is, one_number}
 use Rattle.certificate.proofs.Outcomes.{said_first, step, stop}
 use Rattle.certificate.proofs.LineWords.{cut_words, whole_word}
 

@@ -8,7 +8,7 @@ use Rattle.std.proofs.lemmas.Str.Parse.{tells_all_ascii_digits, numerals_by_valu
 use Rattle.certificate.specs.Spelling.{most_nodes}
 use Rattle.definitions.specs.Texts.{number_of}
 use Rattle.certificate.specs.Faults.{is_decimal}
-use Rattle.certificate.proofs.Judges.{same_self, decimal_is}
+use Rattle.certificate.proofs.LineTests.{same_self, decimal_is}
 
 -- digits without a leading zero, or just zero, are their number's decimal
 pub spelled_digits : (word : List ℕ) → all_ascii_digits word ≡ true → 0 < length word → (get_or word 0 0 ≡ 48 → length word ≡ 1) →

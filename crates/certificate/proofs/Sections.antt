@@ -2,8 +2,8 @@
 use Rattle.std.proofs.Common.{◌≡◌, ℕ, ◌+◌, ◌-◌, ◌<◌, zero, suc, refl, ◌∙◌, Bool, true, List, [], ◌∷◌, length, map, get_or, Option, None, Some, arith}
 use Rattle.std.specs.List.{AllByRecursion, range_with_len}
 use Rattle.certificate.specs.Faults.{entry_fault, rises, word_at, LineTest}
-use Rattle.certificate.proofs.Rising.{IsAbove, RiseFrom}
-use Rattle.certificate.proofs.Judges.{Pass}
+use Rattle.certificate.proofs.RisingKeys.{IsAbove, RiseFrom}
+use Rattle.certificate.proofs.LineTests.{Pass}
 
 module _ (is_entry : List ℕ → List ℕ → Bool) (key : List ℕ → List ℕ → ℕ) where
   -- lines that are entries, whose keys rise from one that may have come before

@@ -16,7 +16,7 @@ use Rattle.definitions.specs.Certificates.{Cell, certificate_of, least_listed, l
 use Rattle.definitions.proofs.Functions.Exchange.{Below, below_from_has}
 use Rattle.definitions.proofs.Widths.SizeBounds.{order_length, size_bound}
 use Rattle.certificate.specs.Spelling.{HasSpelling, IsCell, most_nodes, pair_key}
-use Rattle.certificate.proofs.Rising.{IsAbove, RiseFrom, rise_pairs}
+use Rattle.certificate.proofs.RisingKeys.{IsAbove, RiseFrom, rise_pairs}
 
 module _ {E : Type 0} (key : E → ℕ) where
   -- keys that rise from low on and are below high

@@ -10,7 +10,7 @@ use Rattle.subfunction_classes.specs.Dependence.{joined_mask}
 use Rattle.class_tables.specs.Scratch.{CountsMasks}
 use Rattle.subfunction_classes.proofs.Firsts.{joined_again, joined_first}
 use Rattle.subfunction_classes.specs.Made.{Joined}
-use Rattle.subfunction_classes.proofs.Joined.{joined_many, joined_told}
+use Rattle.subfunction_classes.proofs.JoinedMasks.{joined_many, joined_told}
 
 module _ (ps : List (ℕ × ℕ)) (masks : List ℕ) (x : ℕ) where
   -- after j pairs

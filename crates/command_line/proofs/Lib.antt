@@ -1,1 +1,1 @@
-pub mod Matched
+pub mod Matches

@@ -24,12 +24,12 @@ use Rattle.subfunction_classes.specs.Strips.{unrolled}
 use Rattle.value_strips.specs.ValueStrips.{AreStrips}
 use Rattle.compaction.specs.Strips.{AreDistinct, HoldsStrips, HoldsStripTable, masks_in_use, HoldsKeys}
 use Rattle.subfunction_classes.specs.Table.{ClassesOf, with_variable, functions_of, set_of, free_below}
-use Rattle.subfunction_classes.proofs.Counted.{length_filter_map}
+use Rattle.subfunction_classes.proofs.CountedWidths.{length_filter_map}
 use Rattle.subfunction_classes.proofs.Index.{length-pairs, pair_listed, pair_within}
-use Rattle.compaction.proofs.Keyed.{keys_ready, keys_by_names}
-use Rattle.compaction.proofs.Stripped.{parts_of}
-use Rattle.value_strips.proofs.Unrolled.{same_by_places, length_unrolled, unrolled_at}
-use Rattle.compaction.proofs.Used.{in_use_same, width_by_use}
+use Rattle.compaction.proofs.KeyTables.{keys_ready, keys_by_names}
+use Rattle.compaction.proofs.StripTables.{parts_of}
+use Rattle.value_strips.proofs.UnrolledTables.{same_by_places, length_unrolled, unrolled_at}
+use Rattle.compaction.proofs.UsedNumbers.{in_use_same, width_by_use}
 
 -- the same value so many times
 same_list : ℕ → ℕ → List ℕ

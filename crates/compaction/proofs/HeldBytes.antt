@@ -14,9 +14,9 @@ use Rattle.pair_numbering.specs.Keys.{TellsPairs}
 use Rattle.subfunction_classes.specs.Table.{ClassesOf, classes_of, with_variable, set_of, free_below}
 use Rattle.compaction.proofs.HeldStrips.{rest, parts, less, rank_few, holds_low, holds_values}
 use Rattle.subfunction_classes.proofs.Index.{length-pairs}
-use Rattle.compaction.proofs.Keyed.{free_zero}
+use Rattle.compaction.proofs.KeyTables.{free_zero}
 use Rattle.pair_numbering.proofs.Names.{names_below, length_names}
-use Rattle.compaction.proofs.Stripped.{low_named, low_tells}
+use Rattle.compaction.proofs.StripTables.{low_named, low_tells}
 
 -- the values of a problem of at least eight variables
 pub bytes_values : (p : TruthTables) → p.inputs ≤ 16 → length p.tables ≤ 16 → 0 < length p.tables → (outer bytes rows : List ℕ) →

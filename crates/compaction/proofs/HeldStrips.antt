@@ -18,13 +18,13 @@ use Rattle.value_strips.specs.ValueStrips.{AreStrips, HoldsValues}
 use Rattle.compaction.specs.Strips.{GrowsStrips, HoldsStrips, IsStripTable, HoldsKeys}
 use Rattle.pair_numbering.specs.Keys.{TellsPairs}
 use Rattle.subfunction_classes.specs.Table.{ClassesOf, classes_of, with_variable, set_of, free_below}
-use Rattle.subfunction_classes.proofs.Extended.{free_none, free_step, rank_small}
+use Rattle.subfunction_classes.proofs.OneMoreVariable.{free_none, free_step, rank_small}
 use Rattle.definitions.specs.Problems.{TruthTables}
-use Rattle.compaction.proofs.Keyed.{keys_ready, free_zero, value_keys, keys_by_names}
+use Rattle.compaction.proofs.KeyTables.{keys_ready, free_zero, value_keys, keys_by_names}
 use Rattle.pair_numbering.proofs.Names.{names_below, length_names}
-use Rattle.compaction.proofs.Stripped.{parts_of, below_product, low_strips, low_tells}
+use Rattle.compaction.proofs.StripTables.{parts_of, below_product, low_strips, low_tells}
 use Rattle.subfunction_classes.proofs.Index.{length-pairs}
-use Rattle.value_strips.proofs.Unrolled.{named_of, length_unrolled, unrolled_at}
+use Rattle.value_strips.proofs.UnrolledTables.{named_of, length_unrolled, unrolled_at}
 
 -- one step of the count
 step_of_bit : (set y : ℕ) → free_below set (suc y) ≡ free_below set y + cond (not (eqb (bit_at set y) 1)) 1 0

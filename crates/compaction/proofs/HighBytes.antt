@@ -8,7 +8,7 @@ use Rattle.std.specs.Int.{bit_at}
 use Rattle.std.proofs.lemmas.Bool.{cases_eq}
 use Rattle.std.proofs.lemmas.Nat.Bits.{bit_at_and, bit_at_or, bit_at_xor, bit_at-lt, bit_at-pow_same, bit_at_cat_low, bit_at_cat_high}
 use Rattle.compaction.specs.HighBytes.{HasByte}
-use Rattle.compaction.proofs.Decided.{join_without, join_with}
+use Rattle.compaction.proofs.DecidedVariables.{join_without, join_with}
 
 pub byte_bit : (h low y : ℕ) → low < 256 → 8 ≤ y → bit_at (h * 256 + low) y ≡ bit_at h (y - 8)
 byte_bit h low y small high = bit_at_cat_high h 8 low y small high

@@ -5,7 +5,7 @@ use Rattle.definitions.specs.Functions.{SameFunction, from_table}
 use Rattle.definitions.specs.Problems.{functions}
 use Rattle.node_words.specs.Nodes.{AreNodeWords, AreUnequal, level_of, low_of, high_of}
 use Rattle.node_words.specs.Meaning.{function_of}
-use Rattle.node_words.proofs.Making.{word_level, word_low, word_high, makes}
+use Rattle.node_words.proofs.NewNodes.{word_level, word_low, word_high, makes}
 use Rattle.node_words.proofs.Functions.{function_made, known_small}
 use Rattle.unique_table.specs.Plans.{IsPlan, order_of, levels_of}
 use Rattle.unique_table.specs.Sessions.{StoreId, Knowledge, IsAlone, MadeAll}
@@ -19,7 +19,7 @@ use Rattle.dd_builder.specs.declared.errors.BuildError.TheVariants.{StoreFull, O
 use Rattle.dd_builder.specs.Building.{KnowsFull}
 use Rattle.dd_builder.specs.Parts.{IsShareOf, halved, MayBeFull}
 use Rattle.dd_builder.specs.Subfunctions.{IsSubfunction, IsOfSubfunction, MadeSubfunctions}
-use Rattle.dd_builder.proofs.Halves.{halved_none}
+use Rattle.dd_builder.proofs.SharedStakes.{halved_none}
 use Rattle.dd_builder.proofs.LevelBounds.{size_few}
 use Rattle.dd_builder.proofs.Ranks.{few}
 use Rattle.dd_builder.proofs.Bound.{most_fit}

@@ -26,7 +26,7 @@ use Rattle.definitions.proofs.Widths.ClassPairs.{count_alike}
 use Rattle.definitions.proofs.Widths.SizeBounds.{order_length, length-subfunctions}
 use Rattle.node_words.proofs.Meaning.{choose_n, refuse_n}
 use Rattle.dd_builder.specs.Subfunctions.{dependent, most_on, most_above, SizesAreFew}
-use Rattle.dd_builder.proofs.Counting.{parts_same, parts_small, pair, pair_small, pair_same}
+use Rattle.dd_builder.proofs.Numberings.{parts_same, parts_small, pair, pair_small, pair_same}
 
 -- how many functions of k variables there are
 abbrev tail : ℕ → ℕ

@@ -1,17 +1,12 @@
 -- The point of a path, level by level.
 use Rattle.std.proofs.Common.{◌≡◌, ◌≢◌, ℕ, zero, suc, ◌+◌, ◌*◌, ◌/◌, ◌%◌, ◌^◌, ◌<◌, ◌≤◌, ◌⊎◌, max, List, length, get_or, sym, ap, ap₂, ◌∙◌, arith, subst, inl, inr, bit_and, bit_or}
 use Rattle.std.specs.Int.{bit_at}
+use Rattle.std.proofs.Math.Nat.{max-zero, zero-max}
 use Rattle.std.proofs.lemmas.Nat.{or_disjoint, or_lt, pow_below, pow_pos, one_shl}
 use Rattle.std.proofs.lemmas.Nat.Bits.{and_pow, bit_at_above, bit_at-lt, bit_at-zero, bit_at_or, bit_at-pow_same, bit_at-pow_other, shr_and_one}
 use Rattle.definitions.specs.Orders.{IsOrder, place_in}
 use Rattle.definitions.proofs.Lists.Orders.{has_at, place_get}
 use Rattle.dd_builder.specs.Paths.{IsPointAbove, IsPointOf}
-
-max_zero : (k : ℕ) → max 0 k ≡ k
-max_zero k = omega arith
-
-zero_max : (k : ℕ) → max k 0 ≡ k
-zero_max k = omega arith
 
 zero_times : (k : ℕ) → 0 * k ≡ 0
 zero_times k = omega arith
@@ -74,12 +69,12 @@ module _ (order : List ℕ) (is : IsOrder (length order) order) where
             ap (bit_at now) (ap (λ k. get_or order k 0) s ∙ sym at)
             ∙ (ap (λ k. bit_at k x) added
             ∙ (bit_at_or point (bit_at path level * 2 ^ x) x
-            ∙ (ap₂ max (ap (bit_at point) at ∙ c) z ∙ (max_zero (bit_at path level) ∙ ap (bit_at path) (sym s)))))
+            ∙ (ap₂ max (ap (bit_at point) at ∙ c) z ∙ (zero-max (bit_at path level) ∙ ap (bit_at path) (sym s)))))
         | inr ne ↦
             let z = bit_elsewhere (bit_at path level) x (get_or order i 0) b2 (λ q. other_place i level in_order inside ne (q ∙ at)) in
             let c = h.bits i (omega arith) in_order in
             ap (λ k. bit_at k (get_or order i 0)) added
-            ∙ (bit_at_or point (bit_at path level * 2 ^ x) (get_or order i 0) ∙ (ap₂ max c z ∙ zero_max (bit_at path i)))
+            ∙ (bit_at_or point (bit_at path level * 2 ^ x) (get_or order i 0) ∙ (ap₂ max c z ∙ max-zero (bit_at path i)))
       ]
 
   -- on to the low child the point stays
@@ -104,7 +99,7 @@ module _ (order : List ℕ) (is : IsOrder (length order) order) where
 
       lower : (i : ℕ) → i < level → bit_at (path + 2 ^ level) i ≡ bit_at path i
       lower i l = ap (λ k. bit_at k i) joined ∙ (bit_at_or path (2 ^ level) i
-          ∙ (ap (max (bit_at path i)) (bit_at-pow_other level i (omega arith)) ∙ zero_max (bit_at path i)))
+          ∙ (ap (max (bit_at path i)) (bit_at-pow_other level i (omega arith)) ∙ max-zero (bit_at path i)))
 
 -- at the end of an order a point has all values of its path, and the other way about
 pub point_whole : (order : List ℕ) (level path point : ℕ) → length order ≤ level → IsPointAbove order level path point → IsPointOf order path point

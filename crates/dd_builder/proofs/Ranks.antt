@@ -22,9 +22,9 @@ use Rattle.node_words.proofs.Meaning.{depth_node, no_higher}
 use Rattle.node_words.proofs.Functions.{point_along, length-point_along, value_at, same_ids}
 use Rattle.unique_table.specs.Plans.{output_at}
 use Rattle.dd_builder.specs.Subfunctions.{IsSubfunction, AreSubfunctions}
-use Rattle.dd_builder.proofs.Counting.{at_most}
+use Rattle.dd_builder.proofs.Numberings.{at_most}
 use Rattle.dd_builder.proofs.LevelBounds.{sum_below, sum_next, split_at, rest_alone}
-use Rattle.dd_builder.proofs.Restricting.{IsApart, laid, fixed_laid, length-laid, laid_apart, get_or_take}
+use Rattle.dd_builder.proofs.Restrictions.{IsApart, laid, fixed_laid, length-laid, laid_apart, get_or_take}
 
 -- ---- places among distinct elements
 

@@ -11,7 +11,7 @@ use Rattle.node_words.proofs.Meaning.{value_terminal, depth_terminal}
 use Rattle.unique_table.specs.Plans.{levels_of, variable_at}
 use Rattle.unique_table.specs.Sessions.{StoreId, Knowledge, Follows, GoesOn, IsNodeOf, MeetsFull, Knows, Means, function_in, depth_in}
 use Rattle.unique_table.specs.declared.store.StoreFull.{StoreFull}
-use Rattle.unique_table.proofs.Following.{follows_trans}
+use Rattle.unique_table.proofs.SessionsGoOn.{follows_trans}
 use Rattle.dd_builder.specs.Building.{KnowsFull}
 use Rattle.dd_builder.specs.Making.{Makes}
 

@@ -14,7 +14,7 @@ use Rattle.unique_table.specs.declared.plan.PieceKind.TheVariants.{Restrictions,
 use Rattle.unique_table.specs.Plans.{order_of, share, products_of, part_function, piece_function}
 use Rattle.dd_builder.specs.Parts.{IsForTerms, AreTermsOfKind}
 use Rattle.dd_builder.specs.Literals.{with_product}
-use Rattle.dd_builder.proofs.Restricted.{part_piece}
+use Rattle.dd_builder.proofs.RestrictedNodes.{part_piece}
 use Rattle.std.proofs.Math.Bool.{or-false}
 use Rattle.std.proofs.lemmas.Bool.{cases_lt}
 

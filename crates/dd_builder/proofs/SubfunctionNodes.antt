@@ -13,9 +13,9 @@ use Rattle.dd_builder.specs.declared.parts.Source.{Source}
 use Rattle.dd_builder.specs.declared.parts.Source.TheVariants.{Tables, Terms}
 use Rattle.dd_builder.specs.Parts.{KeepsFrom, Continues}
 use Rattle.dd_builder.specs.Subfunctions.{IsSubfunction, IsOfSubfunction, MadeSubfunctions, KeepsSubfunctions}
-use Rattle.unique_table.proofs.Following.{follows_trans}
-use Rattle.dd_builder.proofs.Combining.{branch_same}
-use Rattle.dd_builder.proofs.Restricted.{restricted_same}
+use Rattle.unique_table.proofs.SessionsGoOn.{follows_trans}
+use Rattle.dd_builder.proofs.LevelOperations.{branch_same}
+use Rattle.dd_builder.proofs.RestrictedNodes.{restricted_same}
 
 -- a node stays one of a subfunction
 pub of_grown : (s s' : Knowledge) (w : ℕ) → s'.store ≡ s.store → ((id : ℕ) → Knows s id → Knows s' id) →

@@ -16,7 +16,7 @@ use Rattle.unique_table.specs.Plans.{levels_of, output_at, share, products_of, p
 use Rattle.unique_table.specs.Sessions.{Knowledge, Follows, Means, function_in}
 use Rattle.dd_builder.specs.Parts.{AreOfTerms, shares_union}
 use Rattle.dd_builder.proofs.SessionSteps.{means_same, means_at}
-use Rattle.dd_builder.proofs.Restricted.{part_piece}
+use Rattle.dd_builder.proofs.RestrictedNodes.{part_piece}
 use Rattle.dd_builder.proofs.Shares.{share_last, terms_part, none}
 use Rattle.std.proofs.Math.Bool.{or-false}
 use Rattle.definitions.proofs.Lists.Ranges.{range_append}

@@ -1,5 +1,5 @@
 pub mod Words
 pub mod Rule
-pub mod Seated
-pub mod Closing
+pub mod SeatSteps
+pub mod ClosedBoards
 pub mod BoardEvents

@@ -1,5 +1,6 @@
 -- A cell fits its word: the cost is at most one more than the bound, and the variable is below the number of variables.
 use Rattle.std.proofs.Common.{◌≡◌, ℕ, ◌+◌, ◌<◌, ◌≤◌, ◌&&◌, ◌||◌, Bool, true, false, nat_le, nat_eq, List, [], ◌∷◌, refl, ap, arith}
+use Rattle.std.proofs.lemmas.Bool.{and_parts}
 use Rattle.definitions.specs.Functions.{Function}
 use Rattle.definitions.specs.Pairs.{Pair}
 use Rattle.definitions.specs.Orders.{has, members}
@@ -10,14 +11,6 @@ use Rattle.definitions.specs.Cells.{cell_of, first_of, is_within, best_top}
 use Rattle.definitions.proofs.Lists.Orders.{has_filter}
 use Rattle.definitions.proofs.Bits.Masks.{members_small}
 use Rattle.definitions.proofs.Widths.Cells.{open_is, closed_cell}
-
-and_left : (a b : Bool) → (a && b) ≡ true → a ≡ true
-and_left true b h = refl
-and_left false b h = h
-
-and_right : (a b : Bool) → (a && b) ≡ true → b ≡ true
-and_right true b h = h
-and_right false b h = cc
 
 first_small : (xs : List ℕ) (n : ℕ) → ((y : ℕ) → has xs y ≡ true → y < n) → first_of xs ≤ n
 first_small [] n all = omega arith
@@ -39,7 +32,7 @@ module _ (n : ℕ) (F : List Function) (P : List Pair) (r : BoundAbove) (bound m
 
   within_bound : is_within n F P r bound S ≡ true → least n F P S ≤ bound
   unfolding is_within
-  within_bound h = sum_le (least n F P S) (nodes_above n F r S) bound (and_right _ _ h)
+  within_bound h = sum_le (least n F P S) (nodes_above n F r S) bound (and_parts _ _ h).1
 
   pub cell_small : ((cell_of n F P r bound mask).0 ≤ bound + 1) × ((cell_of n F P r bound mask).1 ≤ n)
   cell_small = grind (arith, open_is, within_bound, top_small, closed_cell, first_small, members_small)

@@ -12,8 +12,8 @@ use Rattle.node_words.specs.Nodes.{IsBelow, AreNodeWords, AreUnequal, Grows, lev
 use Rattle.node_words.specs.Meaning.{value, IsSame, depth, along, function_of, Denotes, branch}
 use Rattle.node_words.specs.declared.operation.Operation.{Operation}
 use Rattle.node_words.specs.Entries.{combine, combine_values}
-use Rattle.node_words.proofs.Growing.{grows_full}
-use Rattle.node_words.proofs.Making.{word_level, word_low, word_high}
+use Rattle.node_words.proofs.OneMoreNode.{grows_full}
+use Rattle.node_words.proofs.NewNodes.{word_level, word_low, word_high}
 use Rattle.node_words.proofs.Meaning.{value_terminal, value_grows, value_within, value_child, value_same, canonical, no_higher, deepest, depth_node, depth_terminal}
 use Rattle.std.proofs.lemmas.Bool.{cases_lt}
 

@@ -1,5 +1,5 @@
-pub mod Growing
+pub mod OneMoreNode
 pub mod Meaning
-pub mod Making
+pub mod NewNodes
 pub mod Functions
-pub mod Entries
+pub mod CacheWords

@@ -20,7 +20,7 @@ use Rattle.layer_core.specs.Instances.{Instance, cell_for}
 use Rattle.compaction.specs.Rows.{width_wanted, IsWidthRow, AreMembers, AreWidthRows}
 use Rattle.solutions.specs.Instances.{HoldsInstance}
 use Rattle.solutions.specs.Needs.{needed}
-use Rattle.solutions.proofs.Wanted.{wanted_member, wanted_bit, bit_wanted}
+use Rattle.solutions.proofs.WantedMembers.{wanted_member, wanted_bit, bit_wanted}
 use Rattle.solutions.proofs.BlockPlaces.{block_has}
 use Rattle.order_solve.specs.LayerContexts.{ContextOf, IsContext}
 use Rattle.solutions.proofs.NeedsByCosts.{wanted_by_costs}

@@ -1,5 +1,5 @@
 pub mod Blocks
 pub mod Posts
-pub mod Claimed
+pub mod ClaimedSets
 pub mod Rounds
 pub mod SiftedBounds

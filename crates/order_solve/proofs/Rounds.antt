@@ -18,7 +18,7 @@ use Rattle.solutions.proofs.Filters.{filter_none}
 use Rattle.order_solve.specs.Gains.{gains, gained, StaysClaimed, IsPosted}
 use Rattle.order_solve.proofs.Posts.{claimed_same}
 use Rattle.solutions.proofs.BlockPlaces.{block_layer}
-use Rattle.order_solve.proofs.Claimed.{ClaimsBlock, claimed_has, same_board, as_before, kept, claim_gains, was_open, open_marks, fewer_open}
+use Rattle.order_solve.proofs.ClaimedSets.{ClaimsBlock, claimed_has, same_board, as_before, kept, claim_gains, was_open, open_marks, fewer_open}
 
 pub record Working (t : Instance) (s0 s : SeatOf) (count : ℕ) : Type 0 where
   pub board : s.board ≡ s0.board

@@ -1,2 +1,2 @@
 pub mod Known
-pub mod Failed
+pub mod FailedCalls

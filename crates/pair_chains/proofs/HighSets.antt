@@ -13,7 +13,7 @@ use Rattle.std.proofs.lemmas.Nat.{pow_pos, or_disjoint, mod-pow-add, mod-mul-add
 use Rattle.std.proofs.lemmas.Nat.Bits.{shr_and_one, and_pow, bit_at-lt}
 use Rattle.definitions.specs.Orders.{has, members}
 use Rattle.subfunction_classes.specs.Table.{free_below}
-use Rattle.subfunction_classes.proofs.Extended.{free_none, free_more}
+use Rattle.subfunction_classes.proofs.OneMoreVariable.{free_none, free_more}
 use Rattle.subfunction_classes.proofs.LowSets.{bit_unset}
 
 pub low_bits : (mask x : ℕ) → mask % 2 ^ (x + 1) ≡ (mask / 2 ^ x % 2) * 2 ^ x + mask % 2 ^ x

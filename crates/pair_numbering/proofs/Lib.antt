@@ -1,6 +1,6 @@
 pub mod CellSteps
-pub mod Chained
+pub mod PairChains
 pub mod InBlocks
-pub mod Laid
+pub mod EntryPlaces
 pub mod Names
 pub mod SlotSteps

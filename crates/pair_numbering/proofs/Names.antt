@@ -19,7 +19,7 @@ use Rattle.subfunction_classes.specs.Places.{pairs}
 use Rattle.pair_numbering.specs.Keys.{AreUsed, TellsPairs, joined_key, joined_key_mask}
 use Rattle.subfunction_classes.proofs.RankLaws.{ranks_alike, rank_below, rank_reached}
 use Rattle.subfunction_classes.proofs.Index.{length-pairs, pair_listed}
-use Rattle.subfunction_classes.proofs.Joined.{pair_classes}
+use Rattle.subfunction_classes.proofs.JoinedMasks.{pair_classes}
 use Rattle.definitions.proofs.Lists.Maps.{map_same}
 use Rattle.subfunction_classes.proofs.Lists.{place_of}
 use Rattle.definitions.proofs.Precedence.Masks.{among_at}

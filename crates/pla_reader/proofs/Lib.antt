@@ -1,5 +1,5 @@
 mod WorkedFiles
-pub mod Reading
+pub mod CoverOrFault
 pub mod TextLemmas
 pub mod NameLemmas
 pub mod TermLemmas

@@ -1,4 +1,4 @@
 pub mod Words
-pub mod Copying
-pub mod Finishing
-pub mod Paging
+pub mod NodeCopies
+pub mod CopiedDiagrams
+pub mod PageNumbers

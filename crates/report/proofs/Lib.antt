@@ -1,1 +1,1 @@
-pub mod Leveled
+pub mod LevelCounts

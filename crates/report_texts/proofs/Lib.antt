@@ -1,9 +1,9 @@
-pub mod Spaced
-pub mod Worded
+pub mod SpacedTexts
+pub mod RunWords
 pub mod SameAnswers
-pub mod Reported
+pub mod ReportParts
 pub mod Certified
 pub mod Optima
-pub mod Delivered
-pub mod Determined
-pub mod Sent
+pub mod WriterPaths
+pub mod OneAnswer
+pub mod SentTexts

@@ -1,1 +1,1 @@
-pub mod Accepted
+pub mod AcceptedTexts

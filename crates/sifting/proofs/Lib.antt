@@ -1,19 +1,19 @@
 pub mod Paths
-pub mod Branching
+pub mod BranchingNodes
 pub mod Counts
-pub mod Exchanged
-pub mod Inserted
+pub mod ExchangedLevels
+pub mod Insertions
 pub mod NodeSlots
-pub mod Making
+pub mod LevelNodes
 pub mod OrderSwaps
 pub mod ManagerFields
 pub mod Placements
 pub mod MoveSteps
 pub mod BestPlace
 pub mod BothWalks
-pub mod Falling
+pub mod FallingCounts
 pub mod SiftedOrder
-pub mod Cutting
-pub mod Built
-pub mod Rooting
+pub mod SplitCuts
+pub mod BuiltLevels
+pub mod RootNumbers
 mod DiagramTables

@@ -23,9 +23,9 @@ use Rattle.sifting.specs.declared.levels.Level.{Level}
 use Rattle.sifting.specs.Leveled.{Children, function_at, places, branching, HasChildren, AreLevels, AreRoots, Exchanges}
 use Rattle.sifting.specs.LevelLists.{nodes_of, problem_at, HoldsDiagram}
 use Rattle.sifting.specs.Managed.{Managed, size_of, count_of, IsManagedOrder}
-use Rattle.sifting.proofs.Branching.{branching_few}
+use Rattle.sifting.proofs.BranchingNodes.{branching_few}
 use Rattle.sifting.proofs.Counts.{roots_cover, all_counts}
-use Rattle.sifting.proofs.Exchanged.{At, placed, places_placed, levels_placed, path_placed}
+use Rattle.sifting.proofs.ExchangedLevels.{At, placed, places_placed, levels_placed, path_placed}
 use Rattle.sifting.proofs.OrderSwaps.{keeps_crossed}
 use mathlib.Core.List.{map-map}
 

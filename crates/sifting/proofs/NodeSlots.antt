@@ -6,7 +6,7 @@ use Rattle.std.proofs.lemmas.Bool.{cases_eq, cases_lt}
 use Rattle.std.proofs.lemmas.List.{length_push}
 use Rattle.sifting.specs.Leveled.{Children, at}
 use Rattle.sifting.specs.NodeTables.{home_of, HasNumber, IsFreeSlot, IsSet, HasSlot}
-use Rattle.sifting.proofs.Making.{at_new, at_old}
+use Rattle.sifting.proofs.LevelNodes.{at_new, at_old}
 
 module _ (slots : List ℕ) (homes base : ℕ) (nodes : List Children) (c : Children) (place : ℕ)
     (free : IsFreeSlot slots base nodes c (home_of homes c) place)

@@ -9,7 +9,7 @@ use Rattle.definitions.specs.Sifting.{best, sifting_order, sifted}
 use Rattle.definitions.proofs.Sifting.Placements.{sifted_lem, own_place}
 use Rattle.sifting.specs.Managed.{Managed, IsManagedOrder, size_of, count_of}
 use Rattle.sifting.specs.Moves.{by_falling_count}
-use Rattle.sifting.proofs.Falling.{falling_is, falling_below}
+use Rattle.sifting.proofs.FallingCounts.{falling_is, falling_below}
 
 module _ (self : Managed) (ok : IsManagedOrder self) (n : ℕ) (e : n ≡ length self.order) (counts levels : List ℕ)
     (a : (x : ℕ) → x < length self.order → slice_index counts x ≡ slice_index levels (place_in self.order x))

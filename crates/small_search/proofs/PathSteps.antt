@@ -18,7 +18,7 @@ use Rattle.subfunction_classes.specs.Dependence.{joined_mask}
 use Rattle.subfunction_classes.specs.PairTables.{NumbersPairs}
 use Rattle.subfunction_classes.specs.Places.{pairs}
 use Rattle.subfunction_classes.specs.Table.{ClassesOf, HoldsClasses, classes_of, free_below, set_of}
-use Rattle.subfunction_classes.proofs.Extended.{IsReady, is_ready, holds_more}
+use Rattle.subfunction_classes.proofs.OneMoreVariable.{IsReady, is_ready, holds_more}
 use Rattle.pair_chains.specs.declared.numbering.Numbered.{Numbered}
 use Rattle.pair_chains.proofs.HighSets.{free_all, high_new, high_or, step_down}
 use Rattle.small_search.specs.Paths.{HoldPath}

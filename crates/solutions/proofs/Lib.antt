@@ -1,13 +1,13 @@
 pub mod SymmetricWords
 pub mod Filters
-pub mod Wanted
+pub mod WantedMembers
 pub mod NeedsByCosts
-pub mod Clipped
+pub mod WithinBound
 pub mod Layers
 pub mod FlatLists
 pub mod ReadOrders
 pub mod ListedSets
-pub mod Solved
+pub mod FoundOrders
 pub mod Harmless
 pub mod BlockPlaces
-pub mod Placing
+pub mod CellPlaces

@@ -17,12 +17,12 @@ use Rattle.definitions.specs.Cells.{cell_cost, widths_taken}
 use Rattle.definitions.specs.Certificates.{Cell, least_listed, listed_masks}
 use Rattle.definitions.proofs.Widths.Cells.{cost_known}
 use Rattle.definitions.proofs.Certificates.Listed.{listed_by_cells}
-use Rattle.subset_layers.proofs.Choosing.{filter_range_more}
+use Rattle.subset_layers.proofs.ChosenNumbers.{filter_range_more}
 use Rattle.layer_core.specs.Instances.{Instance}
 use Rattle.definitions.specs.declared.listed_cells.ListedCell.{ListedCell}
 use Rattle.solutions.specs.Needs.{needed, width_count}
 use Rattle.definitions.specs.Listed.{listed}
-use Rattle.solutions.proofs.Wanted.{needed_ones, wanted_none, few_each}
+use Rattle.solutions.proofs.WantedMembers.{needed_ones, wanted_none, few_each}
 
 module _ (t : Instance) where
   abbrev n : ℕ

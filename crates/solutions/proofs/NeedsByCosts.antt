@@ -13,7 +13,7 @@ use Rattle.subset_layers.proofs.CostLists.{less_one}
 use Rattle.layer_core.specs.Instances.{Instance}
 use Rattle.solutions.specs.LayerCosts.{AreCostsFor}
 use Rattle.solutions.specs.Needs.{needed}
-use Rattle.solutions.proofs.Wanted.{wanted_lawful}
+use Rattle.solutions.proofs.WantedMembers.{wanted_lawful}
 
 -- the members whose widths a lawful set's cell takes
 pub wanted_by_costs : (c : CostsOf) (F : List Function) (P : List Pair) (r : BoundAbove) (bound mask : ℕ) →

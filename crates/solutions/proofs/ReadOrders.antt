@@ -34,7 +34,7 @@ use Rattle.definitions.proofs.Functions.Exchange.{above_width, level_lem}
 use Rattle.definitions.proofs.Bits.Ones.{ones-members}
 use Rattle.layer_core.specs.Instances.{Instance, cell_for}
 use Rattle.solutions.specs.Bounded.{IsBounded}
-use Rattle.solutions.proofs.Clipped.{read_first, read_unclipped}
+use Rattle.solutions.proofs.WithinBound.{read_first, read_unclipped}
 use Rattle.definitions.proofs.Widths.SizeBounds.{order_length}
 
 pub full_small : (n : ℕ) → 2 ^ n - 1 < 2 ^ n

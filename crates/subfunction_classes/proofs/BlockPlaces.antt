@@ -6,7 +6,7 @@ use Rattle.std.proofs.Common.{◌≡◌, ℕ, ◌+◌, ◌*◌, ◌/◌, ◌^◌
 use Rattle.std.proofs.lemmas.Nat.{div-mul-add, mod-mul-add}
 use Rattle.subfunction_classes.specs.Places.{low_place, pairs}
 use Rattle.subfunction_classes.proofs.Index.{pair_listed, length-pairs}
-use Rattle.subfunction_classes.proofs.Joined.{pair_classes}
+use Rattle.subfunction_classes.proofs.JoinedMasks.{pair_classes}
 
 -- its lower entry
 pub block_low : (step b i : ℕ) → i < step → low_place step (b * step + i) ≡ b * (2 * step) + i

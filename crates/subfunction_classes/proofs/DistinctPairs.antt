@@ -13,8 +13,8 @@ use Rattle.subfunction_classes.specs.Numbering.{rank, ranks}
 use Rattle.subfunction_classes.specs.Places.{pairs}
 use Rattle.subfunction_classes.proofs.BlockPlaces.{listed_classes}
 use Rattle.subfunction_classes.proofs.Progress.{among_take, take_among}
-use Rattle.subfunction_classes.proofs.Counted.{same_at}
-use Rattle.subfunction_classes.proofs.Joined.{length-ranks, number_at}
+use Rattle.subfunction_classes.proofs.CountedWidths.{same_at}
+use Rattle.subfunction_classes.proofs.JoinedMasks.{length-ranks, number_at}
 use Rattle.definitions.proofs.Lists.Maps.{map_same}
 use Rattle.subfunction_classes.proofs.RankLaws.{rank_below, rank_reached}
 use mathlib.Core.List.{map-map}

@@ -11,7 +11,7 @@ use Rattle.subfunction_classes.specs.Made.{Progress, Joined, Made}
 use Rattle.subfunction_classes.specs.Numbering.{IsFirstOccurrence, rank, ranks}
 use Rattle.subfunction_classes.proofs.RankLaws.{rank_absent, rank_below}
 use Rattle.subfunction_classes.proofs.Progress.{progress_none, progress_new, progress_old, progress_all, among_take, take_among}
-use Rattle.subfunction_classes.proofs.Joined.{joined_none, joined_new, joined_old, joined_many, joined_told, rank_is}
+use Rattle.subfunction_classes.proofs.JoinedMasks.{joined_none, joined_new, joined_old, joined_many, joined_told, rank_is}
 
 module _ {M : Type 0} (none : M) (ps : List (ℕ × ℕ)) (join : ℕ × ℕ → M) where
   -- the masks with one more pair, which is the first of its kind

@@ -12,8 +12,8 @@ use Rattle.subfunction_classes.specs.Numbering.{ranks}
 use Rattle.subfunction_classes.specs.Places.{pairs}
 use Rattle.subfunction_classes.specs.Dependence.{dependence, joined_mask, AreMasks}
 use Rattle.subfunction_classes.proofs.DependenceMasks.{dependence_joined}
-use Rattle.subfunction_classes.proofs.Counted.{same_at}
-use Rattle.subfunction_classes.proofs.Compacted.{step_of, pairs_told, pairs_of_classes, compacted, counted, told_apart, numbers_told, tell_class, class_pair_same}
+use Rattle.subfunction_classes.proofs.CountedWidths.{same_at}
+use Rattle.subfunction_classes.proofs.Compaction.{step_of, pairs_told, pairs_of_classes, compacted, counted, told_apart, numbers_told, tell_class, class_pair_same}
 use mathlib.Core.List.{map-map}
 
 module _ (n : ℕ) (F : List Function) (T : List ℕ) (x : ℕ) (small : x < n) (new : has T x ≡ false) (masks : List ℕ) (are : AreMasks n F T masks) where

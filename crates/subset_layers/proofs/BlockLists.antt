@@ -13,7 +13,7 @@ use Rattle.definitions.specs.Orders.{has, members, place_in}
 use Rattle.definitions.proofs.Lists.Orders.{has_filter, has_range, has_at, place_at, place_small}
 use Rattle.subset_layers.specs.Layers.{LayerOf, masks_of, BlockOf, block_of, blocks_of, block_masks, low_bytes, layer_with}
 use Rattle.subset_layers.specs.Selections.{ArePlaced, chosen}
-use Rattle.subset_layers.proofs.Choosing.{chosen-map}
+use Rattle.subset_layers.proofs.ChosenNumbers.{chosen-map}
 use Rattle.definitions.proofs.Lists.Accepted.{index_of}
 
 -- a layer has the masks below 2 ^ n with the layer's number of members

@@ -1,4 +1,4 @@
-pub mod Choosing
+pub mod ChosenNumbers
 pub mod BlockLists
 pub mod CostLists
 pub mod BestSums

@@ -9,4 +9,4 @@ pub mod KeptPoints
 pub mod OfCovers
 pub mod Lists
 pub mod Refs
-pub mod Leveled
+pub mod LevelDiagrams

@@ -3,8 +3,8 @@ pub mod Puts
 pub mod Rule
 pub mod Starts
 pub mod Steps
-pub mod Following
-pub mod Opened
+pub mod SessionsGoOn
+pub mod OpenedStores
 pub mod Parts
 pub mod Roots
 pub mod KindLaws

@@ -13,9 +13,9 @@ use Rattle.atomic_table.proofs.Lists.{at_set, at_snoc, set_else}
 use Rattle.node_words.specs.Nodes.{IsNode, AreNodeWords, AreStored, Grows, probe, IsTaken}
 use Rattle.node_words.specs.Meaning.{Denotes}
 use Rattle.node_words.specs.Entries.{IsEntry}
-use Rattle.node_words.proofs.Growing.{grows_refl, grows_trans, node_grows, set_grows, stored_put}
+use Rattle.node_words.proofs.OneMoreNode.{grows_refl, grows_trans, node_grows, set_grows, stored_put}
 use Rattle.node_words.proofs.Functions.{denotes_grows, one_id}
-use Rattle.node_words.proofs.Entries.{entry_grows}
+use Rattle.node_words.proofs.CacheWords.{entry_grows}
 use Rattle.unique_table.specs.declared.plan.Plan.{Plan}
 use Rattle.unique_table.specs.declared.session.View.{View}
 use Rattle.unique_table.specs.Plans.{order_of, levels_of, piece_function}

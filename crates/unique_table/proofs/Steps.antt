@@ -1,6 +1,6 @@
 -- What a step leaves of a seat.
 use Rattle.std.proofs.Common.{◌≡◌, ℕ, ◌+◌, ◌≤◌, List, arith}
-use Rattle.node_words.proofs.Growing.{grows_trans}
+use Rattle.node_words.proofs.OneMoreNode.{grows_trans}
 use Rattle.unique_table.specs.declared.session.View.{View}
 use Rattle.unique_table.specs.Invariant.{Sees, sees}
 use Rattle.unique_table.specs.Views.{After, Gains}

@@ -17,8 +17,8 @@ use Rattle.subfunction_classes.specs.Strips.{unrolled}
 use Rattle.value_strips.specs.ValueStrips.{AreStrips}
 use Rattle.subfunction_classes.specs.Values.{row, values_of, number_of}
 use Rattle.subfunction_classes.proofs.StartClasses.{length_row}
-use Rattle.value_strips.proofs.Expanded.{bit_in_word, length_packed, packed_at, place_parts}
-use Rattle.value_strips.proofs.Unrolled.{length_unrolled, unrolled_at, same_by_places}
+use Rattle.value_strips.proofs.StripNumbers.{bit_in_word, length_packed, packed_at, place_parts}
+use Rattle.value_strips.proofs.UnrolledTables.{length_unrolled, unrolled_at, same_by_places}
 
 -- bit b stands in word b / 64
 word_of : (words : List ℕ) (w b : ℕ) → packed_bit words (w * 64 + b % 64) ≡ (bit_at (get_or words w 0) (b % 64) == 1)

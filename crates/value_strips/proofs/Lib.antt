@@ -1,3 +1,3 @@
-pub mod Unrolled
-pub mod Expanded
+pub mod UnrolledTables
+pub mod StripNumbers
 pub mod KeptRuns

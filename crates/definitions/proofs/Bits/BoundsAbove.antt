@@ -11,6 +11,7 @@ use Rattle.std.proofs.lemmas.List.{take_more, take_more_set, take_all, map-appen
 use Rattle.std.proofs.lemmas.List.Elements.{filter-append}
 use Rattle.std.proofs.lemmas.List.Sums.{fold-append}
 use Rattle.std.proofs.lemmas.Simd.{map-map}
+use Rattle.std.proofs.Math.Nat.{zero-max}
 use Rattle.std.proofs.lemmas.Nat.Bits.{bit_at_or, bit_at-zero, same_from_bits}
 use Rattle.definitions.specs.Functions.{Function, depends, from_table}
 use Rattle.definitions.specs.Orders.{has, members, variables}
@@ -77,12 +78,9 @@ union_bit : (n y : ℕ) (F : List Function) (a : ℕ) →
 union_bit n y [] a = omega (arith, nowhere (has (variables n) y))
 union_bit n y (f ∷ F) a = grind (arith, bit_at_or, bit-support, union_bit n y F (bit_or a (support n f)))
 
-max_zero : (k : ℕ) → max 0 k ≡ k
-max_zero k = omega arith
-
 union_of_all : (n : ℕ) (F : List Function) → fold bit_or 0 (map (support n) F) ≡ essential_mask n F
 unfolding essential_mask essential
-union_of_all n F = search (same_from_bits, union_bit, bit_at-zero, max_zero, bit-mask_of, distinct_essential, has_filter)
+union_of_all n F = search (same_from_bits, union_bit, bit_at-zero, zero-max, bit-mask_of, distinct_essential, has_filter)
 
 pub union_without_is : (n : ℕ) (F : List Function) (x : ℕ) (sets : List ℕ) → x < n → sets ≡ map (support n) F →
     fold bit_or 0 (filter (λ s. not (eqb (bit_at s x) 1)) sets) ≡ essential_mask n (functions_without n F x)

@@ -53,7 +53,8 @@ value_cases n F cert m = by (nat_eq m (2 ^ cert.inputs - 1)) refl (find_cases (�
         ((c : Cell) × Among c cert.cells × (nat_eq c.mask m ≡ true) × (found ≡ Some c)) →
         ((m ≡ 2 ^ cert.inputs - 1) × (cond b cert.total (cost_of found) ≡ cert.total)) ⊎
         ((c : Cell) × Among c cert.cells × (c.mask ≡ m) × (cond b cert.total (cost_of found) ≡ c.cost))
-        ⊎ (((c : Cell) → Among c cert.cells → c.mask ≢ m) × (m ≢ 2 ^ cert.inputs - 1) × (cond b cert.total (cost_of found) ≡ cert.total - bound_above n F cert m))
+        ⊎ (((c : Cell) → Among c cert.cells → c.mask ≢ m) × (m ≢ 2 ^ cert.inputs - 1) ×
+        (cond b cert.total (cost_of found) ≡ cert.total - bound_above n F cert m))
     by true f r = inl (eqb-true m (2 ^ cert.inputs - 1) f, refl)
     by false f r =
         elim r [
@@ -73,7 +74,8 @@ unfolding bound_above
 bound_above_mask n F cert xs d small = ap (cond (nat_eq cert.format 1) 0) (essentials_same n F (members n (mask_of xs)) xs (members_mask_of n xs d small))
 
 -- one more variable takes at most its width from the nodes above
-bound_above_step : (n : ℕ) (F : List Function) (cert : Certificate) (x : ℕ) (xs : List ℕ) → IsDistinct nat_eq (x ∷ xs) → ((y : ℕ) → has (x ∷ xs) y ≡ true → y < n) →
+bound_above_step : (n : ℕ) (F : List Function) (cert : Certificate) (x : ℕ) (xs : List ℕ) → IsDistinct nat_eq (x ∷ xs) →
+    ((y : ℕ) → has (x ∷ xs) y ≡ true → y < n) →
     bound_above n F cert (mask_of xs) ≤ bound_above n F cert (mask_of (x ∷ xs)) + width n F xs x
 unfolding IsDistinct
 bound_above_step n F cert x xs d small = grind (arith, bound_above_mask, essentials_step, absent_from_apart)

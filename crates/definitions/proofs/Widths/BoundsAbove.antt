@@ -57,7 +57,7 @@ none_kept p xs h = filter_same p (λ y. false) xs h ∙ none xs
     none (y ∷ ys) = none ys
 
 -- with no variable fixed just the functions themselves are reached
-reach_nothing : (F : List Function) → reach F [] ≡ F
+pub reach_nothing : (F : List Function) → reach F [] ≡ F
 unfolding reach subfunctions
 reach_nothing F = by F
   where

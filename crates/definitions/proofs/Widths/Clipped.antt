@@ -155,7 +155,8 @@ module _ (n : ℕ) (F : List Function) (P : List Pair) (base : List ℕ) (o : Is
         )
 
   -- all variables are within the size of an order that keeps the pairs
-  pub full_within : (r : BoundAbove) (other : List ℕ) → IsOrder n other → Keeps P other → is_within n F P r (size_under n F other) (members n (2 ^ n - 1)) ≡ true
+  pub full_within : (r : BoundAbove) (other : List ℕ) → IsOrder n other → Keeps P other →
+      is_within n F P r (size_under n F other) (members n (2 ^ n - 1)) ≡ true
   full_within r other p q =
       let all = all_lawful n P base o k in
       let low = lawful_same P (members n (2 ^ n - 1)) (variables n) (members_full n) ∙ all.lawful in

@@ -1,6 +1,6 @@
 use Rattle.std.proofs.Common.{arith}
 use Rattle.cert_check.specs.Tables.{classes_at, table_at}
-use Rattle.subfunction_classes.proofs.Extended.{few_masks}
+use Rattle.subfunction_classes.proofs.OneMoreVariable.{few_masks}
 use Rattle.cert_check.proofs.Full.{full_of}
 use Rattle.cert_check.proofs.class_table.table_of.Goals as goal
 

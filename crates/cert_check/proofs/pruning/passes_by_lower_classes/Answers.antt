@@ -8,7 +8,7 @@ use Rattle.cert_check.specs.LowerClasses.{IsWide}
 use Rattle.cert_check.specs.Tables.{rows_with}
 use Rattle.pair_chains.proofs.HighSets.{double}
 use Rattle.cert_check.proofs.IntoOne.{none_into}
-use Rattle.cert_check.proofs.Stands.{wide_upper}
+use Rattle.cert_check.proofs.WalkTables.{wide_upper}
 use Rattle.cert_check.proofs.pruning.passes_by_lower_classes.Goals as goal
 
 pub overflow_add-set : goal.overflow_add-set

@@ -1,5 +1,5 @@
 use Rattle.std.proofs.Common.{sym, ◌∙◌}
-use Rattle.cert_check.proofs.Stands.{whole_part}
+use Rattle.cert_check.proofs.WalkTables.{whole_part}
 use Rattle.cert_check.proofs.top_tables.first_from_tops.Goals as goal
 
 pub first_in_part-requires-2-clause-set : goal.first_in_part-requires-2-clause-set

@@ -1,5 +1,5 @@
 use Rattle.std.proofs.Common.{◌+◌, ◌-◌, arith}
-use Rattle.cert_check.proofs.Stands.{stands_below}
+use Rattle.cert_check.proofs.WalkTables.{stands_below}
 use Rattle.cert_check.proofs.top_tables.top_tables.Goals as goal
 
 pub invariant_of-above : goal.invariant_of-above

@@ -1,6 +1,6 @@
 use Rattle.std.proofs.Common.{◌≡◌, ◌+◌, ◌-◌, arith}
 use Rattle.cert_check.proofs.FirstEdges.{first_half, first_halves, none_judged}
-use Rattle.cert_check.proofs.Stands.{stands_lower, stands_shorter}
+use Rattle.cert_check.proofs.WalkTables.{stands_lower, stands_shorter}
 use Rattle.cert_check.proofs.walk.+first_failing.Goals as goal
 
 pub has_judged-requires : goal.has_judged-requires

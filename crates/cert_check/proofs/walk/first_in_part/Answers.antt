@@ -1,5 +1,5 @@
 use Rattle.std.proofs.Common.{arith}
-use Rattle.cert_check.proofs.Stands.{part_set, stands_part}
+use Rattle.cert_check.proofs.WalkTables.{part_set, stands_part}
 use Rattle.cert_check.proofs.walk.first_in_part.Goals as goal
 
 pub has_judged-requires : goal.has_judged-requires

@@ -1,6 +1,6 @@
 use Rattle.std.proofs.Common.{◌≡◌, ◌+◌, ◌-◌, arith}
 use Rattle.rayon.proofs.ListFacts.{IfOk-then}
-use Rattle.cert_check.proofs.Stands.{stands_upper, upper_set}
+use Rattle.cert_check.proofs.WalkTables.{stands_upper, upper_set}
 use Rattle.cert_check.proofs.walk.upper_table.Goals as goal
 
 pub returns-clause-set : goal.returns-clause-set

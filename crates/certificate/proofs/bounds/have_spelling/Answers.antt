@@ -1,5 +1,5 @@
 use Rattle.std.proofs.Common.{◌≡◌, true, sym, ◌∙◌, arith}
-use Rattle.certificate.proofs.Fitting.{spelled, spelled_pairs, spelled_cells}
+use Rattle.certificate.proofs.PartTests.{spelled, spelled_pairs, spelled_cells}
 use Rattle.certificate.proofs.bounds.have_spelling.Goals as goal
 
 pub returns-then-not-pairs_fit-clause-unspelled : goal.returns-then-not-pairs_fit-clause-unspelled

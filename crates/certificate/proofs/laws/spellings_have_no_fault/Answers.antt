@@ -1,4 +1,4 @@
-use Rattle.certificate.proofs.Spelled.{no_fault}
+use Rattle.certificate.proofs.Spellings.{no_fault}
 use Rattle.certificate.proofs.laws.spellings_have_no_fault.Goals as goal
 
 pub returns : goal.returns

@@ -1,4 +1,4 @@
-use Rattle.certificate.proofs.Spelled.{one_form}
+use Rattle.certificate.proofs.Spellings.{one_form}
 use Rattle.certificate.proofs.laws.texts_have_one_certificate.Goals as goal
 
 pub returns : goal.returns

@@ -1,7 +1,7 @@
 use Rattle.std.proofs.Common.{◌≡◌, true, ◌∙◌, ap, ◌∷◌, arith, rules}
 use Rattle.definitions.specs.Texts.{same}
 use Rattle.certificate.specs.Faults.{words}
-use Rattle.certificate.proofs.Judges.{same_is}
+use Rattle.certificate.proofs.LineTests.{same_is}
 use Rattle.certificate.proofs.LineWords.{cut_words}
 use Rattle.certificate.proofs.NumberLines.{no_name, other_name, other_count}
 use Rattle.certificate.proofs.lines.behind_name.Goals as goal

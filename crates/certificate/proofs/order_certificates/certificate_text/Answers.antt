@@ -47,4 +47,5 @@ returns c =
     (c.in_ok-order.ensures.items_if_clones_equal (λ x y h. h) ∙ c.variables.ensures.value) c.requires.found.levels_are
     c.requires.found.size c.in_ok-kept.ensures (rw c.requires.inputs at c.inputs-inputs.ensures.sorted) c.requires.cells in
     let cert = c.in-Some.ensures.some ∙ same in
-    stated (certificate_of n F P c.args.found.order) c.in-Some.cert c.text.result cert (subst HasSpelling c.cert.view_is c.cert.invariant) c.text.ensures.spelling
+    stated (certificate_of n F P c.args.found.order) c.in-Some.cert c.text.result cert
+    (subst HasSpelling c.cert.view_is c.cert.invariant) c.text.ensures.spelling

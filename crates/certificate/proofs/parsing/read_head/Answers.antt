@@ -4,7 +4,7 @@ use Rattle.certificate.specs.Faults.{head_judges}
 use Rattle.certificate.specs.Decoded.{numbers_of}
 use Rattle.certificate.specs.Parsing.{outcome}
 use Rattle.certificate.proofs.Faultless.{format_of}
-use Rattle.certificate.proofs.Heading.{taken_none, taken_more, told_fails, head_memory, small_numbers}
+use Rattle.certificate.proofs.HeadLines.{taken_none, taken_more, told_fails, head_memory, small_numbers}
 use Rattle.certificate.proofs.parsing.read_head.Goals as goal
 
 -- a field's number, and its numbers

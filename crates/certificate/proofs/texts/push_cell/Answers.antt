@@ -1,6 +1,6 @@
 use Rattle.std.proofs.Common.{◌++◌, ap, ◌∙◌, string_bytes, arith}
 use Rattle.definitions.specs.Listed.{listed}
-use Rattle.certificate.proofs.Written.{zero_padded, cell_written}
+use Rattle.certificate.proofs.WrittenLines.{zero_padded, cell_written}
 use Rattle.certificate.proofs.texts.push_cell.Goals as goal
 
 pub returns : goal.returns

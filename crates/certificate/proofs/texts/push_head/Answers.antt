@@ -1,5 +1,5 @@
 use Rattle.std.proofs.Common.{ap, [], ◌∷◌}
-use Rattle.certificate.proofs.Written.{six_written, stated}
+use Rattle.certificate.proofs.WrittenLines.{six_written, stated}
 use Rattle.certificate.proofs.texts.push_head.Goals as goal
 
 pub returns : goal.returns

@@ -1,5 +1,5 @@
 use Rattle.std.proofs.Common.{◌++◌, ap, ◌∙◌, string_bytes}
-use Rattle.certificate.proofs.Written.{number_written}
+use Rattle.certificate.proofs.WrittenLines.{number_written}
 use Rattle.certificate.proofs.texts.push_number.Goals as goal
 
 pub returns : goal.returns

@@ -1,6 +1,6 @@
 use Rattle.std.proofs.Common.{◌++◌, ap, ◌∙◌, string_bytes, get_or}
 use Rattle.certificate.specs.Spelling.{pair_words}
-use Rattle.certificate.proofs.Written.{entries_more, pair_written}
+use Rattle.certificate.proofs.WrittenLines.{entries_more, pair_written}
 use Rattle.certificate.proofs.texts.push_pairs.Goals as goal
 
 pub loop-a-preserved : goal.loop-a-preserved

@@ -1,5 +1,5 @@
 use Rattle.std.proofs.Common.{take_all, arith}
-use Rattle.certificate.proofs.Written.{numbers_written}
+use Rattle.certificate.proofs.WrittenLines.{numbers_written}
 use Rattle.certificate.proofs.texts.push_variables.Goals as goal
 
 pub returns : goal.returns

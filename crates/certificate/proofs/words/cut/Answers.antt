@@ -1,7 +1,7 @@
 use Rattle.std.proofs.Common.{◌+◌, Some, take, refl, sym, subst, arith}
 use Rattle.std.proofs.lemmas.List.{take_rest}
 use Rattle.certificate.specs.Parsing.{Cuts}
-use Rattle.certificate.proofs.Cutting.{cut_at, cut_nowhere}
+use Rattle.certificate.proofs.FirstSeparators.{cut_at, cut_nowhere}
 use Rattle.certificate.proofs.words.cut.Goals as goal
 
 pub returns-in_err-place-clause-none : goal.returns-in_err-place-clause-none

@@ -1,5 +1,5 @@
 use Rattle.std.proofs.Common.{rules}
-use Rattle.check_runs.proofs.Checked.{accepted}
+use Rattle.check_runs.proofs.CoverVerdicts.{accepted}
 use Rattle.outcomes.proofs.Known.{with_known, with_read}
 use Rattle.check_runs.proofs.checks.run_check.Goals as goal
 

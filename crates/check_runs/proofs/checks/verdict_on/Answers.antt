@@ -2,7 +2,7 @@ use Rattle.std.proofs.Common.{subst}
 use Rattle.definitions.specs.Problems.{functions}
 use Rattle.truth_table.specs.OfCovers.{AreTablesOf}
 use Rattle.cert_check.specs.Verdicts.{Judges, reason_of}
-use Rattle.check_runs.proofs.Checked.{good_for, reason_for}
+use Rattle.check_runs.proofs.CoverVerdicts.{good_for, reason_for}
 use Rattle.check_runs.proofs.checks.verdict_on.Goals as goal
 
 pub returns-in-Valid : goal.returns-in-Valid

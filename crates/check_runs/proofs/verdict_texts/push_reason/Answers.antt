@@ -1,5 +1,5 @@
 use Rattle.std.proofs.Common.{arith}
-use Rattle.certificate.proofs.Written.{zero_padded}
+use Rattle.certificate.proofs.WrittenLines.{zero_padded}
 use Rattle.check_runs.proofs.verdict_texts.push_reason.Goals as goal
 
 pub returns-in_ok-write-in-Edge : goal.returns-in_ok-write-in-Edge

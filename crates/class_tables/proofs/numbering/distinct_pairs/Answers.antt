@@ -3,7 +3,7 @@ use Rattle.subfunction_classes.specs.Places as places
 use Rattle.std.proofs.lemmas.List.{map-id}
 use Rattle.subfunction_classes.proofs.Index.{pair_listed, length-pairs}
 use Rattle.subfunction_classes.specs.Made.{Joined}
-use Rattle.subfunction_classes.proofs.Joined.{joined_new, joined_old, joined_many, joined_told, number_at, numbered_place}
+use Rattle.subfunction_classes.proofs.JoinedMasks.{joined_new, joined_old, joined_many, joined_told, number_at, numbered_place}
 use Rattle.class_tables.proofs.numbering.distinct_pairs.Goals as goal
 use Rattle.class_tables.proofs.numbering.distinct_pairs.Goals.{then-number-len+in_ok-push, else-number-len}
 

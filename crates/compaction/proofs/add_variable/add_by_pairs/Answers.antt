@@ -8,10 +8,10 @@ use Rattle.pair_numbering.specs.Keys.{TellsPairs}
 use Rattle.subfunction_classes.specs.Places as places
 use Rattle.subfunction_classes.proofs.Index.{length-pairs}
 use Rattle.pair_numbering.proofs.Names.{names_below, length_names}
-use Rattle.subfunction_classes.proofs.Unrolled.{length_named, length_names_of}
+use Rattle.subfunction_classes.proofs.StripLengths.{length_named, length_names_of}
 use Rattle.compaction.specs.Strips.{GrowsStrips, StripTableOf}
-use Rattle.compaction.proofs.Paired.{paired_few, paired_long, paired_lower, paired_named, paired_upper}
-use Rattle.compaction.proofs.Stripped.{high_strips, high_tells}
+use Rattle.compaction.proofs.StripPairs.{paired_few, paired_long, paired_lower, paired_named, paired_upper}
+use Rattle.compaction.proofs.StripTables.{high_strips, high_tells}
 use Rattle.compaction.proofs.add_variable.add_by_pairs.Goals as goal
 
 pub number_names-requires-clause-table : goal.number_names-requires-clause-table

@@ -6,7 +6,7 @@ use Rattle.pair_numbering.specs.Keys.{TellsPairs}
 use Rattle.compaction.specs.Strips.{GrowsStrips, StripTableOf}
 use Rattle.subfunction_classes.proofs.Index.{length-pairs}
 use Rattle.pair_numbering.proofs.Names.{names_below, length_names}
-use Rattle.compaction.proofs.Ordered.{ordered_strips, ordered_tells, ordered_whole}
+use Rattle.compaction.proofs.OrderedStrips.{ordered_strips, ordered_tells, ordered_whole}
 use Rattle.compaction.proofs.add_variable.add_in_order.Goals as goal
 
 pub of_table-pairs-requires-clause-table : goal.of_table-pairs-requires-clause-table

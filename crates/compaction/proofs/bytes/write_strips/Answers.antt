@@ -2,8 +2,8 @@ use Rattle.std.proofs.Common.{◌≡◌, ◌+◌, ◌*◌, ◌<◌, ◌++◌, �
 use Rattle.std.proofs.lemmas.List.{take_more, take_more_set, take_all, length-set}
 use Rattle.subfunction_classes.specs.Strips.{unrolled}
 use Rattle.subfunction_classes.proofs.BlockPlaces.{block_next}
-use Rattle.compaction.proofs.Stripped.{below_product}
-use Rattle.subfunction_classes.proofs.Unrolled.{length_named, named_at, named_inside}
+use Rattle.compaction.proofs.StripTables.{below_product}
+use Rattle.subfunction_classes.proofs.StripLengths.{length_named, named_at, named_inside}
 use Rattle.compaction.proofs.bytes.write_strips.Goals as goal
 
 pub loop-a-init : goal.loop-a-init

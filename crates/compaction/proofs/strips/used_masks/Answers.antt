@@ -3,7 +3,7 @@ use Rattle.std.proofs.lemmas.List.{append-nil}
 use Rattle.std.specs.List.{filter, range_with_len}
 use Rattle.definitions.specs.Orders.{has}
 use Rattle.compaction.specs.Strips.{masks_in_use}
-use Rattle.compaction.proofs.Used.{in_use_more, in_use_same}
+use Rattle.compaction.proofs.UsedNumbers.{in_use_more, in_use_same}
 use Rattle.compaction.proofs.strips.used_masks.Goals as goal
 use Rattle.compaction.proofs.strips.used_masks.Goals.{then-occurs+in_ok-push, else-occurs}
 

@@ -4,8 +4,8 @@ use Rattle.compaction.specs.Strips.{low_variables}
 use Rattle.subfunction_classes.specs.Table.{ClassesOf, free_below}
 use Rattle.compaction.specs.HighBytes.{HasByte}
 use Rattle.compaction.specs.Rows.{AreRowsFilled}
-use Rattle.compaction.proofs.Filled.{filled_own, filled_unwanted, filled_both, few_compactions, fewer_compactions}
-use Rattle.compaction.proofs.Decided.{all_decided, lacks_new, within_same, within_more, decided_more, undecided_high, free_with, few_free}
+use Rattle.compaction.proofs.FilledRows.{filled_own, filled_unwanted, filled_both, few_compactions, fewer_compactions}
+use Rattle.compaction.proofs.DecidedVariables.{all_decided, lacks_new, within_same, within_more, decided_more, undecided_high, free_with, few_free}
 use Rattle.compaction.proofs.HighBytes.{branch_without, branch_with}
 use Rattle.compaction.proofs.walking.+walk.Goals as goal
 

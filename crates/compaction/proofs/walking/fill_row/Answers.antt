@@ -1,8 +1,8 @@
 use Rattle.std.proofs.Common.{◌/◌, ◌%◌, refl, sym, ap, ◌∙◌, subst, arith}
 use Rattle.std.proofs.lemmas.Grind.{common_steps}
 use Rattle.compaction.specs.Requests.{AreMembersOf}
-use Rattle.compaction.proofs.Filled.{row_filled}
-use Rattle.compaction.proofs.Requested.{wanted_members}
+use Rattle.compaction.proofs.FilledRows.{row_filled}
+use Rattle.compaction.proofs.WantedSets.{wanted_members}
 use Rattle.compaction.proofs.walking.fill_row.Goals as goal
 use Rattle.compaction.proofs.walking.fill_row.Goals.{else-set-from-via-then-set-from+else-high-rows, else-set-from-via-else-set-from}
 

@@ -5,8 +5,8 @@ use Rattle.definitions.specs.Problems.{TruthTables}
 use Rattle.subfunction_classes.specs.Table.{ClassesOf}
 use Rattle.compaction.specs.Rows.{AreRowsFilled}
 use Rattle.compaction.specs.Strips.{low_variables}
-use Rattle.compaction.proofs.Filled.{agree_low, whole_rows}
-use Rattle.compaction.proofs.Decided.{within_ones, free_ones}
+use Rattle.compaction.proofs.FilledRows.{agree_low, whole_rows}
+use Rattle.compaction.proofs.DecidedVariables.{within_ones, free_ones}
 use Rattle.compaction.proofs.walking.walk_from.Goals as goal
 
 pub walk-requires-clause-decided : goal.walk-requires-clause-decided

@@ -1,7 +1,7 @@
 use Rattle.std.proofs.Common.{◌≢◌, ℕ, ◌<◌, List, length, slice_index, refl, sym, subst, arith}
 use Rattle.compaction.specs.HighBytes.{HasByte}
 use Rattle.compaction.specs.Rows.{AreByteRows}
-use Rattle.compaction.proofs.Filled.{few_tables, rows_back, rows_of_none}
+use Rattle.compaction.proofs.FilledRows.{few_tables, rows_back, rows_of_none}
 use Rattle.compaction.proofs.walking.walked_rows.Goals as goal
 
 pub returns-then-is_empty-clause-rows : goal.returns-then-is_empty-clause-rows

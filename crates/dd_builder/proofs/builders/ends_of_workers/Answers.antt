@@ -1,7 +1,7 @@
 use Rattle.std.proofs.Common.{◌-◌, ◌<◌, Some, get_or, length, rules, arith, ap, sym, ◌∙◌, subst}
 use Rattle.std.proofs.lemmas.Option.{slice_get_within, slice_get-get_or, get_or_from_slice_get}
 use Rattle.dd_builder.specs.Parts.{IsEndOf, Continues, session_of}
-use Rattle.dd_builder.proofs.Halves.{shares_of}
+use Rattle.dd_builder.proofs.SharedStakes.{shares_of}
 use Rattle.dd_builder.proofs.builders.ends_of_workers.Goals as goal
 
 pub returns-clause-ends : goal.returns-clause-ends

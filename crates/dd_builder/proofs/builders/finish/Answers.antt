@@ -1,5 +1,5 @@
 use Rattle.std.proofs.Common.{◌∙◌}
-use Rattle.dd_builder.proofs.Halves.{share_all}
+use Rattle.dd_builder.proofs.SharedStakes.{share_all}
 use Rattle.dd_builder.proofs.Fullness.{full_never}
 use Rattle.dd_builder.proofs.builders.finish.Goals as goal
 

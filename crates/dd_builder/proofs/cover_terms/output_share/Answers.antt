@@ -2,9 +2,9 @@ use Rattle.std.proofs.Common.{false, take, arith}
 use Rattle.std.proofs.lemmas.List.{length-map, get_or-map}
 use Rattle.definitions.specs.Products.{product_function}
 use Rattle.unique_table.specs.Plans.{share, products_of}
-use Rattle.unique_table.proofs.Following.{follows_trans}
+use Rattle.unique_table.proofs.SessionsGoOn.{follows_trans}
 use Rattle.dd_builder.proofs.SessionSteps.{stays, means_same, means_at}
-use Rattle.dd_builder.proofs.Restricted.{constant_means}
+use Rattle.dd_builder.proofs.RestrictedNodes.{constant_means}
 use Rattle.dd_builder.proofs.Shares.{share_start, share_next, none}
 use Rattle.dd_builder.proofs.cover_terms.output_share.Goals as goal
 

@@ -1,5 +1,5 @@
 use Rattle.std.proofs.Common.{arith}
-use Rattle.unique_table.proofs.Following.{follows_trans}
+use Rattle.unique_table.proofs.SessionsGoOn.{follows_trans}
 use Rattle.dd_builder.proofs.SessionSteps.{stays}
 use Rattle.dd_builder.proofs.Literals.{literals_from, literals_none, literals_more, term_means}
 use Rattle.dd_builder.proofs.cover_terms.term_id.Goals as goal

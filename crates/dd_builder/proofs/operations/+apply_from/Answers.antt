@@ -1,6 +1,6 @@
 use Rattle.std.proofs.Common.{◌+◌, ◌-◌, ◌<◌, ◌≤◌, ◌∙◌, arith}
-use Rattle.unique_table.proofs.Following.{follows_trans, known_below_follows}
-use Rattle.dd_builder.proofs.Combining.{settled_combined, from_follows, below_from, combined_follows, combined_below, low_combined, high_combined, made_combined}
+use Rattle.unique_table.proofs.SessionsGoOn.{follows_trans, known_below_follows}
+use Rattle.dd_builder.proofs.LevelOperations.{settled_combined, from_follows, below_from, combined_follows, combined_below, low_combined, high_combined, made_combined}
 use Rattle.dd_builder.proofs.operations.+apply_from.Goals as goal
 
 pub returns-in-Some-clause-combined : goal.returns-in-Some-clause-combined

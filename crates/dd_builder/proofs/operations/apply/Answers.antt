@@ -2,7 +2,7 @@ use Rattle.std.proofs.Common.{arith}
 use Rattle.unique_table.specs.Sessions.{Means, combined_in}
 use Rattle.dd_builder.specs.Operating.{AreCombined}
 use Rattle.dd_builder.proofs.SessionSteps.{ok_same}
-use Rattle.dd_builder.proofs.Combining.{combined_no_higher}
+use Rattle.dd_builder.proofs.LevelOperations.{combined_no_higher}
 use Rattle.dd_builder.proofs.operations.apply.Goals as goal
 
 pub returns-clause-level : goal.returns-clause-level

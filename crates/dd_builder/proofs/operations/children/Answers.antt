@@ -1,7 +1,7 @@
 use Rattle.std.proofs.Common.{ap, refl, arith}
 use Rattle.unique_table.specs.Plans.{levels_of}
 use Rattle.unique_table.specs.Sessions.{StoreId}
-use Rattle.dd_builder.proofs.Combining.{same_cut}
+use Rattle.dd_builder.proofs.LevelOperations.{same_cut}
 use Rattle.dd_builder.proofs.SessionSteps.{terminal_depth}
 use Rattle.dd_builder.proofs.operations.children.Goals as goal
 

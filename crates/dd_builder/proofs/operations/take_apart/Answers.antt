@@ -1,6 +1,6 @@
 use Rattle.std.proofs.Common.{arith}
-use Rattle.unique_table.proofs.Following.{follows_trans}
-use Rattle.dd_builder.proofs.Combining.{cut_follows}
+use Rattle.unique_table.proofs.SessionsGoOn.{follows_trans}
+use Rattle.dd_builder.proofs.LevelOperations.{cut_follows}
 use Rattle.dd_builder.proofs.operations.take_apart.Goals as goal
 
 pub returns-clause-follows : goal.returns-clause-follows

@@ -1,4 +1,4 @@
-use Rattle.unique_table.proofs.Following.{follows_trans}
+use Rattle.unique_table.proofs.SessionsGoOn.{follows_trans}
 use Rattle.dd_builder.proofs.operations.top_level.Goals as goal
 
 pub returns-clause-follows : goal.returns-clause-follows

@@ -2,11 +2,11 @@ use Rattle.std.proofs.Common.{◌+◌, ◌-◌, ◌^◌, ◌<◌, length, take, 
 use Rattle.std.proofs.lemmas.List.{length-take}
 use Rattle.unique_table.specs.Plans.{order_of, output_at, fixed, top_variables}
 use Rattle.unique_table.specs.Sessions.{Means}
-use Rattle.unique_table.proofs.Following.{follows_trans}
+use Rattle.unique_table.proofs.SessionsGoOn.{follows_trans}
 use Rattle.dd_builder.proofs.SessionSteps.{makes_node}
 use Rattle.dd_builder.proofs.Ends.{parts_follow}
 use Rattle.dd_builder.proofs.SubfunctionNodes.{keeps_step, keeps_node}
-use Rattle.dd_builder.proofs.Restricted.{restriction_at, restricted_node, path_up, path_small}
+use Rattle.dd_builder.proofs.RestrictedNodes.{restriction_at, restricted_node, path_up, path_small}
 use Rattle.dd_builder.proofs.roots.+of_restrictions.Goals as goal
 
 pub returns-then-level-top_variables-clause-made : goal.returns-then-level-top_variables-clause-made

@@ -1,5 +1,5 @@
 use Rattle.std.proofs.Common.{◌≡◌, ◌+◌, ◌-◌, ◌/◌, arith}
-use Rattle.unique_table.proofs.Following.{follows_trans}
+use Rattle.unique_table.proofs.SessionsGoOn.{follows_trans}
 use Rattle.dd_builder.proofs.SessionSteps.{makes_same}
 use Rattle.dd_builder.proofs.Ends.{parts_follow}
 use Rattle.dd_builder.proofs.Unions.{part_union, halves_union}

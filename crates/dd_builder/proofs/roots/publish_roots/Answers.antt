@@ -1,5 +1,5 @@
 use Rattle.std.proofs.Common.{arith}
-use Rattle.unique_table.proofs.Following.{follows_trans}
+use Rattle.unique_table.proofs.SessionsGoOn.{follows_trans}
 use Rattle.dd_builder.proofs.Ends.{parts_follow, root_more}
 use Rattle.dd_builder.proofs.SubfunctionNodes.{kept_on, kept_step}
 use Rattle.dd_builder.proofs.Unions.{root_piece}

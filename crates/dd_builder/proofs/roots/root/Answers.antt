@@ -2,7 +2,7 @@ use Rattle.std.proofs.Common.{subst}
 use Rattle.unique_table.specs.Plans.{order_of, output_at}
 use Rattle.unique_table.specs.Sessions.{Means}
 use Rattle.dd_builder.proofs.SessionSteps.{stays, makes_same}
-use Rattle.dd_builder.proofs.Restricted.{none_fixed}
+use Rattle.dd_builder.proofs.RestrictedNodes.{none_fixed}
 use Rattle.dd_builder.proofs.roots.root.Goals as goal
 
 pub returns-in-Tables-clause-made : goal.returns-in-Tables-clause-made

@@ -3,12 +3,12 @@ use Rattle.definitions.specs.Orders.{IsOrder}
 use Rattle.definitions.specs.Problems.{TruthTables, outputs_of}
 use Rattle.unique_table.specs.Plans.{order_of, levels_of, output_at, fixed}
 use Rattle.unique_table.specs.Sessions.{StoreId, Means}
-use Rattle.unique_table.proofs.Following.{follows_trans}
+use Rattle.unique_table.proofs.SessionsGoOn.{follows_trans}
 use Rattle.dd_builder.specs.Paths.{IsPointAbove}
 use Rattle.dd_builder.proofs.Pathways.{point_whole, point_low, point_high}
 use Rattle.dd_builder.proofs.SessionSteps.{stays, makes_node}
 use Rattle.dd_builder.proofs.SubfunctionNodes.{keeps_node}
-use Rattle.dd_builder.proofs.Restricted.{output_leaf, restricted_node, path_up, path_small}
+use Rattle.dd_builder.proofs.RestrictedNodes.{output_leaf, restricted_node, path_up, path_small}
 use Rattle.dd_builder.proofs.tables.+output_below.Goals as goal
 
 pub returns-then-from-order-clause-made : goal.returns-then-from-order-clause-made

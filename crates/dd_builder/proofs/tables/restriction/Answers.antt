@@ -4,7 +4,7 @@ use Rattle.unique_table.specs.Plans.{order_of}
 use Rattle.dd_builder.specs.Paths.{IsPointOf}
 use Rattle.dd_builder.proofs.Pathways.{point_above}
 use Rattle.dd_builder.proofs.SessionSteps.{stays, makes_same}
-use Rattle.dd_builder.proofs.Restricted.{restriction_piece}
+use Rattle.dd_builder.proofs.RestrictedNodes.{restriction_piece}
 use Rattle.dd_builder.proofs.tables.restriction.Goals as goal
 
 pub returns-clause-made : goal.returns-clause-made

@@ -1,6 +1,6 @@
 use Rattle.std.proofs.Common.{◌%◌, ap, ◌∙◌, sym, subst, arith}
 use Rattle.unique_table.specs.Sessions.{Knowledge}
-use Rattle.unique_table.proofs.Following.{follows_trans}
+use Rattle.unique_table.proofs.SessionsGoOn.{follows_trans}
 use Rattle.dd_builder.specs.Parts.{HasPart, Continues}
 use Rattle.dd_builder.proofs.Ends.{part_made, share_more, share_other}
 use Rattle.dd_builder.proofs.SubfunctionNodes.{kept_on, kept_step, continues_on}

@@ -1,7 +1,7 @@
 use Rattle.std.proofs.Common.{◌≡◌, ◌+◌, ◌-◌, ◌<◌, ◌≤◌, ap, sym, ◌∙◌, subst, arith}
 use Rattle.unique_table.specs.Sessions.{Knowledge}
 use Rattle.dd_builder.specs.Parts.{AreJobsOf, HasHalf}
-use Rattle.dd_builder.proofs.Halves.{half_first, halvings_first, halvings_last, jobs_more, halves_more}
+use Rattle.dd_builder.proofs.SharedStakes.{half_first, halvings_first, halvings_last, jobs_more, halves_more}
 use Rattle.dd_builder.proofs.workers.jobs.Goals as goal
 
 pub loop-worker-preserved : goal.loop-worker-preserved

@@ -1,7 +1,7 @@
 use Rattle.std.proofs.Common.{◌≡◌, ◌+◌, ◌<◌, length, vec_len, ◌∙◌, sym, subst, arith}
 use Rattle.dd_builder.specs.Parts.{IsEndOf, IsShareOf, halvings_for}
 use Rattle.dd_builder.proofs.Ends.{ends_last, ends_front}
-use Rattle.dd_builder.proofs.Halves.{opened_store, found_first, found_joined, shares_front, share_last, share_joined, halvings_first, halvings_last}
+use Rattle.dd_builder.proofs.SharedStakes.{opened_store, found_first, found_joined, shares_front, share_last, share_joined, halvings_first, halvings_last}
 use Rattle.dd_builder.proofs.workers.join_all.Goals as goal
 
 pub loop-next-init : goal.loop-next-init

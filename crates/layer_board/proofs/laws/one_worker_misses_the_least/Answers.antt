@@ -1,4 +1,4 @@
-use Rattle.layer_board.proofs.Closing.{one_misses}
+use Rattle.layer_board.proofs.ClosedBoards.{one_misses}
 use Rattle.layer_board.proofs.laws.one_worker_misses_the_least.Goals as goal
 
 pub returns : goal.returns

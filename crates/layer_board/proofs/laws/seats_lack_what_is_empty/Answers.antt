@@ -1,4 +1,4 @@
-use Rattle.layer_board.proofs.Closing.{lacking}
+use Rattle.layer_board.proofs.ClosedBoards.{lacking}
 use Rattle.layer_board.proofs.laws.seats_lack_what_is_empty.Goals as goal
 
 pub returns : goal.returns

@@ -8,7 +8,7 @@ use Rattle.order_solve.specs.LayerContexts.{ContextOf}
 use Rattle.solutions.specs.LayerCosts.{AreCells}
 use Rattle.solutions.specs.Placed.{IsPlaced, StayPlaced, AreCellsPlaced}
 use Rattle.solutions.proofs.BlockPlaces.{block_layer}
-use Rattle.solutions.proofs.Placing.{few_block, blocks_more, written_back, all_placed}
+use Rattle.solutions.proofs.CellPlaces.{few_block, blocks_more, written_back, all_placed}
 use Rattle.order_solve.proofs.alone.cells_alone.Goals as goal
 
 pub cells_of_block-requires-clause-layer : goal.cells_of_block-requires-clause-layer

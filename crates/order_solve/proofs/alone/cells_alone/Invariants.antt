@@ -6,6 +6,7 @@ use Rattle.order_solve.proofs.alone.cells_alone.Given as goal
 abbrev pub invariant-loop-place : goal.invariant-loop-place
 invariant-loop-place l = record {
   length_is : length l.cells.items ≡ length (masks_of l.context.layer);
-  placed : (p : ℕ) → p < length (masks_of l.context.layer) → block_place l.context.layer p < l.place → IsPlaced l.context.instance l.context.layer l.cells.items p;
+  placed : (p : ℕ) → p < length (masks_of l.context.layer) → block_place l.context.layer p < l.place →
+      IsPlaced l.context.instance l.context.layer l.cells.items p;
   found : l.found.problem ≡ l.context.instance.problem;
 }

@@ -1,6 +1,6 @@
 use Rattle.std.proofs.Common.{sym, ap, ◌∙◌, arith}
 use Rattle.layer_core.proofs.Layouts.{length-map_lem}
-use Rattle.solutions.proofs.Wanted.{needed_sum}
+use Rattle.solutions.proofs.WantedMembers.{needed_sum}
 use Rattle.order_solve.specs.LayerContexts.{ContextOf}
 use Rattle.order_solve.proofs.Blocks.{are_members, own_layer}
 use Rattle.order_solve.proofs.cells.cells_of_block.Goals as goal

@@ -3,7 +3,7 @@ use Rattle.std.proofs.lemmas.Option.{slice_get_read}
 use Rattle.subset_layers.specs.Layers.{layer_with, masks_of}
 use Rattle.layer_core.specs.Instances.{cell_for}
 use Rattle.order_solve.specs.LayerContexts.{ContextOf}
-use Rattle.solutions.proofs.Placing.{layer_is}
+use Rattle.solutions.proofs.CellPlaces.{layer_is}
 use Rattle.order_solve.proofs.layering.next_layer.Goals as goal
 
 pub new-requires : goal.new-requires

@@ -8,7 +8,7 @@ use Rattle.order_solve.specs.LayerContexts.{ContextOf}
 use Rattle.order_solve.specs.Gains.{IsPosted}
 use Rattle.order_solve.proofs.Posts.{no_more_stays}
 use Rattle.solutions.proofs.BlockPlaces.{block_layer}
-use Rattle.order_solve.proofs.Claimed.{few_gained}
+use Rattle.order_solve.proofs.ClaimedSets.{few_gained}
 use Rattle.order_solve.proofs.Rounds.{Working, working_none, working_stays, working_round, round_gains, claims_at, round_closes, few_room, few_round}
 use Rattle.order_solve.proofs.working.work_layer.Goals as goal
 

@@ -1,7 +1,7 @@
 use Rattle.std.proofs.Common.{◌≡◌, false, []}
 use Rattle.compaction.specs.Ahead.{widths_ahead}
 use Rattle.order_solve.proofs.Rounds.{Working, IsFewAhead}
-use Rattle.order_solve.proofs.Claimed.{open_marks}
+use Rattle.order_solve.proofs.ClaimedSets.{open_marks}
 use Rattle.order_solve.proofs.working.work_layer.Given as goal
 
 abbrev pub invariant-loop-claim : goal.invariant-loop-claim

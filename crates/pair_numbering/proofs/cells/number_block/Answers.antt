@@ -80,7 +80,8 @@ loop-i-preserved c =
           let number : c.loop-i.count + 1 - 1 ≡ c.loop-i.count = omega arith in
           record {
             fronted = rw (e, v.cells-is, v.joined-is, v.count-is, next, number)
-                (fronted_new c.rank.ensures.table c.loop-i.invariant.fronted w is v.join_mask.result v.join_mask.ensures (sym c.from-next.ensures ∙ v.if-next-eq0.true));
+                (fronted_new c.rank.ensures.table c.loop-i.invariant.fronted w is v.join_mask.result v.join_mask.ensures
+                (sym c.from-next.ensures ∙ v.if-next-eq0.true));
             few = omega (arith, v.count-is, c.loop-i.invariant.few);
           }
       | else-next-eq0 v ↦ record {

@@ -78,7 +78,8 @@ loop-i-preserved c =
       | then-next-eq0 v ↦ elim c.if-next-eq0-2.branch [
         | then-next-eq0-2 u ↦ record {
           fronted = rw (e, v.number-is, u.count-is)
-              (fronted_new c.rank.ensures.table c.loop-i.invariant.fronted w is c.join_mask.result c.join_mask.ensures (sym c.from-next.ensures ∙ v.if-next-eq0.true));
+              (fronted_new c.rank.ensures.table c.loop-i.invariant.fronted w is c.join_mask.result c.join_mask.ensures
+              (sym c.from-next.ensures ∙ v.if-next-eq0.true));
           few = omega (arith, u.count-is, c.loop-i.invariant.few);
         }
         | else-next-eq0-2 u ↦ absurd (u.if-next-eq0-2.false v.if-next-eq0.true)

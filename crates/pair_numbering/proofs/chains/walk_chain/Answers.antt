@@ -6,7 +6,7 @@ use Rattle.subfunction_classes.specs.Places as places
 use Rattle.pair_numbering.specs.Chains.{IsNext, lower_at, upper_at}
 use Rattle.subfunction_classes.proofs.Index.{pair_within}
 use Rattle.pair_numbering.proofs.InBlocks.{pair_inside}
-use Rattle.pair_numbering.proofs.Chained.{Walk, walk_again, walk_new}
+use Rattle.pair_numbering.proofs.PairChains.{Walk, walk_again, walk_new}
 use Rattle.pair_numbering.proofs.chains.walk_chain.Goals as goal
 use Rattle.pair_numbering.proofs.chains.walk_chain.Goals.{then-stamps-upper, else-stamps-upper}
 

@@ -1,6 +1,6 @@
 use Rattle.std.proofs.Common.{◌≡◌, ◌≢◌, ℕ, ◌-◌, ◌/◌, ◌^◌, get_or, length}
 use Rattle.pair_numbering.specs.Chains.{lower_at}
-use Rattle.pair_numbering.proofs.Chained.{Walk}
+use Rattle.pair_numbering.proofs.PairChains.{Walk}
 use Rattle.pair_numbering.proofs.chains.walk_chain.Given as goal
 
 abbrev pub invariant-loop-j : goal.invariant-loop-j

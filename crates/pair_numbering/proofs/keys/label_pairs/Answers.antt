@@ -12,5 +12,6 @@ returns-clause-tells c = grind (arith, names_numbered, length-pairs)
 
 pub returns-clause-used : goal.returns-clause-used
 returns-clause-used c =
-    λ e. ranks_used c.args.pairs.now.masks.now c.args.pairs.now.x (places.pairs c.args.pairs.now.entries.numbers (2 ^ c.args.pairs.now.entries.rank)) c.in_ok-numbered.numbered.numbers.items
-    c.in_ok-numbered.numbered.masks.items c.in_ok-numbered.ensures
+    λ e. ranks_used c.args.pairs.now.masks.now c.args.pairs.now.x
+    (places.pairs c.args.pairs.now.entries.numbers (2 ^ c.args.pairs.now.entries.rank))
+    c.in_ok-numbered.numbered.numbers.items c.in_ok-numbered.numbered.masks.items c.in_ok-numbered.ensures

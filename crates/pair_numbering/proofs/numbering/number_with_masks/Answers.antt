@@ -9,7 +9,8 @@ pub join_masks-requires-clause-classes : goal.join_masks-requires-clause-classes
 join_masks-requires-clause-classes c =
     let n = c.in_ok-numbered-2.ensures in
     subst (λ us. ArePairsBelow us (length c.args.pairs.now.masks.now)) (sym c.deref.ensures.value)
-    (met_classes c.args.pairs.now.entries.numbers c.args.pairs.now.entries.rank (length c.args.pairs.now.masks.now) c.rank.ensures.table.paired.whole c.rank.ensures.table.below
+    (met_classes c.args.pairs.now.entries.numbers c.args.pairs.now.entries.rank (length c.args.pairs.now.masks.now)
+    c.rank.ensures.table.paired.whole c.rank.ensures.table.below
     c.in_ok-numbered-2.numbered.numbers.items c.in_ok-numbered-2.numbered.pairs.items n.numbered_are n.many n.labels)
 
 pub returns : goal.returns

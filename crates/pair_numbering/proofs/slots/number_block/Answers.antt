@@ -58,8 +58,8 @@ pub bounds-pairs-pair : goal.bounds-pairs-pair
 bounds-pairs-pair c =
     let w = in_step c.rank.ensures.paired c.rank.ensures.rank c.requires.block c.loop-i-test.true in
     let e = ap (λ (p : ℕ × ℕ). p.0) (c.block.ensures.pairs c.loop-i.i w.early) in
-    let s = listed_classes c.args.pairs.now.entries.now.numbers c.args.pairs.now.entries.now.rank (length c.args.pairs.now.counts.now) _ c.rank.ensures.paired.whole
-    c.args.pairs.now.classes (listed_inside c.rank.ensures.paired w) in
+    let s = listed_classes c.args.pairs.now.entries.now.numbers c.args.pairs.now.entries.now.rank (length c.args.pairs.now.counts.now) _
+    c.rank.ensures.paired.whole c.args.pairs.now.classes (listed_inside c.rank.ensures.paired w) in
     let below = s.0 in
     omega arith
 

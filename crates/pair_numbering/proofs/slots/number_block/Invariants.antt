@@ -5,5 +5,6 @@ use Rattle.pair_numbering.proofs.slots.number_block.Given as goal
 
 abbrev pub invariant-loop-i : goal.invariant-loop-i
 invariant-loop-i l =
-    Slotted (places.pairs l.pairs.entries.now.numbers (2 ^ l.pairs.entries.now.rank)) (home_of (4 * (length l.pairs.entries.now.numbers / 2))) l.pairs.counts.now l.slots l.keys l.out l.count
+    Slotted (places.pairs l.pairs.entries.now.numbers (2 ^ l.pairs.entries.now.rank))
+    (home_of (4 * (length l.pairs.entries.now.numbers / 2))) l.pairs.counts.now l.slots l.keys l.out l.count
     (l.block * 2 ^ l.pairs.entries.now.rank + l.i)

@@ -1,7 +1,7 @@
 use Rattle.std.proofs.Common.{◌-◌, ◌∙◌}
 use Rattle.reached_nodes.specs.Copies.{words_in}
-use Rattle.reached_nodes.proofs.Copying.{copies_step}
-use Rattle.reached_nodes.proofs.Paging.{read_as}
+use Rattle.reached_nodes.proofs.NodeCopies.{copies_step}
+use Rattle.reached_nodes.proofs.PageNumbers.{read_as}
 use Rattle.reached_nodes.proofs.copies.+copy.Goals as goal
 
 pub returns-clause-copies : goal.returns-clause-copies

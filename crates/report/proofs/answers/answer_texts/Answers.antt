@@ -4,7 +4,7 @@ use Rattle.definitions.specs.Problems.{functions}
 use Rattle.report_texts.specs.Answers.{IsCertifiedBy}
 use Rattle.report_texts.specs.Texts.{file_order_levels}
 use Rattle.report_texts.proofs.Certified.{certified_if_asked}
-use Rattle.report_texts.proofs.Reported.{reported}
+use Rattle.report_texts.proofs.ReportParts.{reported}
 use Rattle.report.proofs.answers.answer_texts.Goals as goal
 
 pub returns-clause-report : goal.returns-clause-report

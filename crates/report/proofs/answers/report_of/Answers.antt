@@ -4,7 +4,7 @@ use Rattle.definitions.specs.Levels.{level_count, level_counts}
 use Rattle.definitions.specs.Orders.{IsOrder}
 use Rattle.definitions.specs.Problems.{functions}
 use Rattle.definitions.proofs.Lists.Accepted.{member_at}
-use Rattle.report.proofs.Leveled.{one_length}
+use Rattle.report.proofs.LevelCounts.{one_length}
 use Rattle.report.proofs.answers.report_of.Goals as goal
 
 pub report_text-requires-clause-order : goal.report_text-requires-clause-order

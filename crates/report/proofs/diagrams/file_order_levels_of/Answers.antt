@@ -4,7 +4,7 @@ use Rattle.std.proofs.lemmas.Slice.Eq.{slice_eq-Decides}
 use Rattle.definitions.specs.Levels.{level_counts}
 use Rattle.definitions.specs.Orders.{variables}
 use Rattle.pla_reader.specs.Covers.{functions_of}
-use Rattle.report.proofs.Leveled.{counts_read}
+use Rattle.report.proofs.LevelCounts.{counts_read}
 use Rattle.definitions.specs.Orders.{IsOrder}
 use Rattle.definitions.proofs.Lists.Accepted.{order_variables}
 use Rattle.report.proofs.diagrams.file_order_levels_of.Goals as goal

@@ -1,7 +1,7 @@
 use Rattle.std.proofs.Common.{◌≡◌, rules}
 use Rattle.command_line.specs.Lines.{texts}
 use Rattle.outcomes.specs.declared.outcome.Outcome.TheVariants.{Refused}
-use Rattle.report_texts.proofs.Worded.{ends, ends_done, not_faulty}
+use Rattle.report_texts.proofs.RunWords.{ends, ends_done, not_faulty}
 use Rattle.report.proofs.program.minorder.Goals as goal
 use Rattle.report.proofs.program.minorder.Goals.{in-Some, in_default}
 

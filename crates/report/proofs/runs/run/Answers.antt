@@ -1,10 +1,10 @@
 use Rattle.std.proofs.Common.{option_map, string_bytes, rules}
 use Rattle.pla_reader.specs.Covers.{IsCover, NamedCover}
 use Rattle.pla_reader.specs.Reading.{Reads}
-use Rattle.outcomes.proofs.Failed.{first_stays}
+use Rattle.outcomes.proofs.FailedCalls.{first_stays}
 use Rattle.outcomes.proofs.Known.{with_known, with_read}
 use Rattle.report_texts.specs.Runs.{Delivers, held}
-use Rattle.report_texts.proofs.Sent.{delivers, good, hindered, optimum, tells}
+use Rattle.report_texts.proofs.SentTexts.{delivers, good, hindered, optimum, tells}
 use Rattle.report.proofs.runs.run.Goals as goal
 
 pub returns : goal.returns

@@ -2,7 +2,7 @@ use Rattle.std.proofs.Common.{sym, ap, ◌∙◌, subst, arith}
 use Rattle.definitions.specs.KeptPairs.{KeptPairs}
 use Rattle.definitions.specs.Pairs.{IsFirstOrder}
 use Rattle.pla_reader.specs.Covers.{functions_of}
-use Rattle.report.proofs.Leveled.{functions_long}
+use Rattle.report.proofs.LevelCounts.{functions_long}
 use Rattle.truth_table.proofs.OfCovers.{tables_value}
 use Rattle.report.proofs.search.manager_of.Goals as goal
 

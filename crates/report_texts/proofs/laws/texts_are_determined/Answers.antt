@@ -1,4 +1,4 @@
-use Rattle.report_texts.proofs.Determined.{text_unique, certificate_unique, printed_unique, certified_unique}
+use Rattle.report_texts.proofs.OneAnswer.{text_unique, certificate_unique, printed_unique, certified_unique}
 use Rattle.report_texts.proofs.laws.texts_are_determined.Goals as goal
 
 pub returns : goal.returns

@@ -1,5 +1,5 @@
 use Rattle.std.proofs.Common.{◌++◌, ap, ◌∙◌, codes, decimal, string_bytes}
-use Rattle.report_texts.proofs.Spaced.{counts_pushed}
+use Rattle.report_texts.proofs.SpacedTexts.{counts_pushed}
 use Rattle.report_texts.proofs.texts.push_counts.Goals as goal
 
 pub returns : goal.returns

@@ -1,5 +1,5 @@
 use Rattle.std.proofs.Common.{map, string_bytes}
-use Rattle.report_texts.proofs.Spaced.{names_pushed}
+use Rattle.report_texts.proofs.SpacedTexts.{names_pushed}
 use Rattle.report_texts.proofs.texts.push_names.Goals as goal
 
 pub returns : goal.returns

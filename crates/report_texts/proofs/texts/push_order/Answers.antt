@@ -1,5 +1,5 @@
 use Rattle.std.proofs.Common.{map, string_bytes}
-use Rattle.report_texts.proofs.Spaced.{order_pushed}
+use Rattle.report_texts.proofs.SpacedTexts.{order_pushed}
 use Rattle.report_texts.proofs.texts.push_order.Goals as goal
 
 pub returns : goal.returns

@@ -1,4 +1,4 @@
-use Rattle.report_texts.proofs.Spaced.{sizes_pushed}
+use Rattle.report_texts.proofs.SpacedTexts.{sizes_pushed}
 use Rattle.report_texts.proofs.texts.push_sizes.Goals as goal
 
 pub returns : goal.returns

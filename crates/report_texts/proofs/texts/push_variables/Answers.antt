@@ -1,4 +1,4 @@
-use Rattle.report_texts.proofs.Spaced.{pushed}
+use Rattle.report_texts.proofs.SpacedTexts.{pushed}
 use Rattle.report_texts.proofs.texts.push_variables.Goals as goal
 
 pub returns : goal.returns

@@ -1,4 +1,4 @@
-use Rattle.round_trip.proofs.Accepted.{accepted}
+use Rattle.round_trip.proofs.AcceptedTexts.{accepted}
 use Rattle.round_trip.proofs.laws.written_certificates_are_accepted.Goals as goal
 
 pub returns : goal.returns

@@ -1,4 +1,4 @@
-use Rattle.sifting.proofs.Cutting.{split_terminal, split_then, split_else}
+use Rattle.sifting.proofs.SplitCuts.{split_terminal, split_then, split_else}
 use Rattle.sifting.proofs.build.halves.Goals as goal
 
 pub returns-in-Terminal : goal.returns-in-Terminal

@@ -2,8 +2,8 @@ use Rattle.std.proofs.Common.{◌≡◌, ◌+◌, ◌++◌, ◌∷◌, [], lengt
 use Rattle.definitions.specs.declared.refs.Ref.TheVariants.{Terminal}
 use Rattle.sifting.specs.LevelLists.{nodes_of}
 use Rattle.sifting.specs.Cuts.{is_true, Splits, IsBuilt}
-use Rattle.sifting.proofs.Cutting.{ref_default}
-use Rattle.sifting.proofs.Built.{Built, built_none, built_more, built_all, nodes_more}
+use Rattle.sifting.proofs.SplitCuts.{ref_default}
+use Rattle.sifting.proofs.BuiltLevels.{Built, built_none, built_more, built_all, nodes_more}
 use Rattle.sifting.proofs.build.levels_of.Goals as goal
 
 pub loop-x-init : goal.loop-x-init

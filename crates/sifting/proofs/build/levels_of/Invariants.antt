@@ -1,5 +1,5 @@
 use Rattle.sifting.specs.LevelLists.{nodes_of}
-use Rattle.sifting.proofs.Built.{Built}
+use Rattle.sifting.proofs.BuiltLevels.{Built}
 use Rattle.sifting.proofs.build.levels_of.Given as goal
 
 abbrev pub invariant-loop-x : goal.invariant-loop-x

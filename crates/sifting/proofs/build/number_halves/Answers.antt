@@ -4,8 +4,8 @@ use Rattle.definitions.specs.declared.refs.Ref.TheVariants.{Terminal}
 use Rattle.definitions.specs.Diagrams.{IsBefore}
 use Rattle.definitions.proofs.Nodes.Paths.{before_more}
 use Rattle.sifting.specs.Cuts.{code_of, split_ref, ref_at}
-use Rattle.sifting.proofs.Making.{numbers_step}
-use Rattle.sifting.proofs.Cutting.{half, split_before}
+use Rattle.sifting.proofs.LevelNodes.{numbers_step}
+use Rattle.sifting.proofs.SplitCuts.{half, split_before}
 use Rattle.definitions.proofs.Lists.Sets.{nat_decides}
 use Rattle.sifting.proofs.build.number_halves.Goals as goal
 

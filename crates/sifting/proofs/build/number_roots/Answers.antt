@@ -1,5 +1,5 @@
 use Rattle.std.proofs.Common.{arith}
-use Rattle.sifting.proofs.Rooting.{roots_step}
+use Rattle.sifting.proofs.RootNumbers.{roots_step}
 use Rattle.sifting.proofs.build.number_roots.Goals as goal
 
 pub loop-root-preserved : goal.loop-root-preserved

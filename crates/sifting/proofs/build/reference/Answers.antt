@@ -1,4 +1,4 @@
-use Rattle.sifting.proofs.Cutting.{ref_small, ref_large}
+use Rattle.sifting.proofs.SplitCuts.{ref_small, ref_large}
 use Rattle.sifting.proofs.build.reference.Goals as goal
 
 pub returns-then-code-lt2 : goal.returns-then-code-lt2

@@ -1,6 +1,6 @@
 use Rattle.std.proofs.Common.{◌++◌, ◌∷◌, [], ap₂, ◌∙◌}
 use Rattle.sifting.specs.Cuts.{ref_of}
-use Rattle.sifting.proofs.Cutting.{map_more}
+use Rattle.sifting.proofs.SplitCuts.{map_more}
 use Rattle.sifting.proofs.build.references.Goals as goal
 
 pub loop-code-preserved : goal.loop-code-preserved

@@ -1,6 +1,6 @@
 use Rattle.std.proofs.Common.{arith, ◌∙◌, ap, ◌+◌, sym}
 use Rattle.std.proofs.lemmas.List.{length-take}
-use Rattle.sifting.proofs.Branching.{branching_none, branching_more_yes, branching_more_no, branching_few, branching_all}
+use Rattle.sifting.proofs.BranchingNodes.{branching_none, branching_more_yes, branching_more_no, branching_few, branching_all}
 use Rattle.sifting.proofs.levels.count_of.Goals as goal
 use Rattle.sifting.proofs.levels.count_of.Goals.{then-low-high, else-low-high}
 

@@ -1,7 +1,7 @@
 use Rattle.std.proofs.Common.{◌≡◌, ◌+◌, arith, subst, refl, sym, length, false, true}
 use Rattle.sifting.specs.Leveled.{ExchangesFirst, grandchildren}
-use Rattle.sifting.proofs.Branching.{branching_none, branching_counted}
-use Rattle.sifting.proofs.Making.{numbers_none, numbers_more}
+use Rattle.sifting.proofs.BranchingNodes.{branching_none, branching_counted}
+use Rattle.sifting.proofs.LevelNodes.{numbers_none, numbers_more}
 use Rattle.sifting.proofs.levels.swap_levels.Goals as goal
 
 pub loop-off-init : goal.loop-off-init

@@ -8,7 +8,7 @@ use Rattle.definitions.specs.KeptPairs.{KeptPairs}
 use Rattle.definitions.specs.BoundsAbove.{BoundsAboveOf}
 use Rattle.definitions.specs.Cells.{AreForCell, cell_of}
 use Rattle.definitions.specs.declared.limits.Limit.{Limit}
-use Rattle.subfunction_classes.proofs.Counted.{width_is_dependent_classes}
+use Rattle.subfunction_classes.proofs.CountedWidths.{width_is_dependent_classes}
 use Rattle.subset_layers.specs.Costs.{as_pair}
 use Rattle.subset_layers.proofs.CostLists.{bit_from_member, member_from_bit}
 use Rattle.solutions.specs.FlatCells.{no_cell}

@@ -4,7 +4,7 @@ use Rattle.definitions.specs.Orders.{members}
 use Rattle.definitions.specs.Problems.{TruthTables, functions}
 use Rattle.subfunction_classes.specs.Dependence.{AreMasks}
 use Rattle.subfunction_classes.specs.Table.{classes_of}
-use Rattle.subfunction_classes.proofs.Extended.{few_masks}
+use Rattle.subfunction_classes.proofs.OneMoreVariable.{few_masks}
 use Rattle.pair_chains.specs.declared.numbering.Numbered.{Numbered}
 use Rattle.small_search.specs.Paths.{HoldPath}
 use Rattle.small_search.proofs.PathSteps.{own_table}

@@ -5,7 +5,7 @@ use Rattle.std.proofs.lemmas.List.{length-set}
 use Rattle.std.proofs.lemmas.Nat.{ones-le, zero_from_ones}
 use Rattle.subfunction_classes.specs.PairTables.{IsPairTable, NumbersPairs}
 use Rattle.subfunction_classes.specs.Places.{pairs}
-use Rattle.subfunction_classes.proofs.Extended.{IsReady, ready_table}
+use Rattle.subfunction_classes.proofs.OneMoreVariable.{IsReady, ready_table}
 use Rattle.pair_chains.specs.declared.numbering.Numbered.{Numbered}
 use Rattle.small_search.proofs.LowestVariables.{lowest}
 use Rattle.small_search.proofs.PathSteps.{parent_ready, path_more}

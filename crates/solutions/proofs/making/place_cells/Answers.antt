@@ -2,7 +2,7 @@ use Rattle.std.proofs.Common.{◌≡◌, ◌+◌, ℕ, List, length, slice_get, 
 use Rattle.std.proofs.lemmas.Option.{slice_get-get_or}
 use Rattle.subset_layers.specs.Layers.{block_masks}
 use Rattle.subset_layers.specs.declared.costs.Cell.{Cell}
-use Rattle.solutions.proofs.Placing.{PlacesFirst, found_cell, places_more, places_skip, places_all}
+use Rattle.solutions.proofs.CellPlaces.{PlacesFirst, found_cell, places_more, places_skip, places_all}
 use Rattle.solutions.proofs.making.place_cells.Goals.{in-Some, in_default}
 use Rattle.solutions.proofs.making.place_cells.Goals as goal
 

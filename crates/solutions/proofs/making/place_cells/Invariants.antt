@@ -2,7 +2,7 @@ use Rattle.std.proofs.Common.{◌≡◌, length}
 use Rattle.subset_layers.specs.Layers.{block_masks}
 use Rattle.layer_core.specs.Instances.{Instance}
 use Rattle.solutions.specs.LayerCosts.{AreCells}
-use Rattle.solutions.proofs.Placing.{PlacesFirst}
+use Rattle.solutions.proofs.CellPlaces.{PlacesFirst}
 use Rattle.solutions.proofs.making.place_cells.Given as goal
 
 abbrev pub invariant-loop-i : goal.invariant-loop-i

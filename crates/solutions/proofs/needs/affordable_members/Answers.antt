@@ -8,7 +8,7 @@ use Rattle.definitions.proofs.Precedence.MaskLaws.{member_from}
 use Rattle.subset_layers.specs.Layers.{masks_of, layer_with}
 use Rattle.subset_layers.specs.Costs.{cost_at, cost_without}
 use Rattle.subset_layers.proofs.CostLists.{less_one}
-use Rattle.solutions.proofs.Wanted.{is_affordable, affordable_is, affordable_yes, affordable_dear, affordable_absent}
+use Rattle.solutions.proofs.WantedMembers.{is_affordable, affordable_is, affordable_yes, affordable_dear, affordable_absent}
 use Rattle.solutions.proofs.needs.affordable_members.Goals.{then-contains+then-cost-bound, then-contains+else-cost-bound, else-contains}
 use Rattle.solutions.proofs.needs.affordable_members.Goals as goal
 

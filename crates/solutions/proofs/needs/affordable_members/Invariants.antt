@@ -1,6 +1,6 @@
 use Rattle.definitions.proofs.Bits.Problems.{MaskOfFirst}
 use Rattle.subset_layers.specs.Costs.{cost_without}
-use Rattle.solutions.proofs.Wanted.{is_affordable}
+use Rattle.solutions.proofs.WantedMembers.{is_affordable}
 use Rattle.solutions.proofs.needs.affordable_members.Given as goal
 
 abbrev pub invariant-loop-x : goal.invariant-loop-x

@@ -3,7 +3,7 @@ use Rattle.definitions.specs.Orders.{mask_of}
 use Rattle.definitions.specs.Cells.{asked}
 use Rattle.definitions.specs.declared.limits.BoundAbove.{BoundAbove}
 use Rattle.definitions.specs.declared.limits.BoundAbove.TheVariants.{Variables, Widths}
-use Rattle.solutions.proofs.Wanted.{asked_variables, asked_none, asked_some}
+use Rattle.solutions.proofs.WantedMembers.{asked_variables, asked_none, asked_some}
 use Rattle.solutions.proofs.needs.asked_members.Goals as goal
 
 -- what is asked for one of two equal ways of counting on nodes

@@ -6,7 +6,7 @@ use Rattle.subset_layers.proofs.BlockLists.{has_masks}
 use Rattle.layer_core.specs.Instances.{Instance}
 use Rattle.solutions.specs.LayerCosts.{AreCostsFor}
 use Rattle.solutions.specs.Needs.{needed}
-use Rattle.solutions.proofs.Wanted.{needed_unlawful}
+use Rattle.solutions.proofs.WantedMembers.{needed_unlawful}
 use Rattle.solutions.proofs.NeedsByCosts.{needed_by_costs}
 use Rattle.solutions.proofs.needs.needed_members.Goals as goal
 

@@ -3,7 +3,7 @@ use Rattle.definitions.specs.Problems.{functions}
 use Rattle.definitions.specs.Cells.{cell_cost}
 use Rattle.layer_core.specs.Instances.{Instance}
 use Rattle.solutions.proofs.ReadOrders.{order_first}
-use Rattle.solutions.proofs.Solved.{total_size, total_small, total_fewest}
+use Rattle.solutions.proofs.FoundOrders.{total_size, total_small, total_fewest}
 use Rattle.solutions.proofs.optima.optimum_of.Goals as goal
 
 -- the total is the cost of the set of all variables

@@ -1,5 +1,5 @@
 use Rattle.std.proofs.Common.{◌∙◌}
-use Rattle.solutions.proofs.Solved.{cells_listed}
+use Rattle.solutions.proofs.FoundOrders.{cells_listed}
 use Rattle.solutions.proofs.optima.solution_of.Goals as goal
 
 pub returns-clause-solution : goal.returns-clause-solution

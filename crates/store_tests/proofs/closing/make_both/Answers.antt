@@ -1,7 +1,7 @@
 use Rattle.std.proofs.Common.{◌∙◌, rules}
 use Rattle.unique_table.specs.Plans.{output_at}
 use Rattle.unique_table.specs.Sessions.{IsNodeOf}
-use Rattle.unique_table.proofs.Following.{follows_trans}
+use Rattle.unique_table.proofs.SessionsGoOn.{follows_trans}
 use Rattle.store_tests.proofs.TwoFunctions.{second_bit, second_means, conjunction_means, disjunction_means}
 use Rattle.store_tests.proofs.closing.make_both.Goals as goal
 

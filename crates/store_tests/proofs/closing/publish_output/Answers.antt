@@ -2,7 +2,7 @@ use Rattle.std.proofs.Common.{◌+◌, sym, ◌∙◌, subst}
 use Rattle.definitions.specs.Functions.{Function}
 use Rattle.unique_table.specs.Plans.{output_at, piece_function}
 use Rattle.unique_table.specs.Sessions.{Means}
-use Rattle.unique_table.proofs.Following.{follows_trans}
+use Rattle.unique_table.proofs.SessionsGoOn.{follows_trans}
 use Rattle.unique_table.proofs.Roots.{root_function}
 use Rattle.store_tests.proofs.closing.publish_output.Goals as goal
 

@@ -1,5 +1,5 @@
 use Rattle.std.proofs.Common.{arith}
-use Rattle.unique_table.proofs.Following.{known_below_follows}
+use Rattle.unique_table.proofs.SessionsGoOn.{known_below_follows}
 use Rattle.store_tests.proofs.filling.ask.Goals as goal
 
 pub make-one-requires-clause-low : goal.make-one-requires-clause-low

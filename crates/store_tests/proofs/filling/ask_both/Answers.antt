@@ -1,7 +1,7 @@
 use Rattle.std.proofs.Common.{rules, ◌≡◌, ℕ, List, sym, subst}
 use Rattle.std.specs.List.{All}
 use Rattle.unique_table.specs.Sessions.{IsKnownBelow}
-use Rattle.unique_table.proofs.Following.{all_below}
+use Rattle.unique_table.proofs.SessionsGoOn.{all_below}
 use Rattle.store_tests.proofs.filling.ask_both.Goals as goal
 
 pub ask-requires-clause-below : goal.ask-requires-clause-below

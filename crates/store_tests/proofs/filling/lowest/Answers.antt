@@ -1,6 +1,6 @@
 use Rattle.std.proofs.Common.{◌≡◌, ◌+◌, ◌-◌, ℕ, subst, arith}
 use Rattle.std.specs.List.{All}
-use Rattle.unique_table.proofs.Following.{IsFrom, follows_trans}
+use Rattle.unique_table.proofs.SessionsGoOn.{IsFrom, follows_trans}
 use Rattle.store_tests.proofs.filling.lowest.Goals as goal
 
 pub loop-step-preserved : goal.loop-step-preserved

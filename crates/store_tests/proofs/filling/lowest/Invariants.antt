@@ -1,7 +1,7 @@
 use Rattle.std.proofs.Common.{◌-◌}
 use Rattle.std.specs.List.{All}
 use Rattle.unique_table.specs.Sessions.{Follows}
-use Rattle.unique_table.proofs.Following.{IsFrom}
+use Rattle.unique_table.proofs.SessionsGoOn.{IsFrom}
 use Rattle.store_tests.proofs.filling.lowest.Given as goal
 
 abbrev pub invariant-loop-step : goal.invariant-loop-step

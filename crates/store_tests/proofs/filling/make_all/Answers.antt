@@ -1,4 +1,4 @@
-use Rattle.unique_table.proofs.Following.{all_below, follows_trans}
+use Rattle.unique_table.proofs.SessionsGoOn.{all_below, follows_trans}
 use Rattle.store_tests.proofs.filling.make_all.Goals as goal
 
 pub loop-high-preserved : goal.loop-high-preserved

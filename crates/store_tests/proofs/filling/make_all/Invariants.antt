@@ -1,6 +1,6 @@
 use Rattle.std.specs.List.{All}
 use Rattle.unique_table.specs.Sessions.{Follows, IsKnownBelow}
-use Rattle.unique_table.proofs.Following.{IsFrom}
+use Rattle.unique_table.proofs.SessionsGoOn.{IsFrom}
 use Rattle.store_tests.proofs.filling.make_all.Given as goal
 
 abbrev pub invariant-loop-low : goal.invariant-loop-low

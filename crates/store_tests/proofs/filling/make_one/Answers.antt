@@ -1,5 +1,5 @@
 use Rattle.std.proofs.Common.{rules}
-use Rattle.unique_table.proofs.Following.{all_from, all_more}
+use Rattle.unique_table.proofs.SessionsGoOn.{all_from, all_more}
 use Rattle.store_tests.proofs.filling.make_one.Goals as goal
 
 pub returns-in_default-clause-ids : goal.returns-in_default-clause-ids

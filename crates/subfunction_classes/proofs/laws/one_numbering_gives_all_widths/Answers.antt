@@ -1,4 +1,4 @@
-use Rattle.subfunction_classes.proofs.Counted.{width_is_dependent_classes}
+use Rattle.subfunction_classes.proofs.CountedWidths.{width_is_dependent_classes}
 use Rattle.subfunction_classes.proofs.laws.one_numbering_gives_all_widths.Goals as goal
 
 pub returns : goal.returns

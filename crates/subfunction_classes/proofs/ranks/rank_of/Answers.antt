@@ -1,7 +1,7 @@
 use Rattle.std.proofs.Common.{sym, arith}
 use Rattle.std.proofs.lemmas.Bool.{iff_false}
 use Rattle.std.proofs.lemmas.Nat.Bits.{shr_and_one, bit_at-lt}
-use Rattle.subfunction_classes.proofs.Extended.{free_none, free_more, free_same}
+use Rattle.subfunction_classes.proofs.OneMoreVariable.{free_none, free_more, free_same}
 use Rattle.subfunction_classes.proofs.ranks.rank_of.Goals as goal
 use Rattle.subfunction_classes.proofs.ranks.rank_of.Goals.{then-not-contains, else-not-contains}
 

@@ -15,8 +15,8 @@ returns-in-None c = λ P order o k l given.
     let n = v.problem.inputs in
     let within : c.args.mask < 2 ^ n = subst (λ (i : ℕ). c.args.mask < 2 ^ i) (sym c.requires.functions) c.requires.within in
     c.clipped_cell.ensures n within
-    ∙ cell_clipped n v.bound_above c.args.mask c.args.bound (slice_index c.args.below.now) (slice_index c.args.widths.now) (functions v.problem) P order o k given _
-    (first_of (members n c.args.mask)) (first_has_mask n c.args.mask c.requires.some (omega arith) within) refl
+    ∙ cell_clipped n v.bound_above c.args.mask c.args.bound (slice_index c.args.below.now) (slice_index c.args.widths.now)
+    (functions v.problem) P order o k given _ (first_of (members n c.args.mask)) (first_has_mask n c.args.mask c.requires.some (omega arith) within) refl
     (λ low y m le. absurd (omega (
       arith,
       c.in-None.ensures.none refl y (subst (λ (i : ℕ). IsTrue (has (members i c.args.mask) y)) c.requires.functions m),

@@ -4,7 +4,7 @@ use Rattle.definitions.specs.Levels.{reach}
 use Rattle.definitions.specs.Orders.{IsOrder}
 use Rattle.definitions.specs.Problems.{functions, outputs_of}
 use Rattle.truth_table.specs.Levels.{IsLevelAbove, ref_named}
-use Rattle.truth_table.proofs.Leveled.{Leveled, few_leaves, leveled_leaves, leveled_step, leveled_top}
+use Rattle.truth_table.proofs.LevelDiagrams.{Leveled, few_leaves, leveled_leaves, leveled_step, leveled_top}
 use Rattle.truth_table.proofs.diagrams.reduced_diagram.Goals as goal
 
 pub loop-level-init : goal.loop-level-init

@@ -1,7 +1,7 @@
 use Rattle.std.proofs.Common.{◌≤◌, ◌+◌, length, take}
 use Rattle.definitions.specs.Levels.{reach}
 use Rattle.definitions.specs.Problems.{functions}
-use Rattle.truth_table.proofs.Leveled.{Leveled}
+use Rattle.truth_table.proofs.LevelDiagrams.{Leveled}
 use Rattle.truth_table.proofs.diagrams.reduced_diagram.Given as goal
 
 abbrev pub invariant-loop-level : goal.invariant-loop-level

@@ -1,6 +1,6 @@
 use Rattle.std.proofs.Common.{◌≡◌, ◌-◌, sym, ap, arith}
 use Rattle.truth_table.specs.Levels.{ref_named}
-use Rattle.truth_table.proofs.Leveled.{named_place}
+use Rattle.truth_table.proofs.LevelDiagrams.{named_place}
 use Rattle.truth_table.proofs.levels.ref_of.Goals as goal
 
 pub returns-in-0 : goal.returns-in-0

@@ -1,7 +1,7 @@
 use Rattle.std.proofs.Common.{ℕ, ◌+◌, ◌*◌, ◌<◌, ◌∙◌, subst, arith}
 use Rattle.node_words.specs.Nodes.{home}
-use Rattle.node_words.proofs.Growing.{grows_refl, node_grows}
-use Rattle.node_words.proofs.Making.{one_more, full_for}
+use Rattle.node_words.proofs.OneMoreNode.{grows_refl, node_grows}
+use Rattle.node_words.proofs.NewNodes.{one_more, full_for}
 use Rattle.unique_table.specs.Plans.{levels_of}
 use Rattle.unique_table.proofs.Puts.{gains_none}
 use Rattle.unique_table.proofs.Steps.{searches_on}

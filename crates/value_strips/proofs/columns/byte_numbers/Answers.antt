@@ -2,7 +2,7 @@ use Rattle.std.proofs.Common.{◌≡◌, ◌++◌, ◌∷◌, [], ap, sym, ◌�
 use Rattle.std.specs.List.{range_with_len}
 use Rattle.std.proofs.lemmas.List.FromFn.{map-range_with_len_more, length-map-range_with_len}
 use Rattle.subfunction_classes.specs.Strips.{strip}
-use Rattle.value_strips.proofs.Expanded.{row_number, row_strip, rows_below}
+use Rattle.value_strips.proofs.StripNumbers.{row_number, row_strip, rows_below}
 use Rattle.value_strips.proofs.columns.byte_numbers.Goals as goal
 
 pub loop-place-preserved : goal.loop-place-preserved

@@ -3,7 +3,7 @@ use Rattle.definitions.specs.Problems.{value_at}
 use Rattle.value_strips.specs.Columns.{packed_numbers}
 use Rattle.subfunction_classes.specs.Strips.{unrolled}
 use Rattle.subfunction_classes.specs.Values.{values_of}
-use Rattle.value_strips.proofs.Expanded.{length_packed}
+use Rattle.value_strips.proofs.StripNumbers.{length_packed}
 use Rattle.subfunction_classes.proofs.StartClasses.{length_values}
 use Rattle.value_strips.proofs.KeptRuns.{kept_strips, kept_values}
 use Rattle.value_strips.proofs.columns.byte_strips.Goals as goal

@@ -1,7 +1,7 @@
 use Rattle.std.proofs.Common.{◌++◌, ◌∙◌, get_or, arith}
 use Rattle.value_strips.specs.Columns.{low_numbers}
-use Rattle.value_strips.proofs.Expanded.{packed_none, packed_more}
-use Rattle.subfunction_classes.proofs.Unrolled.{unrolled_none}
+use Rattle.value_strips.proofs.StripNumbers.{packed_none, packed_more}
+use Rattle.subfunction_classes.proofs.StripLengths.{unrolled_none}
 use Rattle.value_strips.proofs.columns.bytes_of.Goals as goal
 
 pub loop-word-init : goal.loop-word-init

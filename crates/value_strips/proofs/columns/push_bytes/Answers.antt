@@ -4,8 +4,8 @@ use Rattle.std.proofs.lemmas.Bool.{cases_lt}
 use Rattle.std.proofs.lemmas.List.{append-nil, append_assoc, get_or_append_left, get_or_push, length_push}
 use Rattle.value_strips.specs.Columns.{low_numbers}
 use Rattle.subfunction_classes.specs.Strips.{unrolled}
-use Rattle.value_strips.proofs.Expanded.{low_none, low_more}
-use Rattle.subfunction_classes.proofs.Unrolled.{unrolled_more}
+use Rattle.value_strips.proofs.StripNumbers.{low_none, low_more}
+use Rattle.subfunction_classes.proofs.StripLengths.{unrolled_more}
 use Rattle.value_strips.proofs.columns.push_bytes.Goals as goal
 
 pub loop-place-init : goal.loop-place-init

@@ -4,7 +4,7 @@ use Rattle.std.proofs.Math.Pow.{shl_exact}
 use Rattle.std.proofs.lemmas.Nat.{pow_pos}
 use Rattle.definitions.specs.Problems.{value_at, outputs_of}
 use Rattle.subfunction_classes.specs.Values.{number_of}
-use Rattle.value_strips.proofs.Expanded.{whole_are, whole_values, length_numbers, few_numbers}
+use Rattle.value_strips.proofs.StripNumbers.{whole_are, whole_values, length_numbers, few_numbers}
 use Rattle.value_strips.proofs.columns.whole_strips.Goals as goal
 
 -- a run for each strip

@@ -4,7 +4,7 @@ use Rattle.subfunction_classes.specs.Places as places
 use Rattle.cert_check.specs.LowerClasses.{pairs_with}
 use Rattle.cert_check.specs.Tables.{HoldsTable, TableOf}
 use Rattle.cert_check.proofs.LowerPairs.{pairs_with_width}
-use Rattle.cert_check.proofs.Shortened.{pair_table, ready}
+use Rattle.cert_check.proofs.ShortenedTables.{pair_table, ready}
 use Rattle.cert_check.proofs.class_table.ClassTable.tells_wide.Goals as goal
 
 pub are_wide-requires : goal.are_wide-requires

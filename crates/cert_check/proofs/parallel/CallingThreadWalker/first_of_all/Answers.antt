@@ -1,7 +1,7 @@
 use Rattle.std.proofs.Common.{arith}
 use Rattle.cert_check.proofs.EdgeMarks.{first_same}
 use Rattle.cert_check.proofs.FirstEdges.{judged_within}
-use Rattle.cert_check.proofs.Stands.{stands_start}
+use Rattle.cert_check.proofs.WalkTables.{stands_start}
 use Rattle.cert_check.proofs.parallel.CallingThreadWalker.first_of_all.Goals as goal
 
 pub invariant_of-root : goal.invariant_of-root

@@ -1,5 +1,5 @@
 use Rattle.std.proofs.Common.{arith}
-use Rattle.cert_check.proofs.Stands.{stands_start}
+use Rattle.cert_check.proofs.WalkTables.{stands_start}
 use Rattle.cert_check.proofs.parallel.ThreadPoolWalker.first_of_all.Goals as goal
 
 pub invariant_of-root : goal.invariant_of-root

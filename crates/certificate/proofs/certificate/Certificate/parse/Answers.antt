@@ -1,6 +1,6 @@
 use Rattle.std.proofs.Common.{sym, ◌∙◌, ap, [], Ok, Err, arith}
 use Rattle.certificate.specs.Spelling.{spelling}
-use Rattle.certificate.proofs.Parsed.{from_start, head_refused, body_refused, parts_spelled, text_spelled}
+use Rattle.certificate.proofs.WholeTexts.{from_start, head_refused, body_refused, parts_spelled, text_spelled}
 use Rattle.certificate.proofs.certificate.Certificate.parse.Goals as goal
 
 pub returns-in_err-head-clause-refused : goal.returns-in_err-head-clause-refused

@@ -1,7 +1,7 @@
 use Rattle.std.proofs.Common.{◌≤◌, List, ℕ, length, subst, sym}
 use Rattle.certificate.specs.Heads.{most_bytes}
 use Rattle.certificate.proofs.Lengths.{spelling_readable}
-use Rattle.certificate.proofs.Written.{spelling_written}
+use Rattle.certificate.proofs.WrittenLines.{spelling_written}
 use Rattle.certificate.proofs.certificate.Certificate.text.Goals as goal
 
 pub returns-clause-spelling : goal.returns-clause-spelling

@@ -5,7 +5,7 @@ use Rattle.certificate.specs.Faults.{entry_fault, is_cell, cell_key_of}
 use Rattle.certificate.specs.Decoded.{read_cell, mask_key}
 use Rattle.certificate.specs.Values.{is_above}
 use Rattle.certificate.proofs.Outcomes.{asked}
-use Rattle.certificate.proofs.Taking.{reached_first, reached_more, reached_fails, reached_all, section_fails}
+use Rattle.certificate.proofs.LineSteps.{reached_first, reached_more, reached_fails, reached_all, section_fails}
 use Rattle.certificate.proofs.reader.Lines.cells.Goals as goal
 
 pub returns-in_err-count-clause-section : goal.returns-in_err-count-clause-section

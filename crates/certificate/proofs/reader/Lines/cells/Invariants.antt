@@ -3,7 +3,7 @@ use Rattle.definitions.specs.Listed.{listed}
 use Rattle.certificate.specs.Faults.{is_cell, cell_key_of}
 use Rattle.certificate.specs.Reading.{FitsCount, StaysWithin}
 use Rattle.certificate.specs.Decoded.{read_cell, mask_key}
-use Rattle.certificate.proofs.Taking.{Reached}
+use Rattle.certificate.proofs.LineSteps.{Reached}
 use Rattle.certificate.proofs.reader.Lines.cells.Given as goal
 
 abbrev pub invariant-loop-n : goal.invariant-loop-n

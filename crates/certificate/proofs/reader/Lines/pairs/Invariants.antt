@@ -3,7 +3,7 @@ use Rattle.certificate.specs.Spelling.{most_pairs, pair_key}
 use Rattle.certificate.specs.Faults.{is_pair, pair_key_of}
 use Rattle.certificate.specs.Reading.{FitsCount, StaysWithin}
 use Rattle.certificate.specs.Decoded.{read_pair}
-use Rattle.certificate.proofs.Taking.{Reached}
+use Rattle.certificate.proofs.LineSteps.{Reached}
 use Rattle.certificate.proofs.reader.Lines.pairs.Given as goal
 
 abbrev pub invariant-loop-n : goal.invariant-loop-n

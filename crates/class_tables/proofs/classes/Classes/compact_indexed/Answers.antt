@@ -3,7 +3,7 @@ use Rattle.std.proofs.lemmas.Nat.{one_shl}
 use Rattle.subfunction_classes.specs.PairTables.{NumbersPairs}
 use Rattle.subfunction_classes.specs.Places as places
 use Rattle.subfunction_classes.specs.Table.{ClassesOf, HoldsClasses, classes_of, free_below}
-use Rattle.subfunction_classes.proofs.Extended.{is_ready, ready_table, holds_more}
+use Rattle.subfunction_classes.proofs.OneMoreVariable.{is_ready, ready_table, holds_more}
 use Rattle.class_tables.proofs.classes.Classes.compact_indexed.Goals as goal
 
 pub of_table-pairs-requires-clause-table : goal.of_table-pairs-requires-clause-table

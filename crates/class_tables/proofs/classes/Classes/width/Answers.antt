@@ -2,7 +2,7 @@ use Rattle.std.proofs.Common.{◌≡◌, true, sym, ap, ◌∙◌, subst}
 use Rattle.definitions.specs.Orders.{has, without}
 use Rattle.definitions.specs.Widths.{width}
 use Rattle.subfunction_classes.specs.Table.{ClassesOf, set_of, functions_of}
-use Rattle.subfunction_classes.proofs.Extended.{width_into}
+use Rattle.subfunction_classes.proofs.OneMoreVariable.{width_into}
 use Rattle.class_tables.proofs.classes.Classes.width.Goals as goal
 
 pub width_into-width-requires : goal.width_into-width-requires

@@ -2,12 +2,12 @@ use Rattle.std.proofs.Common.{◌≡◌, ℕ, ◌<◌, ◌^◌, List, false, ref
 use Rattle.class_tables.specs.Scratch.{CountsMasks}
 use Rattle.subfunction_classes.specs.Places as places
 use Rattle.subfunction_classes.specs.Table.{ClassesOf, HoldsClasses, with_variable, functions_of, set_of, free_below}
-use Rattle.subfunction_classes.proofs.Counted.{width_is_dependent_classes}
+use Rattle.subfunction_classes.proofs.CountedWidths.{width_is_dependent_classes}
 use Rattle.subfunction_classes.specs.Numbering.{ranks}
 use Rattle.subfunction_classes.specs.Places.{pairs}
 use Rattle.definitions.specs.Widths.{same_pair, width}
 use Rattle.definitions.specs.Orders.{has}
-use Rattle.subfunction_classes.proofs.Extended.{is_ready, ready_table, few_masks, few_of_most, holds_more, width_into}
+use Rattle.subfunction_classes.proofs.OneMoreVariable.{is_ready, ready_table, few_masks, few_of_most, holds_more, width_into}
 use Rattle.class_tables.proofs.classes.Classes.width_in.Goals as goal
 
 -- so many pairs with x are the width of x

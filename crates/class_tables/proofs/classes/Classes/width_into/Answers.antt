@@ -3,8 +3,8 @@ use Rattle.std.specs.Int.{bit_at}
 use Rattle.std.specs.List.{filter}
 use Rattle.definitions.proofs.Bits.Masks.{members_small}
 use Rattle.subfunction_classes.specs.Table.{ClassesOf, HoldsClasses, set_of, functions_of}
-use Rattle.subfunction_classes.proofs.Counted.{width_is_dependent_classes}
-use Rattle.subfunction_classes.proofs.Extended.{few_masks}
+use Rattle.subfunction_classes.proofs.CountedWidths.{width_is_dependent_classes}
+use Rattle.subfunction_classes.proofs.OneMoreVariable.{few_masks}
 use Rattle.class_tables.proofs.classes.Classes.width_into.Goals as goal
 
 pub count_with-requires-clause-variable : goal.count_with-requires-clause-variable

@@ -1,7 +1,7 @@
 use Rattle.std.proofs.Common.{codes, refl, subst, sym}
 use Rattle.clap.specs.Words.{app_of}
 use Rattle.command_line.specs.Lines.{LacksFiles, LacksPaths, ordercheck, texts, value_of}
-use Rattle.command_line.proofs.Matched.{check_line_taken, error_explained, lacking_explained, ordercheck_is_free, ordercheck_is_simple, value_matched}
+use Rattle.command_line.proofs.Matches.{check_line_taken, error_explained, lacking_explained, ordercheck_is_free, ordercheck_is_simple, value_matched}
 use Rattle.command_line.proofs.check_line.CheckLine.of_words.Goals as goal
 
 pub returns-in-Err-try_get_matches_from_mut-clause-refused : goal.returns-in-Err-try_get_matches_from_mut-clause-refused

@@ -1,7 +1,7 @@
 use Rattle.std.proofs.Common.{codes, refl, subst, sym}
 use Rattle.clap.specs.Words.{app_of}
 use Rattle.command_line.specs.Lines.{LacksArguments, LacksValues, minorder, read_of, texts}
-use Rattle.command_line.proofs.Matched.{error_explained, lacking_explained, line_taken, minorder_is_free, minorder_is_simple, read_matched, value_matched}
+use Rattle.command_line.proofs.Matches.{error_explained, lacking_explained, line_taken, minorder_is_free, minorder_is_simple, read_matched, value_matched}
 use Rattle.command_line.proofs.line.Line.of_words.Goals as goal
 
 pub returns-in-Err-try_get_matches_from_mut-clause-refused : goal.returns-in-Err-try_get_matches_from_mut-clause-refused

@@ -1,8 +1,8 @@
 use Rattle.std.proofs.Common.{◌≡◌, ℕ, ◌<◌, ◌*◌, ◌%◌, ◌^◌, ap, ◌∙◌, arith}
 use Rattle.std.proofs.lemmas.Grind.{common_steps}
 use Rattle.std.proofs.lemmas.Nat.{one_shl}
-use Rattle.subfunction_classes.proofs.Extended.{free_le}
-use Rattle.subfunction_classes.proofs.Unrolled.{length_named}
+use Rattle.subfunction_classes.proofs.OneMoreVariable.{free_le}
+use Rattle.subfunction_classes.proofs.StripLengths.{length_named}
 use Rattle.compaction.proofs.bytes.ByteKeys.write_out.Goals as goal
 
 pub overflow_shl-rank_of : goal.overflow_shl-rank_of

@@ -1,5 +1,5 @@
 use Rattle.std.proofs.Common.{◌/◌, refl}
-use Rattle.compaction.proofs.Requested.{request_written, kept_written, more_written}
+use Rattle.compaction.proofs.WantedSets.{request_written, kept_written, more_written}
 use Rattle.compaction.proofs.request.WidthRequest.add.Goals as goal
 
 pub invariant_of-self-clause-request : goal.invariant_of-self-clause-request

@@ -1,7 +1,7 @@
 use Rattle.std.proofs.Common.{ℕ, ◌^◌, ◌%◌, ◌<◌, ◌≡◌, List, length, get_or, subst, sym, ◌∙◌, arith}
 use Rattle.std.proofs.lemmas.Grind.{common_steps}
 use Rattle.subset_layers.specs.Layers.{block_masks}
-use Rattle.compaction.proofs.Joined.{block_of_byte}
+use Rattle.compaction.proofs.BlockRows.{block_of_byte}
 use Rattle.compaction.proofs.request.WidthRequest.add_block.Goals as goal
 
 pub bounds-needed-i : goal.bounds-needed-i

@@ -3,7 +3,7 @@ use Rattle.std.proofs.lemmas.Grind.{common_steps}
 use Rattle.std.proofs.lemmas.Bool.{cases_eq}
 use Rattle.subset_layers.specs.Layers.{block_masks}
 use Rattle.compaction.specs.Requests.{asked}
-use Rattle.compaction.proofs.Requested.{within_wanted}
+use Rattle.compaction.proofs.WantedSets.{within_wanted}
 use Rattle.compaction.proofs.request.WidthRequest.has_block.Goals as goal
 
 pub returns-in_default : goal.returns-in_default

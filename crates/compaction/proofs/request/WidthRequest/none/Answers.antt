@@ -1,4 +1,4 @@
-use Rattle.compaction.proofs.Requested.{none_wanted}
+use Rattle.compaction.proofs.WantedSets.{none_wanted}
 use Rattle.std.proofs.Common.{arith}
 use Rattle.compaction.proofs.request.WidthRequest.none.Goals as goal
 

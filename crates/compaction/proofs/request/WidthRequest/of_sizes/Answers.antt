@@ -1,6 +1,6 @@
 use Rattle.std.proofs.Common.{arith}
 use Rattle.std.proofs.lemmas.Grind.{common_steps}
-use Rattle.compaction.proofs.Requested.{all_members}
+use Rattle.compaction.proofs.WantedSets.{all_members}
 use Rattle.compaction.proofs.request.WidthRequest.of_sizes.Goals as goal
 
 pub add-requires-clause-set : goal.add-requires-clause-set

@@ -6,7 +6,7 @@ use Rattle.definitions.specs.Problems.{TruthTables}
 use Rattle.subset_layers.specs.Layers.{BlockOf, block_masks}
 use Rattle.compaction.specs.Requests.{Asks, asked}
 use Rattle.compaction.specs.Rows.{HoldsRows, IsWidthRow, RowsOf}
-use Rattle.compaction.proofs.Joined.{RowsTo, block_of_byte, row_of_byte, rows_pushed}
+use Rattle.compaction.proofs.BlockRows.{RowsTo, block_of_byte, row_of_byte, rows_pushed}
 use Rattle.compaction.proofs.shared_tables.SharedTables.rows_of_block.Goals as goal
 
 -- what the block's set at a place has among the rows of its byte

@@ -1,5 +1,5 @@
 use Rattle.subset_layers.specs.Layers.{block_masks}
-use Rattle.compaction.proofs.Joined.{RowsTo}
+use Rattle.compaction.proofs.BlockRows.{RowsTo}
 use Rattle.compaction.proofs.shared_tables.SharedTables.rows_of_block.Given as goal
 
 abbrev pub invariant-loop-i : goal.invariant-loop-i

@@ -2,7 +2,7 @@ use Rattle.std.proofs.Common.{◌≡◌, ℕ, List, length, slice_index, sym, ap
 use Rattle.std.proofs.lemmas.Grind.{common_steps}
 use Rattle.std.specs.Int.{bit_at}
 use Rattle.compaction.specs.Rows.{AreByteRows, HoldsRows, RowsOf}
-use Rattle.compaction.proofs.Filled.{rows_of_some}
+use Rattle.compaction.proofs.FilledRows.{rows_of_some}
 use Rattle.compaction.proofs.shared_tables.SharedTables.widths_with.Goals as goal
 
 pub rows_of_block-requires-clause-rows : goal.rows_of_block-requires-clause-rows

@@ -4,7 +4,7 @@ use Rattle.std.specs.List.{filter}
 use Rattle.compaction.specs.Strips.{HoldsStripTable, low_variables, masks_in_use}
 use Rattle.subfunction_classes.specs.Table.{ClassesOf}
 use Rattle.compaction.proofs.AllDistinct.{distinct_row, table_distinct, table_strips, table_used}
-use Rattle.compaction.proofs.Used.{all_in_use, few_in_use, strips_row}
+use Rattle.compaction.proofs.UsedNumbers.{all_in_use, few_in_use, strips_row}
 use Rattle.compaction.proofs.strips.Strips.width_row.Goals as goal
 
 pub row_of-requires : goal.row_of-requires

@@ -1,6 +1,6 @@
 use Rattle.std.proofs.Common.{sym, ◌∙◌, arith}
 use Rattle.layer_board.proofs.Rule.{may_claim}
-use Rattle.layer_board.proofs.Seated.{same_table}
+use Rattle.layer_board.proofs.SeatSteps.{same_table}
 use Rattle.layer_board.proofs.boards.Board.claim.Goals as goal
 
 pub fetch_add-place-requires : goal.fetch_add-place-requires

@@ -1,4 +1,4 @@
-use Rattle.layer_board.proofs.Closing.{lacking}
+use Rattle.layer_board.proofs.ClosedBoards.{lacking}
 use Rattle.layer_board.proofs.boards.Board.close.Goals as goal
 
 pub returns-in-Err-clause-unknown : goal.returns-in-Err-clause-unknown

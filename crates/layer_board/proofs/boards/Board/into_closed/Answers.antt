@@ -2,7 +2,7 @@ use Rattle.std.proofs.Common.{refl, ap, sym, ◌∙◌}
 use Rattle.std.specs.Slots.{slots_items}
 use Rattle.layer_board.specs.Views.{BoardId, SeatOf}
 use Rattle.layer_board.specs.Held.{view_of}
-use Rattle.layer_board.proofs.Closing.{is_last}
+use Rattle.layer_board.proofs.ClosedBoards.{is_last}
 use Rattle.layer_board.proofs.boards.Board.into_closed.Goals as goal
 
 pub returns-clause-last : goal.returns-clause-last

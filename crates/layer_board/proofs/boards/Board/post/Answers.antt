@@ -8,7 +8,7 @@ use Rattle.layer_board.specs.Held.{seat_shown}
 use Rattle.layer_core.proofs.Layouts.{missing_if}
 use Rattle.layer_board.proofs.Words.{word_back}
 use Rattle.layer_board.proofs.Rule.{may_post_at, posted_at}
-use Rattle.layer_board.proofs.Seated.{same_table, missing_unclaimed, low, has_word, claimed_there, known_there, marked, claims_long, cell_there, after_learning, knows_after, after_looking, still_known, still_there}
+use Rattle.layer_board.proofs.SeatSteps.{same_table, missing_unclaimed, low, has_word, claimed_there, known_there, marked, claims_long, cell_there, after_learning, knows_after, after_looking, still_known, still_there}
 use Rattle.layer_board.proofs.boards.Board.post.Goals as goal
 
 false_true : (b : Bool) → b ≡ false → b ≡ true → ⊥

@@ -4,7 +4,7 @@ use Rattle.subset_layers.specs.Layers.{masks_of}
 use Rattle.layer_board.specs.declared.seats.BoardSeat.TheInside.{Inside}
 use Rattle.layer_core.proofs.Layouts.{missing_if}
 use Rattle.layer_board.proofs.Rule.{may_read_at, read_at}
-use Rattle.layer_board.proofs.Seated.{same_table, seen_instance, missing_unknown, missing_empty, has_word, mask_there, known_there, after_learning, knows_after, after_none, still_there}
+use Rattle.layer_board.proofs.SeatSteps.{same_table, seen_instance, missing_unknown, missing_empty, has_word, mask_there, known_there, after_learning, knows_after, after_none, still_there}
 use Rattle.layer_board.proofs.boards.Board.read.Goals as goal
 
 pub returns-in_default-clause-unknown : goal.returns-in_default-clause-unknown

@@ -5,7 +5,7 @@ use Rattle.layer_board.specs.declared.closed.ClosedBoard.TheInside as closed
 use Rattle.layer_board.specs.Views.{ClosedBoardOf}
 use Rattle.layer_board.specs.Closed.{closed_board, IsClosedBoard}
 use Rattle.layer_board.proofs.Words.{cells_length}
-use Rattle.layer_board.proofs.Closing.{all_cells}
+use Rattle.layer_board.proofs.ClosedBoards.{all_cells}
 use Rattle.layer_board.proofs.closed.ClosedBoard.cells.Goals as goal
 
 -- each mask has a place for its cell

@@ -13,9 +13,11 @@ returns-in-Variables-clause-nodes c = λ w.
     let n = c.args.self.now.problem.inputs in
     let F = functions c.args.self.now.problem in
     let h =
-    subst (λ (t : TruthTables). HoldsBoundsAbove t own.essential own.dependents own.others) (ap (λ (r : BoundsAboveOf). r.problem) c.self.view_is) c.self.invariant in
+    subst (λ (t : TruthTables). HoldsBoundsAbove t own.essential own.dependents own.others)
+    (ap (λ (r : BoundsAboveOf). r.problem) c.self.view_is) c.self.invariant in
     c.count_outside-outside.ensures.exact n F h.essential_is
-    ∙ sym (ap (λ (r : BoundAbove). nodes_above n F r (members n c.args.mask)) (sym (ap (λ (r : BoundsAboveOf). r.bound_above) c.self.view_is) ∙ c.in-Variables.is))
+    ∙ sym (ap (λ (r : BoundAbove). nodes_above n F r (members n c.args.mask))
+    (sym (ap (λ (r : BoundsAboveOf). r.bound_above) c.self.view_is) ∙ c.in-Variables.is))
 
 pub returns-in-Widths-clause-nodes : goal.returns-in-Widths-clause-nodes
 unfolding nodes_above
@@ -24,7 +26,8 @@ returns-in-Widths-clause-nodes c = λ w.
     let n = c.args.self.now.problem.inputs in
     let F = functions c.args.self.now.problem in
     let h =
-    subst (λ (t : TruthTables). HoldsBoundsAbove t own.essential own.dependents own.others) (ap (λ (r : BoundsAboveOf). r.problem) c.self.view_is) c.self.invariant in
+    subst (λ (t : TruthTables). HoldsBoundsAbove t own.essential own.dependents own.others)
+    (ap (λ (r : BoundsAboveOf). r.problem) c.self.view_is) c.self.invariant in
     let widths = sym (ap (λ (r : BoundsAboveOf). r.bound_above) c.self.view_is) ∙ c.in-Widths.is in
     c.most_asked.ensures.most (w widths)
     ∙ ap (λ (a : ℕ). fold max a (map (asked_by n F (members n c.args.mask)) (members n c.args.mask))) (c.count_outside-outside.ensures.exact n F h.essential_is)

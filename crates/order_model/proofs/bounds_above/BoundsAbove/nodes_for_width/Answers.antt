@@ -9,7 +9,8 @@ returns-clause-nodes c = λ w.
     let own = c.self.inside in
     let n = c.args.self.now.problem.inputs in
     let h =
-    subst (λ (t : TruthTables). HoldsBoundsAbove t own.essential own.dependents own.others) (ap (λ (r : BoundsAboveOf). r.problem) c.self.view_is) c.self.invariant in
+    subst (λ (t : TruthTables). HoldsBoundsAbove t own.essential own.dependents own.others)
+    (ap (λ (r : BoundsAboveOf). r.problem) c.self.view_is) c.self.invariant in
     ap₂ (λ a b. a + b)
     (c.from.ensures ∙ c.saturating_sub-more.ensures ∙ ap₂ (λ a b. a - b) w (h.dependents_are c.args.x c.requires))
     (c.count_outside.ensures.exact n (functions_without n (functions c.args.self.now.problem) c.args.x) (h.others_are c.args.x c.requires))

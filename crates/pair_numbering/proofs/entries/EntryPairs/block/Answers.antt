@@ -1,7 +1,7 @@
 use Rattle.std.proofs.Common.{◌<◌, ◌≤◌, ◌+◌, ◌*◌, ◌/◌, ◌^◌, ℕ, length, get_or, sym, ap, ◌∙◌, subst}
 use Rattle.subfunction_classes.specs.PairTables.{IsPaired}
 use Rattle.subfunction_classes.proofs.BlockPlaces.{block_pair}
-use Rattle.pair_numbering.proofs.Laid.{laid_blocks, laid_few, laid_high, laid_inside, laid_low, laid_named, laid_paired, laid_rank}
+use Rattle.pair_numbering.proofs.EntryPlaces.{laid_blocks, laid_few, laid_high, laid_inside, laid_low, laid_named, laid_paired, laid_rank}
 use Rattle.pair_numbering.proofs.entries.EntryPairs.block.Goals as goal
 
 pub strips_of-low-requires-clause-named : goal.strips_of-low-requires-clause-named

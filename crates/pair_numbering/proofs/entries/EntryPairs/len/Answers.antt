@@ -1,5 +1,5 @@
 use Rattle.std.proofs.Common.{◌<◌, ◌^◌, length, subst, arith}
-use Rattle.pair_numbering.proofs.Laid.{laid_half, laid_paired, laid_rank}
+use Rattle.pair_numbering.proofs.EntryPlaces.{laid_half, laid_paired, laid_rank}
 use Rattle.pair_numbering.proofs.entries.EntryPairs.len.Goals as goal
 
 pub returns-in-None-clause-few : goal.returns-in-None-clause-few

@@ -3,7 +3,7 @@ use Rattle.std.proofs.Math.Nat.{mod-lt}
 use Rattle.std.proofs.lemmas.Nat.{and_mask, one_shl, pow_pos}
 use Rattle.subfunction_classes.specs.Places as places
 use Rattle.subfunction_classes.proofs.Index.{pair_listed}
-use Rattle.pair_numbering.proofs.Laid.{laid_paired, laid_rank, pair_block}
+use Rattle.pair_numbering.proofs.EntryPlaces.{laid_paired, laid_rank, pair_block}
 use Rattle.pair_numbering.proofs.entries.EntryPairs.pair.Goals as goal
 
 pub overflow_shr-j : goal.overflow_shr-j

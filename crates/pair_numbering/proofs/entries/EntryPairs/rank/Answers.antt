@@ -1,6 +1,6 @@
 use Rattle.std.proofs.Common.{subst}
 use Rattle.subfunction_classes.specs.PairTables.{IsPaired}
-use Rattle.pair_numbering.proofs.Laid.{laid_paired}
+use Rattle.pair_numbering.proofs.EntryPlaces.{laid_paired}
 use Rattle.pair_numbering.proofs.entries.EntryPairs.rank.Goals as goal
 
 pub returns-clause-paired : goal.returns-clause-paired

@@ -1,6 +1,6 @@
 use Rattle.std.proofs.Common.{length, sym, subst}
 use Rattle.subfunction_classes.specs.PairTables.{IsPairTable}
-use Rattle.pair_numbering.proofs.Laid.{strip_table}
+use Rattle.pair_numbering.proofs.EntryPlaces.{strip_table}
 use Rattle.pair_numbering.proofs.masks.MaskedPairs.of_strips.Goals as goal
 
 pub invariant_of-result : goal.invariant_of-result

@@ -1,6 +1,6 @@
 use Rattle.std.proofs.Common.{arith}
 use Rattle.std.proofs.lemmas.List.{get_or_default}
-use Rattle.reached_nodes.proofs.Paging.{in_places, number_is, part_in, number_in}
+use Rattle.reached_nodes.proofs.PageNumbers.{in_places, number_is, part_in, number_in}
 use Rattle.reached_nodes.proofs.numbers.Numbers.get.Goals as goal
 
 pub index-requires : goal.index-requires

@@ -1,5 +1,5 @@
 use Rattle.std.proofs.Common.{set, arith}
-use Rattle.reached_nodes.proofs.Paging.{numbers_long, in_places, part_in, numbers_set}
+use Rattle.reached_nodes.proofs.PageNumbers.{numbers_long, in_places, part_in, numbers_set}
 use Rattle.reached_nodes.proofs.numbers.Numbers.set.Goals as goal
 
 pub open_page-requires-clause-part : goal.open_page-requires-clause-part

@@ -1,6 +1,6 @@
 use Rattle.std.proofs.Common.{◌∙◌, ap}
 use Rattle.reached_nodes.specs.Pages.{numbers_of}
-use Rattle.reached_nodes.proofs.Paging.{numbers_none}
+use Rattle.reached_nodes.proofs.PageNumbers.{numbers_none}
 use Rattle.reached_nodes.proofs.numbers.Numbers.zeros.Goals as goal
 
 pub returns : goal.returns

@@ -2,7 +2,7 @@ use Rattle.std.proofs.Common.{rules, subst, ◌∙◌}
 use Rattle.sifting.specs.LevelLists.{nodes_of}
 use Rattle.sifting.specs.Managed.{truth_tables_of}
 use Rattle.sifting.specs.Cuts.{IsBuilt}
-use Rattle.sifting.proofs.Built.{built_problem}
+use Rattle.sifting.proofs.BuiltLevels.{built_problem}
 use Rattle.sifting.proofs.manager.Manager.with_pairs.Goals as goal
 
 pub invariant_of-result : goal.invariant_of-result

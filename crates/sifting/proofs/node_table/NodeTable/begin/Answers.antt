@@ -1,5 +1,5 @@
 use Rattle.std.proofs.Common.{arith}
-use Rattle.sifting.proofs.Branching.{branching_none}
+use Rattle.sifting.proofs.BranchingNodes.{branching_none}
 use Rattle.sifting.proofs.node_table.NodeTable.begin.Goals as goal
 use Rattle.sifting.proofs.node_table.NodeTable.begin.Goals.{then-len-self+in_ok-resize, else-len-self}
 

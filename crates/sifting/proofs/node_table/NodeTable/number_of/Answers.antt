@@ -1,7 +1,7 @@
 use Rattle.std.proofs.Common.{◌≡◌, ◌+◌, ◌<◌, ℕ, length, sym, subst, arith}
 use Rattle.sifting.specs.NodeTables.{IsFreeSlot, IsSet, HasSlot, Inserted}
-use Rattle.sifting.proofs.Branching.{branching_counted}
-use Rattle.sifting.proofs.Inserted.{inserted_new}
+use Rattle.sifting.proofs.BranchingNodes.{branching_counted}
+use Rattle.sifting.proofs.Insertions.{inserted_new}
 use Rattle.sifting.proofs.NodeSlots.{absent, slotted_more}
 use Rattle.sifting.proofs.node_table.NodeTable.number_of.Goals as goal
 

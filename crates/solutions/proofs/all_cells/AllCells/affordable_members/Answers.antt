@@ -5,7 +5,7 @@ use Rattle.definitions.specs.declared.limits.Limit.{Limit}
 use Rattle.definitions.proofs.Bits.Problems.{MaskOfFirst, mask_with_next, mask_without_next}
 use Rattle.layer_core.specs.Instances.{Instance}
 use Rattle.solutions.specs.Solutions.{cost_for, cost_for_without}
-use Rattle.solutions.proofs.Wanted.{is_affordable, affordable_is, affordable_yes, affordable_dear, affordable_absent}
+use Rattle.solutions.proofs.WantedMembers.{is_affordable, affordable_is, affordable_yes, affordable_dear, affordable_absent}
 use Rattle.solutions.proofs.all_cells.AllCells.affordable_members.Goals as goal
 use Rattle.solutions.proofs.all_cells.AllCells.affordable_members.Goals.{then-contains+then-cost-bound, else-contains, else-contains-via-then-contains+else-cost-bound, else-contains-via-else-contains}
 

@@ -7,7 +7,7 @@ use Rattle.definitions.specs.declared.limits.BoundAbove.{BoundAbove}
 use Rattle.definitions.specs.declared.limits.Limit.{Limit}
 use Rattle.layer_core.specs.Instances.{Instance}
 use Rattle.solutions.specs.Solutions.{cost_for_without}
-use Rattle.solutions.proofs.Wanted.{needed_lawful, needed_unlawful}
+use Rattle.solutions.proofs.WantedMembers.{needed_lawful, needed_unlawful}
 use Rattle.solutions.proofs.all_cells.AllCells.needed_members.Goals as goal
 
 -- whether a set is lawful, as the pairs say
@@ -22,7 +22,8 @@ returns-then-lawful c =
     let t = c.args.self.now in
     let mask = c.args.mask in
     let costs = cost_for_without t mask in
-    let bound_above : c.limit.result.bound_above ≡ t.bound_above = ap (λ (l : Limit). l.bound_above) c.limit.ensures ∙ ap (λ (z : Instance). z.bound_above) c.self.view_is in
+    let bound_above : c.limit.result.bound_above ≡ t.bound_above = ap (λ (l : Limit). l.bound_above) c.limit.ensures
+    ∙ ap (λ (z : Instance). z.bound_above) c.self.view_is in
     let low = lawful_as c.self.inside.instance.now t c.pairs.result.now mask c.lawful.result c.self.view_is c.pairs.ensures.value c.pairs.ensures.inputs
     c.lawful.ensures ∙ c.if-lawful.true in
     c.asked_members.ensures t.problem.inputs t.bound costs c.affordable_members-known.ensures c.requires

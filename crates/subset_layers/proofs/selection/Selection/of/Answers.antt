@@ -1,5 +1,5 @@
 use Rattle.std.proofs.Common.{◌≡◌, length, vec_len, arith}
-use Rattle.subset_layers.proofs.Choosing.{choosing_no, choosing_yes, choosing_all}
+use Rattle.subset_layers.proofs.ChosenNumbers.{choosing_no, choosing_yes, choosing_all}
 use Rattle.subset_layers.proofs.selection.Selection.of.Goals as goal
 use Rattle.subset_layers.proofs.selection.Selection.of.Goals.{then-is_chosen+in_ok-push, else-is_chosen}
 

@@ -1,4 +1,4 @@
-use Rattle.subset_layers.proofs.Choosing.{IsChoosing}
+use Rattle.subset_layers.proofs.ChosenNumbers.{IsChoosing}
 use Rattle.subset_layers.proofs.selection.Selection.of.Given as goal
 
 abbrev pub invariant-loop-number : goal.invariant-loop-number

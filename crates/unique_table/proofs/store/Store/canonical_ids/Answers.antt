@@ -1,6 +1,6 @@
 use Rattle.std.proofs.Common.{subst}
 use Rattle.unique_table.specs.Sessions.{Knowledge, HasUniqueIds, HasLevels}
-use Rattle.unique_table.proofs.Opened.{seat_of, unique_ids, has_levels}
+use Rattle.unique_table.proofs.OpenedStores.{seat_of, unique_ids, has_levels}
 use Rattle.unique_table.proofs.store.Store.canonical_ids.Goals as goal
 
 pub returns-clause-unique : goal.returns-clause-unique

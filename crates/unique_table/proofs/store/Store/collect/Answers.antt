@@ -1,4 +1,4 @@
-use Rattle.unique_table.proofs.Opened.{goes_step}
+use Rattle.unique_table.proofs.OpenedStores.{goes_step}
 use Rattle.unique_table.proofs.store.Store.collect.Goals as goal
 
 pub returns-then-word-eq0-clause-step : goal.returns-then-word-eq0-clause-step

@@ -1,5 +1,5 @@
 use Rattle.unique_table.specs.Sessions.{Follows}
-use Rattle.unique_table.proofs.Opened.{seated, goes_step, small_id, entry_means, entry_depth}
+use Rattle.unique_table.proofs.OpenedStores.{seated, goes_step, small_id, entry_means, entry_depth}
 use Rattle.unique_table.proofs.store.Store.entry.Goals as goal
 
 pub entry_key-key-requires-clause-first : goal.entry_key-key-requires-clause-first

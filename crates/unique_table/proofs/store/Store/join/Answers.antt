@@ -3,7 +3,7 @@ use Rattle.node_words.specs.Nodes.{Grows}
 use Rattle.unique_table.specs.Stakes.{IsNoLess}
 use Rattle.unique_table.proofs.Stakes.{no_less_first, no_less_second}
 use Rattle.unique_table.proofs.Rule.{M, may_join}
-use Rattle.unique_table.proofs.Opened.{seat_of, goes_grown, unique_ids}
+use Rattle.unique_table.proofs.OpenedStores.{seat_of, goes_grown, unique_ids}
 use Rattle.unique_table.proofs.store.Store.join.Goals as goal
 
 pub join_seat-requires : goal.join_seat-requires

@@ -1,9 +1,9 @@
 use Rattle.std.proofs.Common.{◌≡◌, ◌+◌, ◌*◌, ◌^◌, ◌<◌, ◌≤◌, Bool, MatchBool, ◌-◌, get_or, sym, ap, ◌∙◌, refl, subst, eq-eqb, arith}
 use Rattle.node_words.specs.Nodes.{node_word}
-use Rattle.node_words.proofs.Making.{makes}
+use Rattle.node_words.proofs.NewNodes.{makes}
 use Rattle.unique_table.specs.Sessions.{Knowledge, Follows, IsKnownBelow}
-use Rattle.unique_table.proofs.Following.{follows_refl}
-use Rattle.unique_table.proofs.Opened.{seated, made_only, word_ready, small_id, few_levels, goes_on, goes_nowhere, goes_searching, node_made}
+use Rattle.unique_table.proofs.SessionsGoOn.{follows_refl}
+use Rattle.unique_table.proofs.OpenedStores.{seated, made_only, word_ready, small_id, few_levels, goes_on, goes_nowhere, goes_searching, node_made}
 use Rattle.unique_table.proofs.store.Store.make.Goals as goal
 
 pub find_or_put-requires-clause-word : goal.find_or_put-requires-clause-word

@@ -1,7 +1,7 @@
 use Rattle.node_words.proofs.Functions.{function_terminal}
 use Rattle.unique_table.specs.Plans.{order_of}
 use Rattle.unique_table.specs.Sessions.{Follows}
-use Rattle.unique_table.proofs.Opened.{seated, goes_step, goes_nowhere, one_step}
+use Rattle.unique_table.proofs.OpenedStores.{seated, goes_step, goes_nowhere, one_step}
 use Rattle.unique_table.proofs.Parts.{has_parts}
 use Rattle.unique_table.proofs.store.Store.node.Goals as goal
 

@@ -1,4 +1,4 @@
-use Rattle.unique_table.proofs.Opened.{goes_step}
+use Rattle.unique_table.proofs.OpenedStores.{goes_step}
 use Rattle.unique_table.proofs.store.Store.publish.Goals as goal
 
 pub returns-clause-step : goal.returns-clause-step

@@ -1,7 +1,7 @@
 use Rattle.std.proofs.Common.{◌≡◌, ◌+◌, ◌*◌, ◌%◌, arith}
-use Rattle.node_words.proofs.Entries.{code_small, entry_packed, entry_fits}
+use Rattle.node_words.proofs.CacheWords.{code_small, entry_packed, entry_fits}
 use Rattle.node_words.specs.Entries.{code_of, entry_word}
-use Rattle.unique_table.proofs.Opened.{goes_step, small_id, entry_ready}
+use Rattle.unique_table.proofs.OpenedStores.{goes_step, small_id, entry_ready}
 use Rattle.unique_table.proofs.store.Store.set_entry.Goals as goal
 
 pub entry_key-key-requires-clause-first : goal.entry_key-key-requires-clause-first

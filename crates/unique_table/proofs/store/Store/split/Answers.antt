@@ -1,6 +1,6 @@
 use Rattle.std.proofs.Common.{arith}
 use Rattle.unique_table.proofs.Rule.{may_split}
-use Rattle.unique_table.proofs.Opened.{seat_of}
+use Rattle.unique_table.proofs.OpenedStores.{seat_of}
 use Rattle.unique_table.proofs.store.Store.split.Goals as goal
 
 pub split_seat-other-requires : goal.split_seat-other-requires
