@@ -25,6 +25,7 @@ from costs import CHAIN_JOBS, CHAIN_SPEED, Estimate, chains, longest_chain, minu
 from progress import Report, spoken
 
 TOP = os.path.dirname(os.path.dirname(os.path.abspath(__file__)))
+RT_LIB, STATEMENTS = ("rt", "lib"), (sys.executable, f"{TOP}/build/statements.py")
 GIGABYTES_A_JOB = 3
 GIGABYTES_A_FURTHER_JOB = 1
 MOST_JOBS = 3
@@ -138,10 +139,10 @@ def lock(file):
 
 
 def called(folder, *words):
-    """Calls rt in a folder, by a thread of its own. Returns its status, what it said, and the processor seconds that it took."""
+    """Calls a command in a folder, by a thread of its own. Returns its status, what it said, and its processor seconds."""
     go_on()
     how = {"cwd": folder, "stdin": subprocess.DEVNULL, "stdout": subprocess.PIPE, "stderr": subprocess.STDOUT}
-    with subprocess.Popen(["rt", *words], errors="replace", **how) as ran:
+    with subprocess.Popen(words, errors="replace", **how) as ran:
         under_way.add(ran)
         if interrupts:
             os.kill(ran.pid, signal.SIGTERM)
@@ -191,16 +192,14 @@ class Lane:
         shutil.copy(f"{TOP}/HANDLES", f"{self.folder}/HANDLES")
 
     def prove(self, jobs):
-        """Builds the library. What was kept of earlier proofs is used, and what this one adds to it is kept, also if it fails."""
+        """Builds the library: over what was kept of earlier proofs, to which it adds, also if it fails; else from nothing, with
+        its statements alone, and keeps nothing."""
         is_new = not os.path.isdir(f"{self.home}/incremental")
         if os.path.isdir(self.home):
             os.rename(self.home, self.own)
         try:
-            ended = called(f"{self.folder}/crates/{self.crate}", "lib", "--jobs", str(jobs))
-            if is_new and not ended[0]:
-                # what only the proof of the next edit would use
-                shutil.rmtree(f"{self.own}/incremental", ignore_errors=True)
-            return ended
+            tool = STATEMENTS if is_new else RT_LIB
+            return called(f"{self.folder}/crates/{self.crate}", *tool, "--jobs", str(jobs))
         finally:
             if os.path.isdir(self.own):
                 os.rename(self.own, self.home)
@@ -305,7 +304,7 @@ def prove_libraries(plan, report):
 def build_over_libraries(name, made, report):
     """Proves the crate of the program or the static library itself, and builds it."""
     report.start_crate(name, 1)
-    words = ["lib"] if is_library(name) else ["run", "--", "--help"]
+    words = RT_LIB if is_library(name) else ("rt", "run", "--", "--help")
     with ThreadPoolExecutor(1) as pool:
         call = pool.submit(called, f"{TOP}/crates/{name}", *words)
         report.show()
@@ -330,7 +329,7 @@ def begin(report, crates, words):
         "; ".join(filter(None, (comes, 'a release needs no proof (README.md, "Install")'))),
         f"proving and building {len(crates)} crates; from nothing it takes {minutes(report.estimate.seconds_left({}))} here, "
         f"{minutes_of_processors} of processor time, {GIGABYTES_A_JOB} GB of memory for each crate that is proved at a time, "
-        "and 4 GB of disk, most of it until it is done")
+        "and 1 GB of disk")
     if obstacle is not None:
         return contextlib.nullcontext()
     rows = listed()
@@ -452,7 +451,7 @@ def build_over_gate(name):
     taken rt proves them first."""
     folder, made = made_of(name)
     mark_libraries(needed(name, named())[:-1])
-    status, said, _ = called(f"{TOP}/crates/{name}", "lib", "--jobs", str(processors()))
+    status, said, _ = called(f"{TOP}/crates/{name}", *RT_LIB, "--jobs", str(processors()))
     if status:
         sys.exit(said)
     add_allocator(made)
