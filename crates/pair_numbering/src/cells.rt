@@ -92,7 +92,8 @@ fn number_block_evenly(
 
 /// Writes the numbers of the pairs and their masks. The answer is how many masks there are; nothing
 /// if these may be too many for cells of 16 bits.
-#[inline(always)]
+// Its loops need all registers, so it isn't inlined.
+#[inline(never)]
 fn number_blocks(
     pairs: &MaskedPairs<'_>,
     cells: &mut [u16],
