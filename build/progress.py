@@ -52,6 +52,11 @@ class Report:
         left = self.estimate.seconds_left({it: now - since for it, (since, _) in self.running.items()})
         return f"{self.share()} % after {spoken(self.passed())}" + (f", {minutes(left)} left" if left else "")
 
+    def begin_again(self, why: str) -> None:
+        self.done.clear()
+        self.running.clear()
+        self.say(why)
+
     def show(self) -> None:
         if self.is_terminal:
             width = shutil.get_terminal_size().columns - 1

@@ -2,30 +2,22 @@
 import os
 import pathlib
 import shutil
-import signal
-import subprocess
-import sys
 import tempfile
 import time
 import unittest
 import unittest.mock
 
-HERE = pathlib.Path(__file__).resolve().parent
-sys.path.insert(0, str(HERE.parent))
-import preview  # noqa: E402
-import prove  # noqa: E402
-from costs import Estimate, seconds_of  # noqa: E402
+from repository import StandIn
+
+import calls
+import crates
+import plan
+import preview
+from costs import Estimate, seconds_of
 
 BARE = "/usr/bin:/bin"
 IS_BARE = shutil.which("python3", path=BARE) and not shutil.which("rt", path=BARE)
-HAS_ROOM = prove.processors() > 1 and prove.free_gigabytes() >= prove.GIGABYTES_A_JOB + preview.GIGABYTES
-
-
-def folder_of(pid):
-    try:
-        return os.readlink(f"/proc/{pid}/cwd")
-    except OSError:
-        return ""
+HAS_ROOM = plan.processors() > 1 and plan.free_gigabytes() >= plan.GIGABYTES_A_JOB + preview.GIGABYTES
 
 
 class Words(unittest.TestCase):
@@ -131,8 +123,8 @@ class Estimates(unittest.TestCase):
         self.assertAlmostEqual(estimate.seconds_left({}), 60 + 10)
 
     def test_the_first_build(self):
-        crates = prove.needed("minorder", prove.named())
-        left = Estimate(seconds_of(prove.TOP, crates), prove.named(), 4).seconds_left({})
+        seconds = seconds_of(crates.TOP, crates.all_of("minorder"))
+        left = Estimate(seconds, crates.named(), 4).seconds_left({})
         self.assertTrue(8 * 60 < left < 30 * 60, left)
 
 
@@ -143,12 +135,12 @@ class Plans(unittest.TestCase):
     def jobs(self, processors, answer, done=()):
         """The crates that begin at once behind those that are done, with their jobs."""
         room = {"processors": lambda: processors, "free_gigabytes": lambda: 20}
-        with unittest.mock.patch.multiple(prove, **room):
-            plan = prove.Plan(list(self.uses)[:-1], self.uses, self.seconds, answer)
-            plan.left = [it for it in plan.left if it not in done]
-            while started := plan.next(done):
-                plan.start(*started)
-        return plan.running
+        with unittest.mock.patch.multiple(plan, **room):
+            made = plan.Plan(list(self.uses)[:-1], self.uses, self.seconds, answer)
+            made.left = [it for it in made.left if it not in done]
+            while started := made.next(done):
+                made.start(*started)
+        return made.running
 
     def test_the_answer_has_its_processors(self):
         answering = unittest.mock.Mock(is_running=lambda: True)
@@ -164,47 +156,7 @@ class Plans(unittest.TestCase):
             self.assertEqual(self.jobs(2, answer), {"base": 2, "short": 1})
 
 
-def heed_signals():
-    """A shell's background command, as .ci/run begins these tests, ignores interrupts, and what it begins does, too."""
-    for it in prove.SIGNALS:
-        signal.signal(it, signal.SIG_DFL)
-
-
-class Builds(unittest.TestCase):
-    """A repository of three crates, and a folder to call it from."""
-
-    def setUp(self):
-        self.room = pathlib.Path(tempfile.mkdtemp())
-        self.addCleanup(shutil.rmtree, self.room)
-        top = self.room / "top"
-        for crate in ("base", "middle", "minorder"):
-            (top / "crates" / crate / "src").mkdir(parents=True)
-        (top / "crates.txt").write_text("base:\nmiddle: base\nminorder: middle\n")
-        (top / "HANDLES").write_text("Handles allowed: none.\n")
-        (top / "build").mkdir()
-        for file in ("build/program.sh", "build/tools.sh", "minorder", *(f"build/{it.name}" for it in HERE.parent.glob("*.py"))):
-            shutil.copy(HERE.parent.parent / file, top / file)
-        for it in ("work", "temporary"):
-            (self.room / it).mkdir()
-        (self.room / "work" / "a.pla").touch()
-
-    def begin(self, *words, closed=(), through=(), **given):
-        def prepare():
-            heed_signals()
-            for it in closed:
-                os.close(it)
-
-        env = {it: value for it, value in os.environ.items() if it != preview.SWITCH}
-        env.update({"PATH": f"{HERE}:{os.environ['PATH']}", "TMPDIR": f"{self.room}/temporary", **given})
-        return subprocess.Popen([*through, f"{self.room}/top/minorder", *words], cwd=self.room / "work", env=env, text=True,
-                                stdin=subprocess.DEVNULL, stdout=subprocess.PIPE, stderr=subprocess.PIPE, preexec_fn=prepare)
-
-    def assert_clean(self):
-        self.assertEqual(os.listdir(self.room / "temporary"), [])
-        self.assertEqual(os.listdir(self.room / "work"), ["a.pla"])
-        self.assertEqual([str(it) for pattern in ("lanes-*", "**/new-*") for it in (self.room / "top").glob(pattern)], [])
-        self.assertEqual([pid for pid in os.listdir("/proc") if folder_of(pid).startswith(f"{self.room}/")], [])
-
+class Builds(StandIn):
     @unittest.skipUnless(HAS_ROOM, "too little memory or one processor")
     def test_an_answer_comes_before_the_proof(self):
         with self.begin("--cert", "out", "a.pla", PROOF_SECONDS="1") as ran:
@@ -219,7 +171,7 @@ class Builds(unittest.TestCase):
 
     def test_closed_streams_stay_closed(self):
         for closed in ((0,), (1,), (2,), (0, 1, 2)):
-            shutil.rmtree(self.room / "top/crates/minorder/out", ignore_errors=True)
+            shutil.rmtree(self.top / "crates/minorder/out", ignore_errors=True)
             with self.subTest(closed=closed), self.begin("a.pla", closed=closed) as ran:
                 out, said = ran.communicate()
                 self.assertEqual((out, ran.returncode), ("" if 1 in closed else "proved: a.pla\n", 7))
@@ -263,7 +215,7 @@ class Builds(unittest.TestCase):
     def test_an_interrupt_ends_both(self):
         phases = {"try": {"TRY_SECONDS": "60", "PROOF_SECONDS": "60"}, "proof": {"PROOF_SECONDS": "60"}}
         for phase, given in phases.items():
-            for number in prove.SIGNALS:
+            for number in calls.SIGNALS:
                 with self.subTest(phase=phase, signal=number), self.begin("--cert", "out", "a.pla", **given) as ran:
                     time.sleep(1.5)
                     ran.send_signal(number)
