@@ -1,20 +1,27 @@
 #!/usr/bin/env python3
-"""wrong_bodies.py      fails if a wrong body of gate/wrong_bodies.csv isn't shown any more, or an edit changes no code
+"""wrong_bodies.py                fails if something that gate/wrong_bodies.csv names isn't there, or a wrong body changes no code
+wrong_bodies.py --run [NAME..]   runs tests and worked cases on unproved code with their wrong bodies, all or those with these
+                                 names, and fails if one does nothing else than before: 25 minutes of processor time for all
 
-A row of the list says what a wrong body does and what refuses it: an edit that the prover must refuse (CRATE), a test
-(CRATE/FUNCTION), a worked case (FILE/CASE), or a bound that the crate's functions do without (CRATE/BOUND)."""
+A row of the list says what a wrong body does and what shows it: an edit that the prover must refuse (CRATE), a test
+(CRATE/FUNCTION) or a worked case (FILE/CASE) that fails with it, or a bound that the crate's functions do without (CRATE/BOUND).
+The wrong body of a test or a case stands in gate/bodies, in the folder CRATE or FILE. `rt ci` tries the edits."""
 import csv
+import os
 import re
+import shutil
 import sys
 from collections.abc import Iterator
+from concurrent.futures import ThreadPoolExecutor
 from dataclasses import dataclass
 from enum import Enum
 from pathlib import Path
 
-TOP = Path(__file__).resolve().parent.parent
-CRATES = TOP / "crates"
-CASES = CRATES / "worked_cases"
+from body_runs import CRATES, TOP, difference_in_case, difference_in_test, text_of_case
+from edits import Fault, changed_texts
+
 LIST = TOP / "gate/wrong_bodies.csv"
+BODIES = TOP / "gate/bodies"
 
 
 class ShownBy(Enum):
@@ -30,80 +37,137 @@ class Row:
     shown_by: ShownBy
     place: str
 
+    def __str__(self) -> str:
+        return f"{self.wrong_body}: {self.shown_by.value} {self.place}"
+
+    def parts(self) -> tuple[str, str]:
+        first, _, second = self.place.partition("/")
+        return first, second
+
+    def body(self) -> Path:
+        """The wrong body that a test or a case shows."""
+        return BODIES / self.parts()[0] / f"{self.wrong_body}.body"
+
+    def is_run(self) -> bool:
+        return self.shown_by in (ShownBy.TEST, ShownBy.CASE)
+
 
 def rows() -> list[Row]:
     with LIST.open(newline="", encoding="utf-8") as table:
+        lines = csv.DictReader(table)
         try:
-            return [Row(it["wrong_body"], ShownBy(it["shown_by"]), it["place"]) for it in csv.DictReader(table)]
-        except ValueError as error:
-            sys.exit(f"{LIST.relative_to(TOP)}: {error}")
-
-
-def edit_fault(path: Path) -> str | None:
-    """Why an edit shows nothing; None if it changes code. Its pairs of lines apply one after the other, each old text standing
-    once in its file."""
-    texts: dict[Path, str] = {}
-    file, old, pairs = path, "", 0
-    for line in path.read_text(encoding="utf-8").splitlines():
-        word, _, text = line.partition(": ")
-        if word == "file":
-            file = path.parent.parent / text
-            if not text.startswith("src/") or not file.is_file():
-                return f"changes {text}, which is no file of code"
-            texts.setdefault(file, file.read_text(encoding="utf-8"))
-        elif word == "old":
-            old = text
-            if texts[file].count(old) != 1:
-                return f"asks for a text that {file.relative_to(CRATES)} has {texts[file].count(old)} times: {old.strip()}"
-        elif word in ("new", "new:"):
-            texts[file] = texts[file].replace(old, text)
-            pairs += 1
-    return None if pairs else "changes nothing"
+            return [Row(it["wrong_body"], ShownBy(it["shown_by"]), it["place"] or "") for it in lines]
+        except (KeyError, ValueError) as error:
+            sys.exit(f"{LIST.relative_to(TOP)}, line {lines.line_num}: {error}")
 
 
 def sources(crate: str) -> Iterator[str]:
     return (it.read_text(encoding="utf-8") for it in (CRATES / crate / "src").glob("**/*.rt"))
 
 
-def has_test(crate: str, function: str) -> bool:
-    return any(re.search(rf"#\[test\]\s+fn {re.escape(function)}\(", text) for text in sources(crate))
+def need_body(row: Row) -> None:
+    """Fails if a row's wrong body isn't there or changes no code."""
+    if not row.body().is_file():
+        raise Fault(f"has no body {row.body().relative_to(TOP)}")
+    changed_texts(row.body(), CRATES)
 
 
-def has_case(file: str, case: str) -> bool:
-    path = CASES / "data" / file
-    is_carried_out = file in (CASES / "args").read_text(encoding="utf-8").split()
-    return is_carried_out and path.is_file() and f"case {case}" in path.read_text(encoding="utf-8").splitlines()
+def need_test(crate: str, function: str) -> None:
+    if not any(re.search(rf"#\[test\]\s+fn {re.escape(function)}\(", text) for text in sources(crate)):
+        raise Fault("is no test")
 
 
-def is_without(crate: str, bound: str) -> bool:
+def need_case(file: str, case: str) -> None:
+    if file not in (CRATES / "worked_cases/args").read_text(encoding="utf-8").split():
+        raise Fault("is no worked case that is carried out")
+    text_of_case(file, case)
+
+
+def need_without(crate: str, bound: str) -> None:
     texts = list(sources(crate))
-    return bool(texts) and not any(re.search(rf"\b{re.escape(bound)}\b", text) for text in texts)
+    if not texts or any(re.search(rf"\b{re.escape(bound)}\b", text) for text in texts):
+        raise Fault("is a bound that the crate has")
 
 
-def fault_of(row: Row) -> str | None:
-    """Why what a row names doesn't show its wrong body."""
-    first, _, second = row.place.partition("/")
+def need_shown(row: Row) -> None:
+    """Fails if what a row names isn't there."""
+    first, second = row.parts()
     match row.shown_by:
         case ShownBy.EDIT:
-            return None if (CRATES / row.place / f"must-fail/{row.wrong_body}.edit").is_file() else "is not there"
+            if not (CRATES / row.place / f"must-fail/{row.wrong_body}.edit").is_file():
+                raise Fault("is not there")
         case ShownBy.TEST:
-            return None if has_test(first, second) else "is no test"
+            need_test(first, second)
+            need_body(row)
         case ShownBy.CASE:
-            return None if has_case(first, second) else "is no worked case that is carried out"
+            need_case(first, second)
+            need_body(row)
         case ShownBy.BOUND:
-            return None if is_without(first, second) else "is a bound that the crate has"
+            need_without(first, second)
 
 
-def main() -> None:
-    listed, edits = rows(), sorted(CRATES.glob("*/must-fail/*.edit"))
-    faults = [f"{it.wrong_body}: {it.shown_by.value} {it.place} {fault}" for it in listed if (fault := fault_of(it))]
-    faults += [f"{it.relative_to(TOP)} {fault}" for it in edits if (fault := edit_fault(it))]
+def faults_of_list(listed: list[Row], edits: list[Path], bodies: list[Path]) -> Iterator[str]:
+    for row in listed:
+        try:
+            need_shown(row)
+        except Fault as fault:
+            yield f"{row} {fault}"
+    for edit in edits:
+        try:
+            changed_texts(edit, edit.parent.parent)
+        except Fault as fault:
+            yield f"{edit.relative_to(TOP)} {fault}"
+    for body in sorted(set(bodies) - {it.body() for it in listed if it.is_run()}):
+        yield f"{body.relative_to(TOP)} is no row's"
+
+
+def check() -> None:
+    listed, edits, bodies = rows(), sorted(CRATES.glob("*/must-fail/*.edit")), sorted(BODIES.glob("*/*.body"))
+    faults = list(faults_of_list(listed, edits, bodies))
     if faults:
         sys.exit("\n".join(faults))
-    print(f"{len({it.wrong_body for it in listed})} wrong bodies are shown, and each of {len(edits)} edits changes code")
+    print(f"{len({it.wrong_body for it in listed})} wrong bodies: what the list names is there, and {len(edits)} edits and "
+          f"{len(bodies)} bodies change code. Nothing was run: --run sees whether tests and worked cases fail with the bodies")
+
+
+def is_shown(row: Row) -> bool:
+    """Runs what a row names on code with its wrong body, and prints what comes."""
+    first, second = row.parts()
+    try:
+        need_shown(row)
+        run = difference_in_test if row.shown_by is ShownBy.TEST else difference_in_case
+        difference = run(first, second, row.body())
+    except Fault as fault:
+        print(f"FAILED: {row} {fault}", flush=True)
+        return False
+    print(f"{row}: {difference}" if difference else f"FAILED: {row} does nothing else with the body", flush=True)
+    return bool(difference)
+
+
+def run(names: list[str]) -> None:
+    listed = [it for it in rows() if it.is_run()]
+    unknown = set(names) - {it.wrong_body for it in listed}
+    if unknown:
+        sys.exit(f"no test or worked case shows {', '.join(sorted(unknown))}")
+    if not shutil.which("rt"):
+        sys.exit("--run needs rt, of the Rattle kit, on the path")
+    wanted = [it for it in listed if not names or it.wrong_body in names]
+    with ThreadPoolExecutor(max(1, (os.cpu_count() or 1) // 2)) as pool:
+        try:
+            shown = list(pool.map(is_shown, wanted))
+        except KeyboardInterrupt:
+            pool.shutdown(cancel_futures=True)
+            sys.exit("stopped")
+    if not all(shown):
+        sys.exit(f"{shown.count(False)} of {len(shown)} are not shown")
+    print(f"{len(shown)} tests and worked cases fail with their wrong bodies")
 
 
 if __name__ == "__main__":
-    if len(sys.argv) > 1:
-        sys.exit(__doc__)
-    main()
+    match sys.argv[1:]:
+        case []:
+            check()
+        case ["--run", *names]:
+            run(names)
+        case _:
+            sys.exit(__doc__)

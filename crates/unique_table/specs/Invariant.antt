@@ -1,4 +1,4 @@
--- The picture of a store: what is so between any two steps, and what the steps tell.
+-- The invariant of a store, which holds between any two atomic steps, and the kinds of steps.
 --     StoreState, moved s words id v      the words and the views of all seats, and what a step makes of them
 --     IsPut views w      a seat put the word of a node, or comes from one that did
 --     IsKept b s      the rule: nodes and who put them, meaning, what sessions know, and their stakes
