@@ -1,14 +1,20 @@
 #!/usr/bin/env python3
-"""house.py [-v]      counts what makes the crates hard to live in: long contracts, functions of many parameters, code that stands
-                twice, proofs beside code, long lines, and lines of crates.txt and files of proofs that nothing uses. The crates
-                that hold tests alone are left out of the first five. With -v it names the places."""
+"""house.py [-v]      counts what makes the repository hard to live in: long contracts, functions of many parameters, code that
+                stands twice, proofs beside code, long files and lines, and lines of crates.txt and files of proofs that nothing
+                uses. The crates that hold tests alone are left out of the first four, and of the width of comments. With -v it
+                names the places. Exit status 1 if there are more of one than there may be."""
 import os
 import re
 import sys
+from typing import Iterable, Iterator, NamedTuple
 
 TOP = os.path.dirname(os.path.dirname(os.path.abspath(__file__)))
-LONG_CONTRACT, MANY_PARAMETERS, WINDOW = 10, 7, 5
+LONG_CONTRACT, MANY_PARAMETERS, WINDOW, LONG_FILE = 10, 7, 5, 400
 COMMENT_COLUMNS, PYTHON_COLUMNS, PROOF_COLUMNS = 100, 130, 160
+# how many there may be of each
+MOST_CONTRACTS, MOST_PARAMETERS = 10, 0
+MOST_WINDOWS_OF_TWO, MOST_WINDOWS_OF_ONE = 7, 102
+MOST_FILES, MOST_UNUSED, MOST_WIDE = 4, 0, 0
 NO_CODE = ("//", "use ", "ghost use ", "pub use ", "mod ", "pub mod ", "#!")
 FUNCTION = re.compile(r"^\s*(pub(\([a-z]+\))? )?(const )?(unsafe )?(extern \"C\" )?fn (\w+)")
 
@@ -21,35 +27,53 @@ FIXED_CALLS = re.compile(
 WORKED = "Worked"
 # crates of definitions and laws, with little code
 THEORY = ("definitions", "symmetries", "subfunction_classes", "node_words", "round_trip")
+# a line of code with its crate and its place
+Row = tuple[str, str, str]
 
 
-def listed():
+class Count(NamedTuple):
+    """What is counted, where it stands, and how often it may."""
+    what: str
+    places: list[str]
+    most: int
+
+    def is_over(self) -> bool:
+        return len(self.places) > self.most
+
+    def say(self, is_named: bool) -> None:
+        print(f"{self.what}: {len(self.places)}" + (f", MORE THAN {self.most}" if self.is_over() else f" (at most {self.most})"))
+        if is_named:
+            print(*(f"    {it}" for it in self.places), sep="\n")
+
+
+def listed() -> dict[str, list[str]]:
     """The crates of crates.txt, with what each uses."""
     with open(f"{TOP}/crates.txt") as lines:
         rows = [line.partition("#")[0].strip() for line in lines]
     return {re.split(r"[ :]", row)[0]: row.partition(":")[2].split() for row in rows if row}
 
 
-def crates():
+def crates() -> list[str]:
     return [it for it in listed() if not it.endswith("_tests")]
 
 
-def files(folder, ending):
+def files(folder: str, *endings: str) -> Iterator[str]:
     for at, folders, names in os.walk(folder):
-        folders[:] = sorted(it for it in folders if it not in ("out", ".git"))
-        yield from (f"{at}/{name}" for name in sorted(names) if name.endswith(ending))
+        folders[:] = sorted(it for it in folders if it != "out" and not it.startswith("."))
+        yield from (f"{at}/{name}" for name in sorted(names) if name.endswith(endings))
 
 
-def lines_of(path):
+def lines_of(path: str) -> list[str]:
     with open(path, encoding="utf-8") as it:
         return it.read().splitlines()
 
 
-def parameters(lines, at):
+def parameters(lines: list[str], at: int) -> int:
     """How many parameters the function at a line has."""
     text = " ".join(line.split("//")[0] for line in lines[at:at + 30])
     text = text[text.index("(") + 1:]
-    depth, parts, part = 0, [], ""
+    depth, part = 0, ""
+    parts: list[str] = []
     for char in text.replace("->", "  "):
         if char == ")" and depth == 0:
             break
@@ -62,7 +86,7 @@ def parameters(lines, at):
     return sum(bool(it.strip()) for it in (*parts, part))
 
 
-def contract_lines(lines, at):
+def contract_lines(lines: list[str], at: int) -> int:
     """How many lines its contract has, from the first clause to the body."""
     first = None
     for number in range(at, len(lines)):
@@ -78,7 +102,7 @@ def contract_lines(lines, at):
     return 0
 
 
-def functions():
+def functions() -> Iterator[tuple[str, int, int]]:
     for crate in crates():
         for path in files(f"{TOP}/crates/{crate}/src", ".rt"):
             lines = lines_of(path)
@@ -89,7 +113,7 @@ def functions():
                     yield place, parameters(lines, at), contract_lines(lines, at)
 
 
-def code(path):
+def code(path: str) -> Iterator[tuple[int, str]]:
     """The lines of code, with their numbers: no blank ones, comments, imports, closing brackets."""
     for number, line in enumerate(lines_of(path), 1):
         line = line.strip()
@@ -97,20 +121,31 @@ def code(path):
             yield number, line
 
 
-def windows():
-    """The runs of five equal lines of code that stand in two crates."""
-    seen = {}
+def rows_of_code() -> Iterator[list[Row]]:
+    """The lines of code of each file."""
     for crate in crates():
         for path in files(f"{TOP}/crates/{crate}/src", ".rt"):
-            rows = list(code(path))
-            for at in range(len(rows) - WINDOW + 1):
-                text = tuple(line for _, line in rows[at:at + WINDOW])
-                seen.setdefault(text, []).append((crate, f"{os.path.relpath(path, TOP)}:{rows[at][0]}"))
-    twice = (places for places in seen.values() if len({crate for crate, _ in places}) > 1)
-    return [" ~ ".join(place for _, place in places) for places in twice]
+            yield [(crate, f"{os.path.relpath(path, TOP)}:{number}", line) for number, line in code(path)]
 
 
-def unused():
+def windows(rows_of_files: Iterable[list[Row]]) -> tuple[list[str], list[str]]:
+    """The runs of equal lines that stand twice: in two crates, and in one."""
+    seen: dict[tuple[str, ...], list[tuple[str, str]]] = {}
+    for rows in rows_of_files:
+        for at in range(len(rows) - WINDOW + 1):
+            window = rows[at:at + WINDOW]
+            crate, place, _ = window[0]
+            seen.setdefault(tuple(line for *_, line in window), []).append((crate, place))
+    of_two: list[str] = []
+    of_one: list[str] = []
+    for places in seen.values():
+        if len(places) > 1:
+            among = of_two if len({crate for crate, _ in places}) > 1 else of_one
+            among.append(" ~ ".join(place for _, place in places))
+    return of_two, of_one
+
+
+def unused() -> Iterator[str]:
     """What crates.txt says that a crate uses, and its sources don't name; and files of lemmas that nothing cites."""
     rows = listed()
     paths = (path for crate in rows for end in (".rt", ".antt") for path in files(f"{TOP}/crates/{crate}", end))
@@ -127,7 +162,14 @@ def unused():
                 yield f"crates/{crate}/proofs/{place}"
 
 
-def wide_lines():
+def long_files() -> Iterator[str]:
+    for path in files(TOP, ".rt", ".antt", ".py"):
+        count = len(lines_of(path))
+        if count > LONG_FILE:
+            yield f"{count} {os.path.relpath(path, TOP)}"
+
+
+def wide_lines() -> Iterator[str]:
     for crate in crates():
         for path in files(f"{TOP}/crates/{crate}/src", ".rt"):
             for number, line in enumerate(lines_of(path), 1):
@@ -143,36 +185,41 @@ def wide_lines():
                 yield f"{os.path.relpath(path, TOP)}:{number}"
 
 
-def say_lines(what, among):
+def say_lines(what: str, among: Iterable[str]) -> None:
     proofs, rust = (
         sum(len(lines_of(path)) for crate in among for path in files(f"{TOP}/crates/{crate}", end)) for end in (".antt", ".rt"))
     print(f"{what}: {proofs} to {rust}, {proofs / rust:.2f}")
 
 
-def say(what, places, is_named):
-    print(f"{what}: {len(places)}")
-    if is_named:
-        print(*(f"    {it}" for it in places), sep="\n")
-
-
-def main(is_named):
-    all_functions = list(functions())
-    long = sorted((lines, place) for place, _, lines in all_functions if lines >= LONG_CONTRACT)
-    many = sorted((count, place) for place, count, _ in all_functions if count >= MANY_PARAMETERS)
-    contracts = f"contracts of {LONG_CONTRACT} lines or more, of {len(all_functions)} functions"
-    say(contracts, [f"{lines} {place}" for lines, place in reversed(long)], is_named)
-    free = sum(not FIXED_CALLS.fullmatch(place) for _, place in many)
-    parameters_of = f"functions of {MANY_PARAMETERS} parameters or more ({free} but for calls whose form is fixed outside)"
-    say(parameters_of, [f"{count} {place}" for count, place in reversed(many)], is_named)
-    say(f"equal windows of {WINDOW} lines of code in two crates", windows(), is_named)
-    say_lines("lines of .antt to lines of .rt", [it for it in crates() if it not in THEORY])
-    say_lines(f"the same of the crates of definitions and laws ({', '.join(THEORY)})", THEORY)
-    say("lines of crates.txt and files of lemmas that nothing uses", list(unused()), is_named)
+def counts() -> list[Count]:
+    every = list(functions())
+    long = sorted((lines, place) for place, _, lines in every if lines >= LONG_CONTRACT)
+    many = sorted((count, place) for place, count, _ in every if count >= MANY_PARAMETERS and not FIXED_CALLS.fullmatch(place))
+    of_two, of_one = windows(rows_of_code())
     wide = f"comments over {COMMENT_COLUMNS} columns, Python lines over {PYTHON_COLUMNS}, lines of proofs over {PROOF_COLUMNS}"
-    say(wide, list(wide_lines()), is_named)
+    return [
+        Count(f"contracts of {LONG_CONTRACT} lines or more, of {len(every)} functions",
+              [f"{lines} {place}" for lines, place in reversed(long)], MOST_CONTRACTS),
+        Count(f"functions of {MANY_PARAMETERS} parameters or more, but for calls whose form is fixed outside",
+              [f"{count} {place}" for count, place in reversed(many)], MOST_PARAMETERS),
+        Count(f"equal windows of {WINDOW} lines of code in two crates", of_two, MOST_WINDOWS_OF_TWO),
+        Count("such windows in one crate", of_one, MOST_WINDOWS_OF_ONE),
+        Count(f"files over {LONG_FILE} lines", list(long_files()), MOST_FILES),
+        Count("lines of crates.txt and files of lemmas that nothing uses", list(unused()), MOST_UNUSED),
+        Count(wide, list(wide_lines()), MOST_WIDE),
+    ]
+
+
+def main(is_named: bool) -> int:
+    found = counts()
+    for count in found:
+        count.say(is_named)
+    say_lines("lines of .antt to lines of .rt", [it for it in crates() if it not in THEORY])
+    say_lines(f"of the crates of definitions and laws ({', '.join(THEORY)})", THEORY)
+    return int(any(count.is_over() for count in found))
 
 
 if __name__ == "__main__":
     if set(sys.argv[1:]) - {"-v"}:
         sys.exit(__doc__)
-    main("-v" in sys.argv[1:])
+    sys.exit(main("-v" in sys.argv[1:]))
