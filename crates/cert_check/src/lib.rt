@@ -1,8 +1,8 @@
 //! The checker of certificates: whether a certificate shows that no order that keeps its pairs has
 //! fewer nodes, else the first reason why not.
 //!
-//! It takes no step of the search: both stand on the same definitions and laws, on the types of
-//! problems, orders and pairs, and on the numbering of pairs of classes.
+//! It doesn't search. It shares with the search definitions and laws, the types of problems and
+//! orders, the numbering of pairs of classes and the counting of those that depend on a variable.
 #![tactic(auto)]
 
 mod checking;

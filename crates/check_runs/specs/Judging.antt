@@ -141,7 +141,7 @@ pub record CheckEnds (file cert : Option (List ℕ)) (before after : Devices) (o
   -- 0 and 1: the line of the verdict is written; 3: the first fault of the file, else of the certificate; 3 and 4: nothing is written
   pub checks : IfSome file (λ bytes. IfSome cert (λ text. ChecksAs bytes text before.out after.out outcome))
   pub verdicts_whatever_is_read : Verdicts before.out after.out outcome
-  -- 5: only if a call of a device fails
+  -- 5: only if a call of a device fails, or a count of failed calls stood at 2^64 - 1
   pub fails_only_by_device : FailsOnlyByDevice before.failed after.failed outcome
 
 -- how ordercheck ends: its exit status, and what its streams hold before and after

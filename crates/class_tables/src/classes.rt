@@ -110,7 +110,7 @@ impl<'a> Classes<'a> {
         Ok(width)
     }
 
-    /// The same, in rows that are lent, and with no memory of its own.
+    /// The width of a variable over the set, in rows that are lent. The tally rises by one.
     pub fn width_in(&self, x: VarIx, scratch: &mut Scratch, tally: &mut Tally) -> u32
         requires inside { x < self.now.problem.inputs }
         requires new { IsFalse (has (set_of self.now) x) }
@@ -161,7 +161,8 @@ impl<'a> Classes<'a> {
         })
     }
 
-    /// The same, with the pairs numbered in an `IndexSet`. Slower: only tests call it, to compare.
+    /// The classes of the set with a variable more, whose pairs are numbered in an `IndexSet`.
+    /// Slower than `compact`: only tests call it, to compare.
     pub fn compact_indexed(&self, alloc: Global, x: VarIx) -> Result<Classes<'a>, AllocError>
         requires inside { x < self.now.problem.inputs }
         requires new { IsFalse (has (set_of self.now) x) }

@@ -2,8 +2,8 @@
 --     none_wanted      nothing is wanted of any set
 --     request_kept      some more members of a set
 --     more_wanted, kept_wanted      they are wanted, and all that was wanted before
+--     request_written, kept_written, more_written      the same where the place is read before it is written
 --     all_members      all members of a set are wanted
---     block_asked      what is wanted of one more set of a block
 --     wanted_members      what is wanted of one set are its members
 use Rattle.std.proofs.Common.{◌≡◌, ℕ, ◌+◌, ◌*◌, ◌-◌, ◌/◌, ◌%◌, ◌^◌, ◌<◌, ◌≤◌, inl, inr, IsTrue, List, replicate, length, slice_index, get_or, set, get_or-set_same, get_or-set_other, sym, ap, ◌∙◌, subst, arith, bit_and, bit_or, pow_mono, pow-add}
 use Rattle.std.specs.Int.{bit_at}

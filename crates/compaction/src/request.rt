@@ -44,7 +44,7 @@ impl WidthRequest {
         })
     }
 
-    /// The same is wanted.
+    /// A copy of the request.
     pub(crate) fn try_clone(&self, alloc: Global) -> Result<WidthRequest, AllocError>
         ensures inputs { IfOk result (λ w. w.inputs ≡ self.now.inputs) }
         ensures low { IfOk result (λ w. w.low ≡ self.now.low) }

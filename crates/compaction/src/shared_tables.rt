@@ -74,7 +74,7 @@ fn concatenate<'a>(
     Ok(all)
 }
 
-/// The same, by workers.
+/// Tables with one more low variable in each set, made by workers.
 fn with_low_by_threads<'a, R: Threads + Sync>(
     rt: &R,
     alloc: Global,
@@ -120,7 +120,8 @@ fn tables_of_low_sets<'a>(
     Ok(tables)
 }
 
-/// The same, by workers.
+/// The tables of all sets of low variables, made by workers, in the order of their masks, from that
+/// of the empty set if there is one.
 fn tables_by_threads<'a, R: Threads + Sync>(
     rt: &R,
     alloc: Global,
@@ -215,7 +216,7 @@ impl<'a> SharedTables<'a> {
         })
     }
 
-    /// The same, made by workers.
+    /// With all that serves several blocks, made by workers.
     pub fn by_threads<R: Threads + Sync>(
         rt: &R,
         alloc: Global,

@@ -123,7 +123,7 @@ fn all_distinct(outer: &[u32], numbers: &[u32], masks: &[Mask], set: Mask) -> bo
         && are_all(masks, set)
 }
 
-/// The same width at each wanted variable, else 0.
+/// The row that has one width at each wanted variable, and 0 elsewhere.
 fn same_row(width: u32, wanted: Mask) -> WidthRow
     ensures { (x : ℕ) → x < 16 →
         slice_index result x ≡ (if bit_at wanted x == 1 then width else 0) }

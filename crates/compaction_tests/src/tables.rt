@@ -96,7 +96,7 @@ fn compact_by_each(rt: &impl Abort, alloc: Global, problem: &Problem, classes: &
     }
 }
 
-/// The same at every set.
+/// Adds to every set each variable that isn't in it, in both ways.
 fn compact_all(rt: &impl Abort, alloc: Global, problem: &Problem) {
     for mask in 0..64u16 {
         if u32::from(mask) < 1u32 << problem.inputs() {

@@ -59,7 +59,7 @@ fn sum_of_rows(
     sum
 }
 
-/// The same, where the widths are taken first.
+/// The sum of the widths that are taken of a block, whose rows are to be those by each set alone.
 fn sum_of_block(
     rt: &impl Abort,
     alloc: Global,
@@ -78,7 +78,7 @@ fn sum_of_block(
     sum_of_rows(rt, alloc, problem, block, &widths)
 }
 
-/// The same for all blocks of the layer of the sets of a size.
+/// The sum of the widths of the layer of the sets of a size, taken block by block.
 fn sum_of_layer(rt: &impl Abort, alloc: Global, problem: &Problem, size: u8) -> u64 {
     let layer = Layer::of(alloc, problem.inputs(), size).expect(rt, "memory");
     let shared = SharedTables::of(alloc, problem).expect(rt, "memory");

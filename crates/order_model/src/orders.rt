@@ -138,7 +138,7 @@ impl Order {
         self.variables.swap(level, level + 1);
     }
 
-    /// The same order once more.
+    /// A copy of the order.
     pub fn try_clone(&self, alloc: Global) -> Result<Order, AllocError>
         ensures { IfOk result (λ order. order ≡ self.now) }
     {

@@ -293,7 +293,7 @@ impl Pairs {
         Ok(Order::from_variables(variables))
     }
 
-    /// The same pairs once more.
+    /// A copy of the pairs.
     pub fn copied(&self) -> Pairs
         ensures { result ≡ self.now }
     {

@@ -46,7 +46,7 @@ impl<'a> LayerContext<'a> {
         }
     }
 
-    /// The same context, with a source of widths.
+    /// This context with a source of widths.
     pub(crate) fn with_source(self, source: &'a WidthSource<'a>) -> LayerContext<'a>
         requires { source.now ≡ self.instance.problem }
         ensures { result ≡ record self.entry { has_source = true } }

@@ -69,7 +69,7 @@ pub fn find_optimum<R: Threads + Sync, G: Gate>(
     optimum_of(alloc, &cells)
 }
 
-/// The same as `find_optimum`, by the calling thread alone.
+/// The order of `find_optimum`, by the calling thread alone.
 pub fn find_optimum_alone(
     alloc: Global,
     problem: &Problem,
@@ -84,8 +84,8 @@ pub fn find_optimum_alone(
     optimum_of(alloc, &cells)
 }
 
-/// The same as `find_optimum`, with what the order's certificate lists. For that the search counts
-/// on one node above a set for each essential variable outside, and no more.
+/// The order of `find_optimum`, with what its certificate lists. For that the search counts on one
+/// node above a set for each essential variable outside, and no more.
 pub fn solve<R: Threads + Sync, G: Gate>(
     rt: &R,
     alloc: Global,
@@ -107,7 +107,7 @@ pub fn solve<R: Threads + Sync, G: Gate>(
     solution_of(alloc, &cells)
 }
 
-/// The same as `solve`, by the calling thread alone.
+/// The solution of `solve`, by the calling thread alone.
 pub fn solve_alone(alloc: Global, problem: &Problem, sifted: Sifted) -> Result<Solution, AllocError>
     requires { sifted.problem ≡ problem.now }
     ensures solution { IfOk result (IsSolution problem.now sifted.pairs) }

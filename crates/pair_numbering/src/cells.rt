@@ -53,7 +53,8 @@ fn number_block(
     count
 }
 
-/// The same with no such branch, and more to write.
+/// Numbers the pairs of a block as `number_block` does, without a branch on whether a pair is new:
+/// the mask of each pair is written.
 #[inline(always)]
 fn number_block_evenly(
     pairs: &MaskedPairs<'_>,

@@ -47,7 +47,8 @@ pub(crate) fn best_order<R: Threads + Sync>(
     })
 }
 
-/// The same of a problem whose truth tables are small, by the calling thread alone.
+/// The first order of the fewest nodes among those that keep the pairs, and the cells that its
+/// certificate lists if one is to be written. It is for problems whose truth tables are small.
 pub(crate) fn small_best(
     alloc: Global,
     problem: &Problem,

@@ -135,7 +135,7 @@ pub(crate) struct Found {
     pub file_size: u64,
 }
 
-/// The same of a problem whose truth tables are small, by the calling thread alone.
+/// What the search finds of a problem whose truth tables are small, by the calling thread alone.
 fn search_small(
     alloc: Global,
     instance: &Instance<'_>,

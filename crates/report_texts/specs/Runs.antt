@@ -216,7 +216,7 @@ pub record RunEnds (plan : RunPlan) (file : Option (List ℕ)) (before after : D
   -- 3: the first fault of the file, or too many bytes; 8: the fault of the pairs
   pub tells : IfSome file (λ bytes. Tells plan bytes outcome)
   pub hindered_whatever_is_read : IsHindered plan IsCover outcome
-  -- 5: only if a call of a device fails
+  -- 5: only if a call of a device fails, or a count of failed calls stood at 2^64 - 1
   pub fails_only_by_device : FailsOnlyByDevice before.failed after.failed outcome
   -- 6: never
   pub never_full : outcome ≢ Refused StoreFull

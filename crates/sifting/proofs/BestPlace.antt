@@ -1,5 +1,4 @@
 -- The variable at its uppermost place of least size is at its best place.
---     own_place      an order is a placement of each of its variables
 --     none_higher, none_lower      beyond the places where the moves stop no order keeps the pairs
 --     best_is      the best of the placements that keep the pairs
 use Rattle.std.proofs.Common.{◌≡◌, ℕ, zero, suc, ◌+◌, ◌-◌, ◌<◌, ◌≤◌, Bool, true, false, cond, List, [], ◌∷◌, ◌++◌, map, length, get_or, slice_index, refl, sym, ap, ap₂, ◌∙◌, subst, arith, nat_eq, add-one}

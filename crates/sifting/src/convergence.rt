@@ -114,8 +114,8 @@ impl Sifted {
         self.sifted_to_convergence(alloc)
     }
 
-    /// The same by as many threads as there are workers, four at most: half of them for each of the
-    /// two starts.
+    /// The order of `search_bound`, by as many threads as there are workers, four at most: half of
+    /// them for each of the two starts.
     pub fn search_bound_by_threads<R: Threads + Sync>(
         self,
         rt: &R,

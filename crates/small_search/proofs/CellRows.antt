@@ -1,8 +1,8 @@
 -- The costs of the sets without one member, and the widths of all members, for the first variables.
 --     AreRowsBelow t mask below widths k      the entries of the members below k
 --     rows_start, rows_member, rows_other      none; one variable more
---     cost_below      the cost of a set without one member is in the list of cells
 --     rows_all      those of all members give the cell
+--     cost_at      the cost of a smaller set is in the list of cells
 use Rattle.std.proofs.Common.{◌≡◌, ℕ, ◌+◌, ◌-◌, ◌^◌, ◌<◌, ◌≤◌, Bool, if◌then◌else◌, nat_eq, inl, inr, true, false, eq-eqb, ne_eqb, List, [], length, get_or, set, slice_index, sym, ap, ◌∙◌, arith}
 use Rattle.std.proofs.lemmas.Bool.{cases_eq, false≢true}
 use Rattle.std.proofs.lemmas.List.{length-set}

@@ -114,7 +114,7 @@ pub fn find_optimum(
     optimum_of(alloc, &AllCells::of_cells(&instance, cells))
 }
 
-/// The same, with what the order's certificate lists.
+/// The order of `find_optimum`, with what its certificate lists.
 pub fn solve(alloc: Global, problem: &Problem, pairs: &Pairs) -> Result<Solution, AllocError>
     requires { pairs.now.inputs ≡ problem.now.inputs }
     ensures { IfOk result (IsSolution problem.now pairs.now.pairs) }

@@ -57,7 +57,7 @@ fn needed_members(instance: &Instance<'_>, before: &Costs, mask: Mask) -> Mask
     }
 }
 
-/// The same for each set of a block of the next layer.
+/// For each set of a block of the next layer, the members whose widths its cell takes.
 pub fn needs_of_block(
     alloc: Global,
     instance: &Instance<'_>,

@@ -27,8 +27,8 @@ pub fn optimum_of(alloc: Global, cells: &AllCells<'_>) -> Result<SizedOrder, All
     })
 }
 
-/// The same, with what its certificate lists. For that the cells count on one node above a set for
-/// each essential variable outside, and no more.
+/// The order of `optimum_of`, with what its certificate lists. For that the cells count on one node
+/// above a set for each essential variable outside, and no more.
 pub fn solution_of(alloc: Global, cells: &AllCells<'_>) -> Result<Solution, AllocError>
     requires { cells.now.bound_above ≡ Variables }
     ensures solution { IfOk result (IsSolution cells.now.problem cells.now.pairs.pairs) }

@@ -346,7 +346,7 @@ fn draw(board: &Board, mut seat: BoardSeat) -> u64
     places
 }
 
-/// The same by a thread for each seat.
+/// What `draw` answers for each seat, by a thread each.
 fn draw_all<R: Abort + Threads + Sync>(rt: &R, board: &Board, seats: Vec<BoardSeat>) -> Vec<u64>
     requires { All (λ s. s ≡ first_seat board.now) seats.items }
 {

@@ -92,7 +92,7 @@ fn first_of(rt: &impl Abort, instance: &Instance<'_>, layer: &Layer, cells: &[Ce
     (layer.mask_at(0), cells[0])
 }
 
-/// The same, where a lone worker finds the cells.
+/// A layer's first set, and its cell as a lone worker finds it.
 fn first_cell(
     rt: &impl Abort,
     alloc: Global,
@@ -202,7 +202,7 @@ fn posts_once(
     first == Ok(()) && second == Err(PostRefused::Double)
 }
 
-/// The same, from a thread of its own.
+/// Whether a seat can post a cell from another thread, and only once.
 fn posts_once_apart<R: Threads + Sync>(
     rt: &R,
     board: &Board,
@@ -285,7 +285,7 @@ fn hold_and_leave(
     assert!(rt; error_of_closing(alloc, board, seat) == Some(CloseError::Missing(3)));
 }
 
-/// The same, and posts its cell.
+/// Holds a claim at a board for two workers of a layer, and posts its cell.
 fn hold_and_post<R: Abort + Threads + Sync>(
     rt: &R,
     alloc: Global,
@@ -321,7 +321,7 @@ fn hold_claims<R: Abort + Threads + Sync>(
     hold_and_post(rt, alloc, instance, layer, &context, mask, cell);
 }
 
-/// The same in the layer of the sets of two variables.
+/// Holds a claim at two boards of the layer of the sets of two variables.
 fn hold_in_second_layer<R: Abort + Threads + Sync>(rt: &R, alloc: Global, instance: &Instance<'_>) {
     let before = first_costs(rt, alloc, instance);
     let layer = Layer::of(alloc, instance.inputs(), 2).expect(rt, "memory");

@@ -144,7 +144,8 @@ fn builds_interleaved<R: Abort + Threads + Sync>(
     is_interleaved(&built.expect(rt, "memory"))
 }
 
-/// The same of the diagram that is built from its truth tables.
+/// Whether the diagram that is built from a cover's truth tables is that of the interleaved
+/// products.
 fn builds_interleaved_from_tables<R: Abort + Threads + Sync>(
     rt: &R,
     alloc: Global,

@@ -1,7 +1,7 @@
 -- Sets by their variables below a bound: the lowest bits of a mask.
 --     low_more, low_same      the part of a mask below one variable more
 --     low_new, low_all      it lacks the variable; below all variables it is the mask
---     bit_unset, member_from, unset_bit      a bit of a mask, and its member
+--     bit_unset, unset_bit      a bit of a mask, and its member
 use Rattle.std.proofs.Common.{◌≡◌, ℕ, ◌+◌, ◌*◌, ◌/◌, ◌%◌, ◌^◌, ◌<◌, false, ap, ◌∙◌, arith, bit_and, bit_or}
 use Rattle.std.specs.Int.{bit_at}
 use Rattle.std.proofs.Math.Nat.{mod-lt, mod-eq_of_lt}

@@ -1,7 +1,7 @@
 -- What each variable reaches along pairs, joined through one variable after the other.
 --     Reaches P k reached      the masks have the pairs, only what pairs lead to, and are closed under steps through the first k variables
---     start, joined      the masks of the pairs, and one variable more
---     all_reached      closed under all 16, the masks have all that pairs lead to
+--     start, one_more      the masks of the pairs, and one variable more
+--     all_reached      closed under steps through all the variables of the pairs, the masks have all that pairs lead to
 use Rattle.std.proofs.Common.{◌≡◌, ◌↔◌, ℕ, ◌+◌, ◌<◌, ◌≤◌, true, cond, ◌⊎◌, inl, inr, List, length, get_or, refl, ◌∙◌, arith, eqb, bit_or, set}
 use Rattle.std.specs.Int.{bit_at}
 use Rattle.std.proofs.lemmas.Bool.{cases_eq}
