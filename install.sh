@@ -95,17 +95,7 @@ documents() {
 commands() {
     local name module
     sed -n '/^\[project.scripts\]/,/^\[/s/^\(minorder-[a-z]*\) = "\(.*\):main"$/\1 \2/p' "$top/bindings/python/pyproject.toml" | while read -r name module; do
-        cat << END > "$made/tree/bin/$name"
-#!/usr/bin/env python3
-import os
-import sys
-
-sys.dont_write_bytecode = True
-sys.path.insert(0, os.path.join(os.path.dirname(os.path.dirname(os.path.realpath(__file__))), "share", "minorder", "python"))
-from $module import main  # noqa: E402
-
-sys.exit(main())
-END
+        sed "s/MODULE/$module/" "$top/bindings/python/backend/command.py" > "$made/tree/bin/$name"
         chmod 755 "$made/tree/bin/$name"
     done
 }

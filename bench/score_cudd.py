@@ -54,11 +54,12 @@ def main():
     # what is late in one of both depends on the machine
     ended = {line.name for line in found.standing.ended} & {line.name for line in league.ended}
     mine, theirs = found.standing.of(ended), league.of(ended)
-    other = [it.name for it, its in zip(mine.lines, theirs.lines) if it.median_nodes != its.median_nodes]
+    other = [it.name for it, its in zip(mine.lines, theirs.lines) if it.counted_nodes != its.counted_nodes]
     if other or len(league.ended) - len(ended) > 1:
         sys.exit(f"score_cudd.py: another size for {' '.join(other)}; {len(ended)} of {len(league.ended)} ended")
-    worst = f"{mine.worst_ratio:.2f} ({mine.worst.name})"
-    print(f"CUDD's SIFT by the harness and minorder-score: mean ratio {mine.mean:.3f}, worst {worst}, optimum met in {mine.met} "
+    worst = f"{benchmarks.fixed(mine.worst_ratio, 2)} ({mine.worst.name})"
+    mean = benchmarks.fixed(mine.mean, 3)
+    print(f"CUDD's SIFT by the harness and minorder-score: mean ratio {mean}, worst {worst}, optimum met in {mine.met} "
           f"of {len(ended)}: the row of the league")
 
 

@@ -3,84 +3,18 @@
                          of results, the page without scripts, a narrow screen
 
 Wants Debian's chromium, chromium-driver and python3-selenium (so /usr/bin/python3), and is left out without them."""
-import os
+import itertools
+import re
 import shutil
 import sys
-import tempfile
-import time
 import unittest
 
-HERE = os.path.dirname(os.path.abspath(__file__))
-sys.path.insert(0, f"{HERE}/../bindings/python")
-import test_page  # noqa: E402
-from minorder import benchmarks  # noqa: E402
-
-PAGE = os.path.abspath(sys.argv[1] if len(sys.argv) > 1 else test_page.PAGE)
-OPTIMA = benchmarks.optima()
-FILE = benchmarks.standings(benchmarks.league(), OPTIMA, benchmarks.FILE)
-RANDOM = benchmarks.standings(benchmarks.league(), OPTIMA, benchmarks.RANDOM)
-SIFT = ("CUDD", "SIFT")
-SECONDS = 20
-
-
-def browser(width=1400, height=1000, scripts=True):
-    from selenium import webdriver
-    from selenium.webdriver.chrome.options import Options
-    from selenium.webdriver.chrome.service import Service
-    options = Options()
-    options.binary_location = shutil.which("chromium")
-    for word in ("--headless=new", "--no-sandbox", "--disable-gpu", "--disable-dev-shm-usage", f"--window-size={width},{height}"):
-        options.add_argument(word)
-    options.set_capability("goog:loggingPrefs", {"browser": "ALL"})
-    if not scripts:
-        options.add_experimental_option("prefs", {"profile.managed_default_content_settings.javascript": 2})
-    driver = webdriver.Chrome(service=Service(shutil.which("chromedriver")), options=options)
-    metrics = {"width": width, "height": height, "deviceScaleFactor": 1, "mobile": False}
-    driver.execute_cdp_cmd("Emulation.setDeviceMetricsOverride", metrics)
-    return driver
-
-
-class Opened(unittest.TestCase):
-    """A page that is open, without an error in the browser's console when a test ends."""
-    scripts, width = True, 1400
-
-    @classmethod
-    def setUpClass(cls):
-        cls.driver = browser(cls.width, scripts=cls.scripts)
-
-    @classmethod
-    def tearDownClass(cls):
-        cls.driver.quit()
-
-    def setUp(self):
-        self.open()
-
-    def tearDown(self):
-        self.assertEqual(self.driver.get_log("browser"), [])
-
-    def open(self, link=""):
-        self.driver.get("about:blank")
-        self.driver.get(f"file://{PAGE}{link}")
-
-    def all(self, selector):
-        return self.driver.find_elements("css selector", selector)
-
-    def one(self, selector):
-        return self.driver.find_element("css selector", selector)
-
-    def texts(self, selector):
-        return [it.text for it in self.all(selector)]
-
-    def names(self):
-        """The functions in the table, from the top."""
-        rows = "[...document.querySelectorAll('#functions-table tbody tr')]"
-        return self.driver.execute_script(f"return {rows}.map(it => it.dataset.name)")
-
-    def until(self, what):
-        end = time.monotonic() + SECONDS
-        while not what():
-            self.assertLess(time.monotonic(), end)
-            time.sleep(0.05)
+import test_page
+from check_keys import Address, Keyboard  # noqa: F401
+from check_results import Results  # noqa: F401
+from minorder import benchmarks
+from minorder.benchmarks import fixed
+from page_browser import FILE, OPTIMA, RANDOM, SIFT, Opened
 
 
 class Tables(Opened):
@@ -93,7 +27,7 @@ class Tables(Opened):
                 found = [key(OPTIMA[name]) for name in self.names()]
                 self.assertEqual(found, sorted(found, reverse=turned))
         self.one("#functions-table thead th:first-child").click()
-        self.assertEqual(self.names()[0], min(OPTIMA))
+        self.assertEqual(self.names(), sorted(OPTIMA, key=lambda name: re.sub(r"\d+", lambda it: it[0].zfill(5), name)))
         self.one("#league-table thead th:nth-child(2)").click()
         means = [float(text) for text in self.texts("#league-table tbody td:nth-child(2)")]
         self.assertEqual(means, sorted(means))
@@ -113,36 +47,60 @@ class Tables(Opened):
         self.assertEqual(set(self.names()), {it.name for it in OPTIMA.values() if it.family == "hidden weighted bit"})
         self.one("button[type=reset]").click()
         self.until(lambda: len(self.names()) == len(OPTIMA))
+        self.one("#family option:nth-child(2)").click()
+        self.assertLess(len(self.names()), len(OPTIMA))
+        self.one("button[type=reset]").click()
+        self.until(lambda: len(self.names()) == len(OPTIMA))
         self.one("#inputs-least").send_keys("16")
         self.one("#outputs-most").send_keys("1")
         wanted = {it.name for it in OPTIMA.values() if it.inputs == 16 and it.outputs == 1}
         self.assertEqual(set(self.names()), wanted)
         self.assertEqual(self.one("#shown").text, f"{len(wanted)} of {len(OPTIMA)} functions")
 
+    def test_the_first_press_after_typing_opens_a_function(self):
+        fields = (("hwb", "#words"), ("add", "#words"), ("4", "#inputs-least"), ("9", "#inputs-most"), ("5", "#outputs-least"))
+        for typed, into in fields * 2:
+            self.open()
+            self.one(into).send_keys(typed)
+            link = self.all("#functions-table tbody a")[1]
+            name = link.text
+            self.press(link)
+            self.until(lambda: self.texts("#function h2") == [name])
+
     def test_the_sizes_of_another_method_are_shown(self):
         next(it for it in self.all("#method option") if it.text == "CUDD SIFT").click()
-        sizes = {line.name: line.median_nodes for line in FILE[SIFT].lines}
-        rows = "[...document.querySelectorAll('#functions-table tbody tr')]"
-        rows = self.driver.execute_script(f"return {rows}.map(it => [it.dataset.name, it.cells[7].textContent])")
-        self.assertEqual({name: int(text) if text else None for name, text in rows}, sizes)
+        sizes = {line.name: line.counted_nodes for line in FILE[SIFT].lines}
+        rows = self.driver.execute_script("""
+            return [...document.querySelectorAll('#functions-table tbody tr')]
+                .map(it => [it.dataset.name, [it.cells[7].textContent, it.cells[9].textContent]])""")
+        texts = {name: [str(nodes), fixed(nodes / OPTIMA[name].optimum, 3)] for name, nodes in sizes.items() if nodes}
+        self.assertEqual(dict(rows), {**dict.fromkeys(sizes, ["", ""]), **texts})
+        self.assertEqual(self.driver.execute_script("return (2.3125).toFixed(3)"), fixed(2.3125, 3))
         self.one("#functions-table thead th:nth-child(8)").click()
         found = [sizes[name] for name in self.names() if sizes[name] is not None]
         self.assertEqual(found, sorted(found))
 
-    def test_nothing_is_loaded_and_the_means_are_the_leagues(self):
+    def test_nothing_is_loaded_and_the_figures_are_the_leagues(self):
         self.assertEqual(self.driver.execute_script("return performance.getEntriesByType('resource').length"), 0)
-        found = self.driver.execute_script(
-            "return page.methods.map(it => [it.package, it.name, standing(it, 'file').mean, standing(it, 'randomStarts').mean])")
-        for package, name, mean, random in found:
-            self.assertAlmostEqual(mean, FILE[package, name].mean, 12)
-            self.assertAlmostEqual(random, RANDOM[package, name].mean, 12)
+        for league, start in ((FILE, "file"), (RANDOM, "randomStarts")):
+            found = self.driver.execute_script("""
+                return page.methods.map(it => [it.package, it.name, standing(it, arguments[0])])
+                    .map(([of, name, it]) => [of, name, [it.mean, it.meanOfEnded, it.worst.ratio], it.worst.name,
+                        [it.whole, it.ended, it.late, it.missing, it.met, it.runs, it.runsMet]]);""", start)
+            self.assertEqual(len(found), len(league))
+            for package, name, ratios, worst, counts in found:
+                its = league[package, name]
+                for ratio, wanted in zip(ratios, (its.mean, its.mean_of_ended, its.worst_ratio)):
+                    self.assertAlmostEqual(ratio, wanted, 12)
+                wanted = [its.whole, len(its.ended), its.late, its.whole - len(its.lines), its.met, its.runs, its.runs_met]
+                self.assertEqual((worst, counts), (its.worst.name, wanted))
 
 
 class Views(Opened):
     def test_a_function_has_its_view_by_its_link(self):
-        for link in ("#hwb12", "#hwb5", "#z4ml"):
+        for link in ("#hwb12", "#HWB5", "#z4ml", "#Z4ML"):
             self.open(link)
-            row = OPTIMA[benchmarks.entry(link[1:]).name]
+            row = OPTIMA[benchmarks.entry(link[1:].lower()).name]
             self.assertEqual(self.one("#function h2").text, row.name)
             self.assertFalse(self.one("#overview").is_displayed())
             text = self.one("#function").text
@@ -155,10 +113,18 @@ class Views(Opened):
             shown = len(self.all("#levels rect")) / row.inputs
             self.assertEqual(shown, 3 if row.file_order_nodes <= 4 * row.sifted_nodes else 2)
 
-    def test_a_link_to_nothing_shows_the_tables(self):
-        for link in ("#hwb99", "#%", "#families"):
+    def test_a_link_to_nothing_says_so(self):
+        for link, said in (("#hwb99", "named hwb99. Here are hwb4, hwb5, "), ("#%", "can't be read"), ("#words", "named words."),
+                           ("#a%20b", "named a b.")):
             self.open(link)
             self.assertTrue(self.one("#overview").is_displayed())
+            self.assertIn(said, self.one("#said").text)
+            self.one("nav a[href='#families']").click()
+            self.until(lambda: not self.all("#said"))
+        for link in ("", "#families", "#curves"):
+            self.open(link)
+            self.assertTrue(self.one("#overview").is_displayed())
+            self.assertEqual(self.all("#said"), [])
 
     def test_one_walks_from_view_to_view_and_back(self):
         self.one("#functions-table tbody a[href='#hwb5']").click()
@@ -186,49 +152,64 @@ class Views(Opened):
         self.assertEqual(len(self.all("#growth-chart .curve")), 4)
 
 
-class Results(Opened):
-    def give(self, name, text):
-        with tempfile.TemporaryDirectory() as folder:
-            with open(f"{folder}/{name}", "w") as file:
-                file.write(text)
-            self.one("#file").send_keys(f"{folder}/{name}")
-            self.until(lambda: self.one("#said").text)
-        return self.one("#said").text
-
-    def test_a_file_stands_as_a_method(self):
-        lines = [f"{line.name},{line.median_nodes or 'late'}" for line in FILE[SIFT].lines]
-        said = self.give("mine.csv", "\n".join(["name,nodes", *lines, ""]))
-        its = FILE[SIFT]
-        self.assertIn(f"mean ratio {its.mean:.3f} over {len(its.ended)} of {len(OPTIMA)}", said)
-        rows = {row.find_element("css selector", "td").text: [it.text for it in row.find_elements("css selector", "td")]
-                for row in self.all("#league-table tbody tr")}
-        self.assertEqual(rows["mine"][1:5], rows["CUDD SIFT"][1:5])
-        self.assertEqual(self.all("#families-table thead th")[3].text, "mine")
-        self.assertEqual(len(self.all("#curves-chart .curve.yours")), 1)
-        self.assertEqual(self.one("#method-head").text, "mine")
-        # a file of the same name takes its place
-        self.give("mine.csv", '\ufeffname,nodes,start\n"hwb8",50,file\nhwb8,44,\nz4ml,26,file\nhwb8,45,2\n')
-        self.until(lambda: "over 2 of" in self.one("#said").text)
-        self.assertEqual(self.texts("#league-table tr.yours td:nth-child(2)"), ["1.000"])
-        self.assertIn("random orders: mean ratio 1.023", self.one("#said").text)
-
-    def test_a_file_is_dropped(self):
+class Curves(Opened):
+    def turn_all_on(self):
         self.driver.execute_script("""
-            const carried = new DataTransfer();
-            carried.items.add(new File(["hwb8,55\\nlife,26\\n"], "dropped.csv"));
-            dispatchEvent(new DragEvent("drop", {dataTransfer: carried, bubbles: true, cancelable: true}));""")
-        self.until(lambda: self.one("#said").text)
-        self.assertIn("dropped, from the file's order: mean ratio 1.118 over 2 of", self.one("#said").text)
+            for (const it of document.querySelectorAll(".switches input")) if (!it.checked) it.click();""")
 
-    def test_what_is_refused(self):
-        said = self.give("bad.csv", "name,nodes\nhwb8,43\nhwx8,44\nhwb8,\nhwb8,4x\nparity8,17\n")
-        for text in ("line 2: hwb8: 43 nodes, and no order has fewer than 44", "line 3: no function is named hwx8",
-                     "line 4: hwb8: nothing is no number", "line 5: hwb8: 4x is no number",
-                     "line 6: parity8: 17 nodes, and each order has 15"):
-            self.assertIn(text, said)
-        self.give("orders.csv", "name,order\nhwb4,0 1 2 3\n")
-        self.until(lambda: "it has orders" in self.one("#said").text)
-        self.assertEqual(self.all(".yours td"), [])
+    def test_curves_are_told_apart(self):
+        self.turn_all_on()
+        for chart, count in (("#curves-chart", len(FILE)), ("#growth-chart", len(self.all("#growth-switches input")))):
+            found = self.driver.execute_script("""
+                return [...document.querySelectorAll(`${arguments[0]} .curve`)]
+                    .map(it => [it.style.stroke, it.getAttribute("stroke-dasharray")]);""", chart)
+            self.assertEqual((len(found), len(set(map(tuple, found)))), (count, count))
+        places = self.driver.execute_script("return [...Array(40).keys()].map(styleOf).map(it => it.colour + it.dash)")
+        self.assertEqual(len(set(places)), 40)
+
+    def test_curves_are_named_at_their_ends(self):
+        for all_of_them in (False, True):
+            if all_of_them:
+                self.turn_all_on()
+            for chart in ("#curves-chart", "#growth-chart"):
+                lines, names, boxes, edge = self.driver.execute_script("""
+                    const chart = document.querySelector(arguments[0]);
+                    const each = (selector) => [...chart.querySelectorAll(selector)];
+                    const boxes = each(".name").map(it => it.getBoundingClientRect());
+                    return [each(".curve title").map(it => it.textContent), each(".name").map(it => it.textContent),
+                        boxes.map(it => [it.left, it.right, (it.top + it.bottom) / 2]),
+                        chart.firstChild.getBoundingClientRect().right];""", chart)
+                self.assertEqual(sorted(lines), sorted(names))
+                self.assertLessEqual(max(box[1] for box in boxes), edge + 1)
+                for one, other in itertools.combinations(boxes, 2):
+                    self.assertTrue(one[0] >= other[1] or other[0] >= one[1] or abs(one[2] - other[2]) > 9, (one, other))
+
+    def test_all_that_is_drawn_is_seen_on_both_grounds(self):
+        self.turn_all_on()
+        for ground in ("light", "dark"):
+            features = [{"name": "prefers-color-scheme", "value": ground}]
+            self.driver.execute_cdp_cmd("Emulation.setEmulatedMedia", {"features": features})
+            under, *drawn = self.driver.execute_script("""
+                const styles = (selector) => [...document.querySelectorAll(selector)].map(it => getComputedStyle(it));
+                const lines = styles(".curve, .leader, .swatch line").map(it => it.stroke);
+                return [styles("body")[0].backgroundColor, ...lines, ...styles(".chart circle").map(it => it.fill)];""")
+            self.assertGreater(len(drawn), 100)
+            for colour in set(drawn):
+                numbers = [tuple(map(int, re.findall(r"\d+", it)[:3])) for it in (colour, under)]
+                self.assertGreaterEqual(test_page.contrast(*numbers), 3, (ground, colour))
+        self.driver.execute_cdp_cmd("Emulation.setEmulatedMedia", {"features": []})
+
+    def test_no_bar_covers_a_word(self):
+        self.open("#rotate8")
+        covered = self.driver.execute_script("""
+            const meet = (a, b) => a.left < b.right && b.left < a.right && a.top < b.bottom && b.top < a.bottom;
+            return page.functions.filter((it) => {
+                show(it);
+                const [bars, words] = ["rect", "text"].map(tag => [...document.querySelectorAll(`#levels ${tag}`)]
+                    .map(it => it.getBoundingClientRect()));
+                return bars.some(bar => bar.height && words.some(word => meet(bar, word)));
+            }).map(it => it.name);""")
+        self.assertEqual(covered, [])
 
 
 class Narrow(Opened):

@@ -14,7 +14,7 @@ import sys
 import time
 from collections import Counter
 
-from table import used, write
+from table import library, used, write
 
 HERE = os.path.dirname(os.path.abspath(__file__))
 TOP = os.path.dirname(HERE)
@@ -28,21 +28,6 @@ def compiled(room, name, *words):
     """A program that cc makes in the room."""
     subprocess.run(["cc", "-O2", "-o", f"{room}/{name}", *words], check=True)
     return f"{room}/{name}"
-
-
-def library():
-    """The Python module over the library: that of ./libminorder, where these scripts are installed what the module finds."""
-    if "MINORDER_LIBRARY" not in os.environ and os.path.exists(f"{TOP}/libminorder"):
-        if subprocess.run([f"{TOP}/libminorder"], stdout=subprocess.DEVNULL).returncode:
-            sys.exit("make.py: the library can't be built")
-        os.environ["MINORDER_LIBRARY"] = f"{TOP}/lib/libminorder.so.1"
-    sys.path.insert(0, f"{TOP}/bindings/python")
-    import minorder
-    try:
-        minorder.levels(0, [0])
-    except minorder.NoLibrary as error:
-        sys.exit(f"make.py: {error}")
-    return minorder
 
 
 def random_functions():

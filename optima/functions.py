@@ -1,5 +1,5 @@
 #!/usr/bin/env python3
-"""Boolean functions that the field measures orders on and that people use, as PLA files.
+"""Boolean functions, benchmarks of variable orders and functions that people use, as PLA files.
 
     functions.py            lists the names, with inputs, outputs and what each is
     functions.py NAME       writes the PLA file of one to standard output; `minorder-functions` writes several into a folder

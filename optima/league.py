@@ -1,7 +1,6 @@
 """The league of heuristics: the orders that the methods of CUDD, BuDDy and ABC and our own pass of sifting end with, all
 judged by the library's level counts without complement edges, beside the proved optimum."""
 import csv
-import hashlib
 import json
 import os
 import statistics
@@ -10,8 +9,8 @@ import sys
 import time
 from concurrent.futures import ThreadPoolExecutor
 
-import few
 import table
+from minorder.benchmarks import NUMBERS, random_starts
 from minorder.files import read_pla
 
 CUDD = [
@@ -25,17 +24,11 @@ METHODS = [
 RANDOM = {("CUDD", "ANNEALING"), ("CUDD", "GENETIC"), ("BuDDy", "RANDOM")}
 DRIVERS = {"CUDD": "league_cudd", "ABC": "league_cudd", "BuDDy": "league_buddy"}
 SEEDS = range(1, 11)
-STARTS = range(1, 11)
-SMALL = 12
 LIMIT = 10
 COLUMNS = [
     "name", "package", "method", "start", "runs", "late", "without_an_order", "least_nodes", "median_nodes", "most_nodes",
     "optimum_met", "seconds",
 ]
-
-
-def random_start(inputs, k):
-    return sorted(range(inputs), key=lambda i: hashlib.sha256(f"bakchuon start {inputs} {k} {i}".encode()).digest())
 
 
 class Judge:
@@ -105,9 +98,8 @@ def measure(row, programs, minorder):
     if not os.path.exists(kept):
         judge, n = Judge(minorder, path), int(row["inputs"])
         found = {"file": runs_from(list(range(n)), list(SEEDS), path, judge, programs.peers)}
-        if n <= SMALL:
-            for k in STARTS:
-                found[str(k)] = runs_from(random_start(n, k), [k], path, judge, programs.peers)
+        for k, start in random_starts(n):
+            found[str(k)] = runs_from(start, [k], path, judge, programs.peers)
         table.write(kept, json.dumps(found))
     with open(kept) as file:
         return json.load(file)
@@ -131,7 +123,7 @@ def lines_of(row, found):
         label = f"{package} {method}"
         starts = {"file": found["file"][label]}
         if "1" in found:
-            starts["random"] = [found[str(k)][label][0] for k in STARTS]
+            starts["random"] = [found[str(k)][label][0] for k in NUMBERS]
         for start, runs in starts.items():
             figures = figures_of(runs, int(row["optimum"]), f"{row['name']}: {label}")
             yield dict(zip(COLUMNS, [row["name"], package, method, start, *figures]))
@@ -139,7 +131,7 @@ def lines_of(row, found):
 
 def make(programs):
     os.makedirs(f"{programs.room}/league", exist_ok=True)
-    minorder, rows = few.library(), table.read(programs.into)
+    minorder, rows = table.library(), table.read(programs.into)
     soonest = sorted(rows, key=lambda row: (int(row["inputs"]), int(row["optimum"])))
     with ThreadPoolExecutor(programs.workers) as pool:
         jobs = [(row, pool.submit(measure, row, programs, minorder)) for row in soonest]

@@ -4,7 +4,7 @@ import os
 
 import league
 from minorder import benchmarks
-from minorder.benchmarks import CURVES, FILE, LAST, RANDOM
+from minorder.benchmarks import CURVES, FILE, RANDOM, fixed, percent
 from minorder._picture import curve_of
 
 FAMILIES = [
@@ -13,29 +13,30 @@ FAMILIES = [
 ]
 
 
+# leaves an order of the variables in some functions alone
+LINEAR = ("CUDD", "LINEAR")
+
+
 def of_random_starts(standing):
-    """Of the runs from random orders: the mean of the functions' median ratios, the worst ratio,
-    the share of runs that met the optimum."""
-    ended = sum(line.runs - line.late - line.without_an_order for line in standing.lines)
-    met = sum(line.optimum_met for line in standing.lines)
-    return [f"{standing.mean:.3f}", f"{standing.worst_ratio:.2f}", f"{100 * met / ended:.0f} %"]
+    """Of the runs from random orders: the mean ratio, the worst ratio, the share of runs that met the optimum."""
+    return [fixed(standing.mean, 3), fixed(standing.worst_ratio, 2), percent(standing.runs_met, standing.runs)]
 
 
 HEADS = [
-    "Method", "Mean ratio, file's order", "Worst ratio", "Optimum met", "Late", "Seconds", "Mean ratio, random orders",
-    "Worst ratio", "Runs that met it",
+    "Method", "Mean ratio, file's order", "Of what ended", "Worst ratio", "Optimum met", "Late", "Seconds",
+    "Mean ratio, random orders", "Worst ratio", "Runs that met it",
 ]
 
 
 def table_cells(file, random):
-    """The cells of each method, by the mean ratio from random orders; LINEAR, which leaves few orders, last."""
+    """The cells of each method, by the mean ratio from random orders."""
     for method in benchmarks.ranked(random):
         mine = file[method]
         name = " ".join(method) + (" (random)" if method in league.RANDOM else "")
-        worst = f"{mine.worst_ratio:.2f} ({mine.worst.name})"
-        met = f"{mine.met} of {len(mine.ended)}"
-        seconds = f"{mine.seconds:.1f}"
-        yield method, [name, f"{mine.mean:.3f}", worst, met, mine.late or "", seconds, *of_random_starts(random[method])]
+        ended = f"{fixed(mine.mean_of_ended, 3)} of {len(mine.ended)}"
+        worst = f"{fixed(mine.worst_ratio, 2)} ({mine.worst.name})"
+        met, seconds = f"{mine.met} of {mine.whole}", fixed(mine.seconds, 1)
+        yield method, [name, fixed(mine.mean, 3), ended, worst, met, mine.late or "", seconds, *of_random_starts(random[method])]
 
 
 def table(file, random):
@@ -50,8 +51,8 @@ def family_lines(rows, file):
         for method, mine in ((method, its.of(names)) for method, its in file.items()):
             counts, ratios, seconds = [len(mine.lines), len(mine.ended)], ["", "", ""], ""
             if mine.ended:
-                ratios = [f"{mine.mean:.4f}", f"{mine.worst_ratio:.4f}", mine.worst.name]
-                seconds = f"{mine.seconds:.2f}"
+                ratios = [fixed(mine.mean_of_ended, 4), fixed(mine.worst_ratio, 4), mine.worst.name]
+                seconds = fixed(mine.seconds, 2)
             yield dict(zip(FAMILIES, [family, *method, *counts, *ratios, mine.met, seconds]))
 
 
@@ -80,15 +81,11 @@ class League:
         whole, small = len(self.optima), self.small()
         return {
             f"from the file's order, {whole} functions": curves(self.file, whole),
-            f"from random orders, {small} functions of up to {league.SMALL} inputs": curves(self.random, small),
+            f"from random orders, {small} functions of up to {benchmarks.MOST_INPUTS} inputs": curves(self.random, small),
         }
 
     def small(self):
         return len({line.name for line in self.lines if line.start == RANDOM})
-
-
-def percent(part, whole):
-    return f"{100 * part / whole:.0f} %"
 
 
 def name_of(method):
@@ -110,26 +107,27 @@ def times_of(one, other):
 
 def mean_of(it, method, package="CUDD"):
     """The mean ratio of a method from the file's order."""
-    return f"{it.file[(package, method)].mean:.3f}"
+    return fixed(it.file[(package, method)].mean, 3)
 
 
 def worst_of(standing):
     """The worst ratio, with its function."""
-    return f"{standing.worst_ratio:.2f} (`{standing.worst.name}`)"
+    return f"{fixed(standing.worst_ratio, 2)} (`{standing.worst.name}`)"
 
 
 def of_quick_methods(it):
-    without = {*league.RANDOM, ("CUDD", "EXACT"), LAST}
+    without = {*league.RANDOM, ("CUDD", "EXACT"), LINEAR}
     by_mean = sorted((method for method in it.file if method not in without), key=lambda method: it.random[method].mean)
     first, last = by_mean[0], by_mean[-1]
-    return (f"Of the quick methods (without random choices and EXACT) {name_of(first)} has the least mean from random orders, "
-            f"{it.random[first].mean:.3f}; the greatest has {name_of(last)}, {it.random[last].mean:.3f}.")
+    return (f"Of the quick methods (without random choices, EXACT and LINEAR) {name_of(first)} has the least mean ratio from "
+            f"random orders, {fixed(it.random[first].mean, 3)}; the greatest has {name_of(last)}, "
+            f"{fixed(it.random[last].mean, 3)}.")
 
 
 def of_sift(it):
     cudd = it.file[("CUDD", "SIFT")]
-    return (f"CUDD's SIFT ends at {cudd.mean:.3f} times the optimum in the mean from the file's order and meets it in {cudd.met} "
-            f"of {len(cudd.ended)} functions; its worst is {cudd.worst_ratio:.2f} times (`{cudd.worst.name}`).")
+    return (f"CUDD's SIFT ends at {fixed(cudd.mean, 3)} times the optimum in the mean from the file's order and meets it in "
+            f"{cudd.met} of {cudd.whole} functions; its worst is {fixed(cudd.worst_ratio, 2)} times (`{cudd.worst.name}`).")
 
 
 def of_converging(it):
@@ -140,33 +138,34 @@ def of_converging(it):
 
 def of_windows(it):
     two, four = it.file[("CUDD", "WINDOW2")], it.file[("CUDD", "WINDOW4_CONV")]
-    return (f"Windows: WINDOW2 {two.mean:.3f} from the file's order with a worst of {worst_of(two)}, "
-            f"WINDOW4_CONV {four.mean:.3f} with {four.worst_ratio:.2f}.")
+    return (f"Windows: WINDOW2 {fixed(two.mean, 3)} from the file's order with a worst of {worst_of(two)}, "
+            f"WINDOW4_CONV {fixed(four.mean, 3)} with {fixed(four.worst_ratio, 2)}.")
 
 
 def of_random_choices(it):
     sift, genetic, annealing = (it.file[("CUDD", method)] for method in ("SIFT", "GENETIC", "ANNEALING"))
-    return (f"GENETIC's and ANNEALING's median runs meet the optimum in {genetic.met} of {len(genetic.ended)} "
-            f"and in {annealing.met} of {len(annealing.ended)} functions that ended in time, for {times_of(genetic, sift):.0f} "
-            f"and {times_of(annealing, sift):.0f} times SIFT's processor time where both ended.")
+    times = [fixed(times_of(it, sift), 0) for it in (genetic, annealing)]
+    return (f"GENETIC's and ANNEALING's median runs meet the optimum in {genetic.met} and in {annealing.met} of {genetic.whole} "
+            f"functions, for {times[0]} and {times[1]} times SIFT's processor time where both ended.")
 
 
 def of_exact(it):
     exact = it.file[("CUDD", "EXACT")]
     return (f"CUDD's EXACT ends in time on {len(exact.ended)} of {len(it.optima)}. Its orders have the fewest nodes without "
-            f"complement edges in {exact.met} of these, {exact.mean:.3f} in the mean; the worst is {worst_of(exact)}.")
+            f"complement edges in {exact.met} of these, {fixed(exact.mean_of_ended, 3)} in the mean; the worst is "
+            f"{worst_of(exact)}.")
 
 
 def of_buddy(it):
     iterated = it.file[("BuDDy", "SIFTITE")]
-    return (f"BuDDy, which has no complement edges, has {mean_of(it, 'SIFT', 'BuDDy')} with SIFT and {iterated.mean:.3f} "
+    return (f"BuDDy, which has no complement edges, has {mean_of(it, 'SIFT', 'BuDDy')} with SIFT and {fixed(iterated.mean, 3)} "
             f"with SIFTITE; its worst there is {worst_of(iterated)}.")
 
 
 def of_own_sifting(it):
     from_random = it.random[("minorder", "sifting")].mean
     return (f"Our own pass of sifting has {mean_of(it, 'sifting', 'minorder')} from the file's order "
-            f"and {from_random:.3f} from random ones.")
+            f"and {fixed(from_random, 3)} from random ones.")
 
 
 def of_random_starts_within(it):
@@ -180,7 +179,7 @@ def of_random_starts_within(it):
 def of_families(it):
     by_sift = [line for line in it.families if (line["package"], line["method"]) == ("CUDD", "SIFT")]
     worst, missed_by_all = max(by_sift, key=lambda line: float(line["mean_ratio"])), never_met(it.lines, FILE)
-    return (f"The family on which CUDD's SIFT is worst is {worst['family']}, {float(worst['mean_ratio']):.3f} in the mean. "
+    return (f"The family on which CUDD's SIFT is worst is {worst['family']}, {fixed(float(worst['mean_ratio']), 3)} in the mean. "
             f"In {len(missed_by_all)} of {len(it.optima)} functions no run of any package from the file's order met the optimum "
             f"in time.")
 
@@ -200,7 +199,7 @@ def part(it):
     """The league's section of the page."""
     with open(f"{os.path.dirname(os.path.abspath(__file__))}/league.md") as file:
         text = file.read()
-    linear = it.file[LAST]
+    linear = it.file[LINEAR]
     counts = {"small": it.small(), "linear": len(linear.ended), "all": len(it.optima)}
-    limits = {"limit_inputs": league.SMALL, "seconds": league.LIMIT}
+    limits = {"limit_inputs": benchmarks.MOST_INPUTS, "seconds": league.LIMIT}
     return text.format(**counts, **limits, table=it.table(), findings=findings(it))

@@ -147,7 +147,7 @@ def front_part(rows, kept, link):
 
 
 def make(programs):
-    minorder, rows = few.library(), table.read(programs.into)
+    minorder, rows = table.library(), table.read(programs.into)
     docs = f"{programs.into}/docs"
     ratios = {family: list(map(ratio, mine)) for family, mine in families_of(rows).items()}
     pictures.misses([(family, it, geometric_mean(it)) for family, it in ratios.items()], f"{docs}/optima_sifting.svg")

@@ -4,19 +4,19 @@ import re
 import league
 import page_diagrams
 from minorder import benchmarks, levels
-from minorder.benchmarks import FILE
+from minorder.benchmarks import FILE, RANDOM
 
 RANDOM_STARTS = "randomStarts"
 
 
 def sizes(standing):
-    """By function the nodes of its one run, or, of several runs or a late one: median and most nodes, how many runs were late,
+    """By function the nodes of its one run, or, of several runs or a late one: counted and most nodes, how many runs were late,
     how many there are, and how many met the optimum."""
     found = {}
     for line in standing.lines:
-        several = line.runs > 1 or line.median_nodes is None
-        figures = [line.median_nodes, line.most_nodes, line.late, line.runs, line.optimum_met]
-        found[line.name] = figures if several else line.median_nodes
+        several = line.runs > 1 or line.counted_nodes is None
+        figures = [line.counted_nodes, line.most_nodes, line.late, line.runs, line.optimum_met]
+        found[line.name] = figures if several else line.counted_nodes
     return found
 
 
@@ -48,11 +48,16 @@ def function_of(row):
     return found
 
 
+def worst_of(it, start):
+    return benchmarks.worst_nodes(it.lines, it.optima, start)
+
+
 def data_of(it, by_hand, version):
     """``it`` is the league with its optima; ``by_hand`` what is counted by hand, by the stems of names."""
     return {
         "version": version,
         "methods": [method_of(it, method) for method in benchmarks.ranked(it.random)],
         "functions": [function_of(row) for row in it.optima.values()],
-        "byHand": by_hand, "starts": [FILE, RANDOM_STARTS],
+        "byHand": by_hand, "starts": [FILE, RANDOM_STARTS], "mostInputs": benchmarks.MOST_INPUTS,
+        "worst": {FILE: worst_of(it, FILE), RANDOM_STARTS: worst_of(it, RANDOM)},
     }

@@ -7,12 +7,14 @@ import re
 import shutil
 from html import escape
 
+import league
 import league_page
 import page_data
 from minorder import __version__, benchmarks
+from minorder.benchmarks import fixed
 
 HERE = os.path.dirname(os.path.abspath(__file__))
-SCRIPTS = ("data", "tables", "curves", "function", "results")
+SCRIPTS = ("data", "message", "tables", "filters", "keys", "curves", "function", "results", "own_rows", "own", "link")
 SHARED = "/usr/share/javascript"
 LIBRARIES = {
     "libjs-jquery": f"{SHARED}/jquery/jquery.min.js",
@@ -20,6 +22,18 @@ LIBRARIES = {
     "libjs-d3": f"{SHARED}/d3/d3.min.js",
 }
 MOST_BYTES = 1_500_000
+# the columns of the tables, by their names in the page's address
+LEAGUE_COLUMNS = dict(zip(
+    ("method", "mean", "ended", "worst", "met", "late", "seconds", "random", "random-worst", "random-met"),
+    league_page.HEADS))
+FUNCTION_COLUMNS = {
+    "name": "Name", "names": "Field's names", "family": "Family", "what": "What", "inputs": "Inputs", "outputs": "Outputs",
+    "file": "File order", "nodes": "Sifted", "optimum": "Optimum", "ratio": "Ratio", "order": "First optimal order",
+}
+FUNCTION_CLASSES = {
+    "names": "wide", "family": "wide", "what": "wide", "file": "wide", "optimum": "best", "order": "order",
+}
+FAMILY_COLUMNS = {"family": "Family", "functions": "Functions", "inputs": "Inputs"}
 
 
 def text_of(path):
@@ -39,8 +53,9 @@ def missing():
 
 # ---- tables that stand without scripts
 
-def row_of(cells, kind="td", attributes=""):
-    return f"<tr{attributes}>" + "".join(f"<{kind}{cell}</{kind}>" for cell in cells) + "</tr>"
+def row_of(first, *cells, attributes=""):
+    """A row by the attributes and the contents of its cells, the first of which is its head."""
+    return f'<tr{attributes}><th scope="row"{first}</th>' + "".join(f"<td{cell}</td>" for cell in cells) + "</tr>"
 
 
 def cell(text, order=None, classes="", link=None):
@@ -49,8 +64,14 @@ def cell(text, order=None, classes="", link=None):
     return (f' class="{classes}"' if classes else "") + (f' data-order="{order}"' if order is not None else "") + f">{said}"
 
 
-def heads_of(heads, classes):
-    return row_of([cell(head, classes=its) for head, its in zip(heads, classes)], "th")
+def heads_of(columns, sorted_by, classes=None):
+    """The heads of a table's columns, by the names that the page's address has for these."""
+    said = []
+    for key, text in columns.items():
+        mark = ' aria-sort="ascending"' if key == sorted_by else ""
+        own = f' class="{classes[key]}"' if key in (classes or {}) else ""
+        said.append(f'<th scope="col" data-key="{escape(key)}"{own}{mark}>{escape(text)}</th>')
+    return "".join(said)
 
 
 def league_rows(it):
@@ -58,42 +79,52 @@ def league_rows(it):
     rows = []
     for method, cells in league_page.table_cells(it.file, it.random):
         file, random = it.file[method], it.random[method]
-        worst = file.worst
-        rows.append(row_of([
-            cell(cells[0]), cell(cells[1]),
-            f' data-order="{file.worst_ratio:.4f}">{file.worst_ratio:.2f} (<a href="#{worst.name}">{worst.name}</a>)',
-            cell(cells[3], file.met / len(file.ended)), cell(cells[4], file.late), cell(cells[5]), cell(cells[6]),
-            cell(cells[7], f"{random.worst_ratio:.4f}"), cell(cells[8], cells[8].split()[0]),
-        ], attributes=f' data-method="{escape(" ".join(method))}"'))
+        worst, link = cells[3].split(" ")[0], f'<a href="#{file.worst.name}">{file.worst.name}</a>'
+        keys = [
+            file.mean, file.mean_of_ended, None, file.met, file.late, file.seconds, random.mean, random.worst_ratio,
+            random.runs_met / random.runs]
+        said = [cell(text, key) for text, key in zip(cells[1:], keys)]
+        said[2] = f' data-order="{file.worst_ratio}">{worst} ({link})'
+        rows.append(row_of(cell(cells[0]), *said, attributes=f' data-method="{escape(" ".join(method))}"'))
     return rows
+
+
+def by_number(name):
+    """A key that sorts names by the numbers in them."""
+    return re.sub(r"\d+", lambda digits: digits[0].zfill(5), name)
 
 
 def function_row(row):
     ratio = row.sifted_nodes / row.optimum
-    return row_of([
-        cell(row.name, link=row.name), *(cell(text, classes="wide") for text in (" ".join(row.aliases), row.family, row.what)),
+    return row_of(
+        cell(row.name, by_number(row.name), link=row.name),
+        *(cell(text, classes="wide") for text in (" ".join(row.aliases), row.family, row.what)),
         cell(row.inputs), cell(row.outputs), cell(row.file_order_nodes, classes="wide"), cell(row.sifted_nodes),
-        cell(row.optimum, classes="best"), cell(f"{ratio:.3f}", ratio),
-        cell(" ".join(map(str, row.first_optimal_order)), classes="order"),
-    ], attributes=f' data-name="{row.name}"')
+        cell(row.optimum, classes="best"), cell(fixed(ratio, 3), ratio),
+        cell(" ".join(map(str, row.first_optimal_order)), classes="order"), attributes=f' data-name="{row.name}"')
+
+
+def function_rows(it):
+    return [function_row(it.optima[name]) for name in sorted(it.optima, key=by_number)]
 
 
 def family_row(it, family, names, methods):
     means = []
     for method in methods:
         mine = it.file[method].of(names)
-        partly = "" if len(mine.ended) == len(mine.lines) else "*"
-        means.append(cell(f"{mine.mean:.3f}{partly}", mine.mean) if mine.ended else cell("late", 1e9))
+        partly = "" if len(mine.ended) == mine.whole else "*"
+        ratio = mine.mean_of_ended
+        means.append(cell(f"{fixed(ratio, 3)}{partly}", ratio) if mine.ended else cell("late" if mine.late else "no order", 1e9))
     inputs = [it.optima[name].inputs for name in names]
     span = f"{min(inputs)}" if min(inputs) == max(inputs) else f"{min(inputs)} to {max(inputs)}"
-    return row_of([cell(family), cell(len(names)), cell(span, max(inputs)), *means])
+    return row_of(cell(family), cell(len(names)), cell(span, max(inputs)), *means)
 
 
 def family_rows(it, methods):
     families = {}
     for row in it.optima.values():
         families.setdefault(row.family, []).append(row.name)
-    return [family_row(it, family, names, methods) for family, names in families.items()]
+    return [family_row(it, family, families[family], methods) for family in sorted(families, key=str.lower)]
 
 
 # ---- the page
@@ -125,10 +156,12 @@ def page(it):
     methods, hand = benchmarks.ranked(it.random), by_hand()
     by_stem = {row["stem"]: [row["what"], row["nodes"], row["why"]] for row in hand}
     parts = {
-        "all": len(it.optima), "small": it.small(), "version": __version__, "style": part("style.css"),
-        "league_rows": "\n".join(league_rows(it)),
-        "function_rows": "\n".join(map(function_row, it.optima.values())),
-        "family_heads": "".join(f"<th>{escape(' '.join(method))}</th>" for method in methods),
+        "all": len(it.optima), "small": it.small(), "most_inputs": benchmarks.MOST_INPUTS, "seconds": league.LIMIT,
+        "linear": len(it.file[league_page.LINEAR].ended), "version": __version__, "style": part("style.css"),
+        "league_heads": heads_of(LEAGUE_COLUMNS, "random"), "league_rows": "\n".join(league_rows(it)),
+        "function_heads": heads_of(FUNCTION_COLUMNS, "name", FUNCTION_CLASSES),
+        "function_rows": "\n".join(function_rows(it)),
+        "family_heads": heads_of({**FAMILY_COLUMNS, **{label: label for label in map(" ".join, methods)}}, "family"),
         "family_rows": "\n".join(family_rows(it, methods)),
         "findings": "\n".join(f"<li>{escape(finding(it)).replace('`', '')}</li>" for finding in league_page.FINDINGS),
         "by_hand": by_hand_items(hand), "licences": licences(),

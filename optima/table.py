@@ -9,8 +9,9 @@ import subprocess
 import sys
 
 HERE = os.path.dirname(os.path.abspath(__file__))
+TOP = os.path.dirname(HERE)
 sys.path.append(f"{HERE}/../bindings/python")
-from minorder.benchmarks import aliases, entries, textbook  # noqa: E402
+from minorder.benchmarks import aliases, entries, random_starts, textbook  # noqa: E402
 from minorder.files import parts_of  # noqa: E402
 
 KEPT_BELOW = 20_000
@@ -21,6 +22,7 @@ CASES = "crates/worked_cases/data"
 COLUMNS = [
     "family", "name", "aliases", "what", "inputs", "outputs", "file_order_nodes", "sifted_nodes", "optimum",
     "first_optimal_order", "sifted_order", "level_counts", "listed_sets", "pla_sha256", "certificate_sha256",
+    "random_order_nodes",
 ]
 
 
@@ -29,6 +31,21 @@ def run(*words):
     if ran.returncode:
         sys.exit(f"{' '.join(words)}: status {ran.returncode}: {ran.stderr}{ran.stdout}")
     return ran.stdout
+
+
+def library():
+    """The Python module over the library: that of ./libminorder, where these scripts are installed what the module finds."""
+    if "MINORDER_LIBRARY" not in os.environ and os.path.exists(f"{TOP}/libminorder"):
+        if subprocess.run([f"{TOP}/libminorder"], stdout=subprocess.DEVNULL).returncode:
+            sys.exit("make.py: the library can't be built")
+        os.environ["MINORDER_LIBRARY"] = f"{TOP}/lib/libminorder.so.1"
+    sys.path.insert(0, f"{TOP}/bindings/python")
+    import minorder
+    try:
+        minorder.levels(0, [0])
+    except minorder.NoLibrary as error:
+        sys.exit(f"make.py: {error}")
+    return minorder
 
 
 def sum_of(path):
@@ -81,6 +98,13 @@ def measure(entry, programs, room):
     return row
 
 
+def random_order_nodes(entry, minorder):
+    """The nodes under each random order."""
+    starts = [order for _, order in random_starts(len(entry.inputs))]
+    tables = entry.tables() if starts else ()
+    return " ".join(str(sum(minorder.levels(tables, order))) for order in starts)
+
+
 def is_kept(row, room):
     later = row["family"] in KEPT_LATER and int(row["inputs"]) <= LATER_INPUTS
     return (later or row["family"] in textbook_families()) and os.path.getsize(f"{room}/{row['name']}.cert") < KEPT_BELOW
@@ -110,12 +134,12 @@ def keep(rows, room, into):
 
 def make(programs):
     """Measures all functions, those first that are done soonest, and writes the table and what the gate judges."""
-    room = f"{programs.room}/table"
+    minorder, room = library(), f"{programs.room}/table"
     os.makedirs(room, exist_ok=True)
     found, rows = by_family(), {}
     for i, entry in enumerate(sorted(found, key=lambda it: (len(it.inputs), it.outputs)), 1):
         print(f"{entry.name}: {i} of {len(found)}", file=sys.stderr)
-        rows[entry.name] = measure(entry, programs, room)
+        rows[entry.name] = dict(measure(entry, programs, room), random_order_nodes=random_order_nodes(entry, minorder))
     ordered = [rows[entry.name] for entry in found]
     os.makedirs(f"{programs.into}/optima", exist_ok=True)
     with open(f"{programs.into}/optima/optima.csv", "w", newline="") as file:

@@ -2,6 +2,7 @@
 
 optima/check_page.py opens the page in one."""
 import csv
+import itertools
 import json
 import os
 import re
@@ -24,6 +25,15 @@ COUNTED = {
 }
 
 
+def contrast(one, other):
+    """The contrast of two colours, each by its red, green and blue of 0 to 255: WCAG 2, from 1 to 21."""
+    def luminance(colour):
+        parts = [part / 255 / 12.92 if part <= 10 else ((part / 255 + 0.055) / 1.055) ** 2.4 for part in colour]
+        return 0.2126 * parts[0] + 0.7152 * parts[1] + 0.0722 * parts[2]
+    less, more = sorted((luminance(one), luminance(other)))
+    return (more + 0.05) / (less + 0.05)
+
+
 class Page(unittest.TestCase):
     @classmethod
     def setUpClass(cls):
@@ -39,8 +49,24 @@ class Page(unittest.TestCase):
         for library in ("libjs-jquery", "libjs-jquery-datatables", "libjs-d3"):
             self.assertIn(f"<h3>{library}</h3>", self.text)
 
+    def test_its_colours_are_seen_on_both_grounds(self):
+        self.assertAlmostEqual(contrast((255, 255, 255), (0x76, 0x76, 0x76)), 4.54, 2)
+        grounds = re.findall(r"^ *:root {(.*?)}", self.text, re.S | re.M)
+        self.assertEqual(len(grounds), 2)
+        for ground in grounds:
+            colours = {name: tuple(bytes.fromhex(value)) for name, value in re.findall(r"--(\w+): #([0-9a-f]{6})", ground)}
+            drawn = [it for it in colours if re.fullmatch(r"(curve|bar)\d", it)]
+            self.assertEqual(len(drawn), 13)
+            for name in drawn:
+                self.assertGreaterEqual(contrast(colours[name], colours["ground"]), 3, name)
+            for name, under in itertools.product(("text", "muted", "link", "mark"), ("ground", "head", "yours")):
+                self.assertGreaterEqual(contrast(colours[name], colours[under]), 4.5, (name, under))
+
     def test_its_functions_are_those_of_the_table(self):
-        self.assertEqual(re.findall(r'<tr data-name="([^"]*)">', self.text), list(OPTIMA))
+        names = re.findall(r'<tr data-name="([^"]*)">', self.text)
+        self.assertEqual(sorted(names), sorted(OPTIMA))
+        hidden = [name for name in names if name.startswith("hwb")]
+        self.assertEqual(hidden, [f"hwb{n}" for n in range(4, 17)])
         for it, row in zip(self.data["functions"], OPTIMA.values()):
             said = (it["name"], it["family"], tuple(it["aliases"]), it["what"], len(it["inputs"]), it["outputs"], *it["sums"])
             self.assertEqual(said, (row.name, row.family, row.aliases, row.what, row.inputs, row.outputs,
@@ -59,12 +85,14 @@ class Page(unittest.TestCase):
         for start, key in ((benchmarks.FILE, "file"), (benchmarks.RANDOM, "randomStarts")):
             league = benchmarks.standings(benchmarks.league(), OPTIMA, start)
             self.assertEqual({(it["package"], it["name"]) for it in self.data["methods"]}, set(league))
+            worst = benchmarks.worst_nodes(benchmarks.league(), OPTIMA, start)
+            self.assertEqual(list(self.data["worst"][key].items()), [(name, worst[name]) for name in OPTIMA if name in worst])
             for it in self.data["methods"]:
                 lines = league[it["package"], it["name"]].lines
                 self.assertEqual(list(it[key]), [line.name for line in lines])
                 for line in lines:
                     sizes = it[key][line.name]
-                    wanted = [line.median_nodes, line.most_nodes, line.late, line.runs, line.optimum_met]
+                    wanted = [line.counted_nodes, line.most_nodes, line.late, line.runs, line.optimum_met]
                     one = [sizes, sizes, 0, 1, int(sizes == OPTIMA[line.name].optimum)]
                     self.assertEqual(sizes if isinstance(sizes, list) else one, wanted)
 
@@ -72,7 +100,7 @@ class Page(unittest.TestCase):
         with open(f"{DOCS}/OPTIMA.md", encoding="utf-8") as file:
             rows = [line.strip("| \n").split(" | ") for line in file if re.match(r"\| (CUDD|BuDDy|ABC|minorder) ", line)]
         found = re.findall(r"<tr data-method=.*?</tr>", self.text)
-        shown = [[re.sub("<[^>]*>", "", cell) for cell in re.findall(r"<td[^>]*>(.*?)</td>", row)] for row in found]
+        shown = [[re.sub("<[^>]*>", "", cell) for cell in re.findall(r"<t[hd][^>]*>(.*?)</t[hd]>", row)] for row in found]
         self.assertEqual(shown, [[cell.strip() for cell in row] for row in rows])
 
 

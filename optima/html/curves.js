@@ -1,28 +1,35 @@
 "use strict";
 // Curves by D3: shares of the functions within a ratio, and the growth of families.
-const SIZE = {height: 380, left: 52, right: 16, top: 12, bottom: 44};
-const COLOURS = ["#1f77b4", "#e07b00", "#2a9d3c", "#d62728", "#9467bd", "#8c6d31", "#d353a5", "#7f7f7f", "#a3a300", "#17a2b8"];
-const DASHES = ["", "7 3", "2 3", "9 3 2 3"];
+const SIZE = {height: 384, left: 52, right: 16, top: 26, bottom: 44};
+// names at the ends of curves, where a picture is wide enough for them
+const NAMES = {least: 640, room: 168, letters: 22, apart: 13, near: 90};
+const COLOURS = 10;
+const DASHES = ["", "8 3", "2 3", "10 3 2 3"];
 
-const styleOf = (place) => ({colour: COLOURS[place % COLOURS.length], dash: DASHES[Math.floor(place / COLOURS.length) % DASHES.length]});
+/** A colour and a dash, which the next line hasn't; none has both before there are forty. */
+const styleOf = (place) =>
+  ({colour: `var(--curve${place % COLOURS})`, dash: DASHES[(place + Math.floor(place / COLOURS)) % DASHES.length]});
 
 /** As wide as there is room, in the page's pixels. */
 const widthOf = (id) => Math.max(300, Math.min(900, document.getElementById(id).clientWidth));
 const axisOf = (scale, orient) => d3.svg.axis().scale(scale).orient(orient).outerTickSize(0);
 
 /** An empty picture with what its axes are called. */
-function picture(id, below, besides) {
-  const {height, left, right, top} = SIZE, width = widthOf(id);
+function picture(id, below, besides, right = SIZE.right) {
+  const {height} = SIZE, width = widthOf(id);
   const svg = d3.select(`#${id}`).html("").append("svg").attr("viewBox", `0 0 ${width} ${height}`)
     .attr("role", "img").attr("aria-label", `${besides}, by ${below}`);
   svg.append("text").attr("x", width - right).attr("y", height - 6).attr("text-anchor", "end").text(below);
-  svg.append("text").attr("x", left + 6).attr("y", top + 12).text(besides);
+  svg.append("text").attr("x", 4).attr("y", 14).text(besides);
   return svg;
 }
 
+const hasNames = (id) => widthOf(id) >= NAMES.least;
+const rightOf = (id) => SIZE.right + (hasNames(id) ? NAMES.room : 0);
+
 /** An empty chart with its axes; `ticks` are the values of the vertical one. */
 function chart(id, x, y, said, ticks, format) {
-  const {height, left, right, top, bottom} = SIZE, width = widthOf(id), svg = picture(id, ...said);
+  const {height, left, top, bottom} = SIZE, right = rightOf(id), width = widthOf(id), svg = picture(id, ...said, right);
   x.range([left, width - right]);
   y.range([height - bottom, top]);
   svg.insert("g", "text").attr("class", "axis grid").attr("transform", `translate(${left},0)`)
@@ -34,6 +41,16 @@ function chart(id, x, y, said, ticks, format) {
   return svg;
 }
 
+/** A piece of a line as it is drawn. */
+function swatch(line) {
+  const made = document.createElementNS("http://www.w3.org/2000/svg", "svg");
+  made.setAttribute("class", "swatch");
+  made.setAttribute("aria-hidden", "true");
+  d3.select(made).append("line").attr({x1: 0, x2: 34, y1: 4, y2: 4}).style("stroke", line.colour)
+    .attr({"stroke-width": line.yours ? 4 : 2.4, "stroke-dasharray": line.dash});
+  return made;
+}
+
 /** A switch for each line: a box to tick, which draws anew. */
 function switches(id, lines, draw) {
   const box = document.getElementById(id), legend = box.querySelector("legend");
@@ -41,12 +58,7 @@ function switches(id, lines, draw) {
     const input = element("input", {type: "checkbox", value: line.label});
     input.checked = line.on;
     input.addEventListener("change", () => { line.on = input.checked; draw(); });
-    const swatch = document.createElementNS("http://www.w3.org/2000/svg", "svg");
-    swatch.setAttribute("class", "swatch");
-    swatch.setAttribute("aria-hidden", "true");
-    d3.select(swatch).append("line").attr({x1: 0, x2: 22, y1: 4, y2: 4})
-      .attr({stroke: line.colour, "stroke-width": line.yours ? 4 : 2.4, "stroke-dasharray": line.dash});
-    const label = element("label", {}, input, swatch, line.label);
+    const label = element("label", {}, input, swatch(line), line.label);
     for (const [event, near] of [["mouseenter", true], ["mouseleave", false], ["focusin", true], ["focusout", false]])
       label.addEventListener(event, () => d3.selectAll(".curve").filter((it) => it === line).classed("near", near));
     return label;
@@ -61,35 +73,61 @@ function addPaths(svg, lines, pathOf) {
   return paths;
 }
 
+/** Heights as near to those given, the least first, as leaves them apart, none below the last one that is allowed. */
+function parted(heights, last) {
+  const apart = Math.min(NAMES.apart, (last - SIZE.top) / Math.max(1, heights.length - 1)), found = [...heights];
+  for (let i = 1; i < found.length; i += 1) found[i] = Math.max(found[i], found[i - 1] + apart);
+  if (found.length) found[found.length - 1] = Math.min(found[found.length - 1], last);
+  for (let i = found.length - 2; i >= 0; i -= 1) found[i] = Math.min(found[i], found[i + 1] - apart);
+  return found;
+}
+
+/** Names at the ends of curves; an end is a line and a place. Those near the right edge stand in one column. */
+function addNames(id, svg, ends) {
+  if (!hasNames(id)) return;
+  const edge = widthOf(id) - rightOf(id), isRight = ({x}) => x > edge - NAMES.near;
+  const columns = d3.nest().key((end) => isRight(end) ? "right" : Math.round(end.x)).entries(ends);
+  for (const {values} of columns) {
+    const its = values.sort((a, b) => a.y - b.y), heights = parted(its.map(({y}) => y), SIZE.height - SIZE.bottom);
+    const beside = d3.max(its, ({x}) => x) + 14;
+    its.forEach(({line, x, y}, i) => {
+      svg.append("path").attr("class", "leader").attr("d", `M${x},${y}L${beside},${heights[i]}`).style("stroke", line.colour);
+      const text = svg.append("text").attr({class: "name", x: beside + 3, y: heights[i], dy: "0.35em"});
+      text.text(line.label.length > NAMES.letters ? `${line.label.slice(0, NAMES.letters - 1)}…` : line.label);
+    });
+  }
+}
+
 // ---- the league
 
 const league = {start: "file", lines: []};
 
 /** A line for each method, those with a curve at first in the first colours. */
 function leagueLines() {
-  const before = new Map(league.lines.map((line) => [line.label, line.on]));
+  const before = new Map(league.lines.map((line) => [line.method, line.on]));
   const others = page.methods.filter((it) => !it.yours);
   const places = [...others.filter((it) => it.curve), ...others.filter((it) => !it.curve)];
   return page.methods.map((method) => {
-    const label = labelOf(method), on = before.get(label);
-    const style = method.yours ? {colour: "var(--text)", dash: ""} : styleOf(places.indexOf(method));
-    return {label, method, yours: method.yours, on: on === undefined ? method.curve || Boolean(method.yours) : on, ...style};
+    const on = before.get(method);
+    const style = method.yours ? {...styleOf(own().indexOf(method)), colour: "var(--text)"} : styleOf(places.indexOf(method));
+    return {label: labelOf(method), method, yours: method.yours, first: method.curve, on: on ?? method.curve, ...style};
   });
 }
 
 function drawLeague() {
-  const found = new Map(league.lines.filter((line) => line.on).map((line) => [line, standing(line.method, league.start)]));
-  const least = d3.min([...found.values()].filter((it) => it.whole), (it) => 100 * it.met / it.whole) || 0;
-  const from = 10 * Math.floor(least / 10);
+  const on = league.lines.filter((line) => line.on).map((line) => [line, standing(line.method, league.start)]);
+  const found = new Map(on.filter(([, {has}]) => has)), lines = [...found.keys()];
+  const least = d3.min([...found.values()], ({met, whole}) => 100 * met / whole) || 0, from = 10 * Math.floor(least / 10);
   const x = d3.scale.linear().domain([1, 2]), y = d3.scale.linear().domain([from, 100]);
   const svg = chart("curves-chart", x, y, ["nodes / fewest nodes, at most", "% of the functions"], d3.range(from, 101, 10));
-  addPaths(svg, league.lines, (line) => {
+  addPaths(svg, lines, (line) => {
     const {ratios, whole, met} = found.get(line);
-    if (!whole) return "";
     const step = (ratio, i) => `H${x(ratio).toFixed(1)}V${y(100 * (i + 1) / whole).toFixed(1)}`;
     const shares = ratios.map((ratio, i) => ratio > 1 && ratio <= 2 ? step(ratio, i) : "");
     return `M${x(1)},${y(100 * met / whole).toFixed(1)}${shares.join("")}H${x(2)}`;
   });
+  const shareOf = ({ratios, whole}) => 100 * ratios.filter((ratio) => ratio <= 2).length / whole;
+  addNames("curves-chart", svg, lines.map((line) => ({line, x: x(2), y: y(shareOf(found.get(line)))})));
 }
 
 function makeLeague() {
@@ -98,8 +136,21 @@ function makeLeague() {
   drawLeague();
 }
 
+/** Draws the curves that are wished, and no others. */
+function turnOn(isWished) {
+  for (const line of league.lines) line.on = isWished(line);
+  switches("curves-switches", league.lines, drawLeague);
+  drawLeague();
+}
+
+function startFrom(start) {
+  league.start = start;
+  document.querySelector(`input[name=start][value=${start}]`).checked = true;
+  drawLeague();
+}
+
 for (const radio of document.querySelectorAll("input[name=start]"))
-  radio.addEventListener("change", () => { league.start = radio.value; drawLeague(); });
+  radio.addEventListener("change", () => startFrom(radio.value));
 
 // ---- growth
 
@@ -127,6 +178,8 @@ function drawGrowth(lines) {
     marks.append("circle").attr({r: 3.5}).attr("cx", (point) => x(point[0])).attr("cy", (point) => y(point[1])).style("fill", line.colour);
     marks.append("title").text((point) => `${point[2]}: ${point[1]} nodes`);
   }
+  const ends = lines.filter((it) => it.on).map((line) => [line, line.points[line.points.length - 1]]);
+  addNames("growth-chart", svg, ends.map(([line, point]) => ({line, x: x(point[0]) + 4, y: y(point[1])})));
 }
 
 function makeGrowth() {

@@ -1,8 +1,9 @@
 "use strict";
 // What the page shows, and how far a method is from the optima. A method's sizes are by start and function:
-// [median nodes or null, most nodes or null, late runs, runs, runs that met the optimum].
+// [counted nodes or null, most nodes or null, late runs, runs, runs that met the optimum, seconds where they are known].
+// Counted is the lower median of all runs, where a run without an order counts as more than any other; null if half are such.
 const page = JSON.parse(document.getElementById("data").textContent);
-const MEDIAN = 0, MOST = 1, LATE = 2, RUNS = 3, MET = 4;
+const COUNTED = 0, MOST = 1, LATE = 2, RUNS = 3, MET = 4, SECONDS = 5;
 const byName = new Map();
 for (const it of page.functions) byName.set(it.name, it);
 // of one run the table has its nodes alone
@@ -11,27 +12,41 @@ for (const method of page.methods) for (const start of page.starts)
     if (typeof sizes === "number") method[start][name] = [sizes, sizes, 0, 1, Number(sizes === byName.get(name).optimum)];
 for (const it of page.functions) for (const alias of it.aliases) if (!byName.has(alias)) byName.set(alias, it);
 
+/** The function of a name, its own or one of the field's, in large or small letters. */
+const functionNamed = (name) => byName.get(name) || byName.get(name.toLowerCase());
 const labelOf = (method) => [method.package, method.name].join(" ").trim();
+const own = () => page.methods.filter((it) => it.yours);
+const MOST_LETTERS = 40, RANDOM_ORDERS = 10;
+// means that differ by less are equal
+const SAME = 1e-9;
 const ratioOf = (nodes, name) => nodes / byName.get(name).optimum;
-const wholeOf = (start) => Object.keys(page.methods[0][start]).length;
+/** The geometric mean; null of none. */
+const meanOf = (ratios) =>
+  ratios.length ? Math.exp(ratios.reduce((total, ratio) => total + Math.log(ratio), 0) / ratios.length) : null;
+const sumOf = (numbers) => numbers.reduce((total, it) => total + it, 0);
+const percentOf = (part, whole) => `${(100 * part / whole).toFixed(0)} %`;
 
-/** What a method makes of some functions from a start; of all if none are named. */
+/** What a method makes of all functions that the league has from a start, or of those that are named. By the mean methods have
+    their places: no function counts more than the worst nodes there, and one that is late, missing or without an order counts
+    as these. */
 function standing(method, start, names = null) {
-  const lines = Object.entries(method[start]).filter(([name]) => !names || names.has(name));
-  const ended = lines.filter(([, sizes]) => sizes[MEDIAN] !== null);
-  const ratios = ended.map(([name, sizes]) => ratioOf(sizes[MEDIAN], name));
+  const wished = Object.entries(page.worst[start]).filter(([name]) => !names || names.has(name)), rows = method[start];
+  const lines = wished.filter(([name]) => name in rows).map(([name]) => [name, rows[name]]);
+  const ended = lines.filter(([, sizes]) => sizes[COUNTED] !== null), sizesOf = (at) => lines.map(([, sizes]) => sizes[at]);
+  const ratios = ended.map(([name, sizes]) => ratioOf(sizes[COUNTED], name));
+  const capped = wished.map(([name, most]) => ratioOf(Math.min(rows[name]?.[COUNTED] ?? most, most), name));
   let worst = null;
-  for (const [name, sizes] of ended) {
-    const ratio = ratioOf(sizes[MOST], name);
-    if (!worst || ratio > worst.ratio) worst = {name, ratio};
+  for (const [name, sizes] of lines) {
+    const ratio = sizes[MOST] === null ? 0 : ratioOf(sizes[MOST], name);
+    if (ratio > (worst ? worst.ratio : 0)) worst = {name, ratio};
   }
-  const sum = ratios.reduce((total, ratio) => total + Math.log(ratio), 0);
   return {
-    whole: lines.length, ended: ended.length, ratios: ratios.sort((a, b) => a - b), worst,
-    mean: ratios.length ? Math.exp(sum / ratios.length) : null,
-    met: ratios.filter((ratio) => ratio === 1).length, late: lines.filter(([, sizes]) => sizes[LATE] > 0).length,
-    runs: ended.reduce((total, [, sizes]) => total + sizes[RUNS] - sizes[LATE], 0),
-    runsMet: ended.reduce((total, [, sizes]) => total + sizes[MET], 0),
+    has: lines.length > 0, whole: wished.length, ended: ended.length, missing: wished.length - lines.length, worst,
+    late: lines.filter(([, sizes]) => sizes[LATE] > 0 && sizes[COUNTED] === null).length,
+    ratios: ratios.sort((a, b) => a - b), met: ratios.filter((ratio) => ratio === 1).length,
+    mean: meanOf(capped), meanOfEnded: meanOf(ratios),
+    runs: sumOf(sizesOf(RUNS)), lateRuns: sumOf(sizesOf(LATE)), runsMet: sumOf(sizesOf(MET)),
+    seconds: sizesOf(SECONDS).some((it) => it !== undefined) ? sumOf(sizesOf(SECONDS).map((it) => it || 0)) : null,
   };
 }
 

@@ -2,9 +2,10 @@
 // A function's own view, by its link.
 const view = document.getElementById("function");
 const LEVELS = [["fewest nodes", "var(--bar1)"], ["sifted", "var(--bar2)"], ["file's order", "var(--bar3)"]];
-let left = 0;
 
 const namesOf = (it, order) => order.map((x) => it.inputs[x]).join(" ");
+/** What may be wider than the window. */
+const scrolled = (name, it) => element("div", {class: "scroll", tabindex: 0, role: "region", "aria-label": name}, it);
 const head = (text) => element("h3", {}, text);
 
 function facts(it) {
@@ -26,28 +27,29 @@ function facts(it) {
 function sizeRow(it, method, longest) {
   const sizes = method.file[it.name], random = method.randomStarts[it.name];
   const row = element("tr", method.yours ? {class: "yours"} : {});
-  const ratio = sizes && sizes[MEDIAN] !== null ? ratioOf(sizes[MEDIAN], it.name) : null;
-  const late = sizes && sizes[MEDIAN] === null ? (sizes[LATE] ? "late" : "no order") : "";
+  const ratio = sizes && sizes[COUNTED] !== null ? ratioOf(sizes[COUNTED], it.name) : null;
+  const late = sizes && sizes[COUNTED] === null ? (sizes[LATE] ? "late" : "no order") : "";
   const bar = element("span", {class: "bar", style: `width: ${ratio === null ? 0 : 100 * ratio / longest}%`});
-  const median = random && random[MEDIAN] !== null ? random[MEDIAN] : null;
+  const median = random && random[COUNTED] !== null ? random[COUNTED] : null;
   const medianRatio = median === null ? "" : ratioOf(median, it.name).toFixed(3);
   row.append(
-    element("td", {}, labelOf(method)), element("td", {}, ratio === null ? late : String(sizes[MEDIAN])),
+    element("th", {scope: "row"}, labelOf(method)), element("td", {}, ratio === null ? late : String(sizes[COUNTED])),
     element("td", {}, ratio === null ? "" : ratio.toFixed(3)), element("td", {class: "drawn"}, bar),
     element("td", {}, median === null ? "" : String(median)), element("td", {}, medianRatio));
   return row;
 }
 
 function sizeTable(it) {
-  const ratio = (method) => ratioOf((method.file[it.name] || [null])[MEDIAN] || Infinity, it.name);
+  const ratio = (method) => ratioOf((method.file[it.name] || [null])[COUNTED] || Infinity, it.name);
   const methods = page.methods.filter((method) => method.file[it.name] || method.randomStarts[it.name]).sort((a, b) => ratio(a) - ratio(b));
   const longest = Math.max(...methods.map(ratio).filter(Number.isFinite), 1);
-  const heads = ["Method", "Nodes, file's order", "Ratio", "", "Nodes, random orders", "Ratio"].map((text) => element("th", {}, text));
+  const heads = ["Method", "Nodes, file's order", "Ratio", "", "Nodes, random orders", "Ratio"]
+    .map((text, i) => element("th", i === 2 ? {scope: "col", "aria-sort": "ascending"} : {scope: "col"}, text));
   const body = element("tbody", {}, ...methods.map((method) => sizeRow(it, method, longest)));
   const table = element("table", {class: "data"}, element("thead", {}, element("tr", {}, ...heads)), body);
   const said = `Under the file's order: ${it.fileOrder} nodes, ${ratioOf(it.fileOrder, it.name).toFixed(3)} times the fewest.`;
-  const scrolled = element("div", {class: "scroll", tabindex: 0}, table);
-  return element("div", {}, head("What the methods make of it"), element("p", {}, said), scrolled);
+  const title = "What the methods make of it";
+  return element("div", {}, head(title), element("p", {}, said), scrolled(title, table));
 }
 
 // ---- level counts
@@ -99,7 +101,7 @@ function diagram(it) {
     svg.append("text").attr({x, y}).attr("class", kind === "name" ? "out" : null).text(text);
   }
   const said = element("p", {}, "Under its first optimal order; dashed edges are those of 0.");
-  return element("div", {class: "diagram"}, head("The diagram"), said, element("div", {class: "scroll", tabindex: 0}, made));
+  return element("div", {class: "diagram"}, head("The diagram"), said, scrolled("The diagram", made));
 }
 
 // ---- what to copy
@@ -139,14 +141,19 @@ function citation(it) {
 
 // ---- the view
 
+/** Links to the table and to the functions beside this one there. */
 function walk(it) {
-  const at = page.functions.indexOf(it), before = page.functions[at - 1], after = page.functions[at + 1];
-  const link = (other, text) => other ? element("a", {href: `#${other.name}`}, text) : null;
+  const names = shownNames(), at = names.indexOf(it.name), before = names[at - 1], after = at < 0 ? null : names[at + 1];
+  const link = (name, text) => name ? element("a", {href: `#${name}`}, text) : null;
   return element("nav", {class: "walk", "aria-label": "Functions"}, element("a", {href: "#functions"}, "All functions"),
-    link(before, `\u2190 ${before && before.name}`), link(after, `${after && after.name} \u2192`));
+    link(before, `\u2190 ${before}`), link(after, `${after} \u2192`));
 }
 
+/** The function that the view shows. */
+let shown = null;
+
 function show(it) {
+  shown = it;
   const title = element("h2", {tabindex: -1}, it.name), on = [true, true, it.fileOrder <= 4 * it.sifted];
   const figures = element("div", {class: "beside"}, levelChart(it, on), diagram(it), sizeTable(it));
   view.replaceChildren(walk(it), title, facts(it), figures, element("div", {class: "beside"}, again(it), citation(it)));
@@ -155,32 +162,7 @@ function show(it) {
   return title;
 }
 
-/** What the address names; an address that can't be read names nothing. */
-function linked() {
-  try {
-    return decodeURIComponent(location.hash.slice(1));
-  } catch {
-    return "";
-  }
+/** Shows the same function again, where methods are others. */
+function showAgain() {
+  if (!view.hidden) show(shown);
 }
-
-function route() {
-  const name = linked(), it = byName.get(name);
-  const was = !view.hidden;
-  if (it && !was) left = scrollY;
-  view.hidden = !it;
-  overview.hidden = Boolean(it);
-  if (it) {
-    show(it).focus({preventScroll: true});
-    scrollTo(0, 0);
-  } else {
-    document.title = "True optima";
-    const target = document.getElementById(name);
-    if (was) { drawLeague(); drawGrowthAgain(); }
-    if (was && name === "functions") scrollTo(0, left);
-    else if (target) target.scrollIntoView();
-  }
-}
-
-addEventListener("hashchange", route);
-route();

@@ -6,7 +6,7 @@ import re
 import tarfile
 import zipfile
 
-TOP = os.path.dirname(os.path.dirname(os.path.abspath(__file__)))
+TOP = os.path.dirname(os.path.dirname(os.path.realpath(__file__)))
 ABOUT = """Metadata-Version: 2.1
 Name: minorder
 Version: {version}
@@ -15,13 +15,15 @@ Requires-Python: >=3.9
 """
 
 
-# the tables of the repository that lie beside a module where the package is installed
-TABLES = {f"minorder/benchmarks/{name}": os.path.join("..", "..", "optima", name) for name in ("optima.csv", "league.csv")}
+# what lies beside a module where the package is installed, and where it is else: in the repository, or the library in a prefix
+TABLES = {f"minorder/benchmarks/{name}": [f"../../optima/{name}"] for name in ("optima.csv", "league.csv")}
+LIBRARY = "minorder/libminorder.so.1"
+ELSEWHERE = {**TABLES, LIBRARY: [f"{above}/lib/libminorder.so.1" for above in ("../..", "../../..")]}
 
 
 def _place(name):
-    place = os.path.join(TOP, name)
-    return place if os.path.exists(place) else os.path.join(TOP, TABLES.get(name, name))
+    places = [os.path.join(TOP, it) for it in (name, *ELSEWHERE.get(name, ()))]
+    return next((place for place in places if os.path.exists(place)), places[0])
 
 
 def _read(name):
@@ -34,16 +36,20 @@ def _version():
 
 
 def _package():
-    """The package's files, and the shared library if one lies beside them."""
+    """The package's files, and the shared library if there is one."""
     folders = ("minorder", "minorder/benchmarks")
     names = [f"{folder}/{name}" for folder in folders for name in sorted(os.listdir(os.path.join(TOP, folder)))]
-    return [name for name in names if name.endswith((".py", "py.typed")) or ".so" in name] + list(TABLES)
+    own = [name for name in names if name.endswith((".py", "py.typed"))]
+    return [*own, *TABLES, *([LIBRARY] if os.path.exists(_place(LIBRARY)) else [])]
 
 
 def _commands():
-    """What pyproject.toml has below [project.scripts], as a wheel spells it."""
-    commands = _read("pyproject.toml").decode().partition("[project.scripts]\n")[2].partition("[")[0]
-    return "[console_scripts]\n" + commands.replace('"', "")
+    """The scripts of the commands that pyproject.toml has below [project.scripts], by name."""
+    listed = _read("pyproject.toml").decode().partition("[project.scripts]\n")[2].partition("[")[0]
+    # pip puts its interpreter into the first line
+    _, script = _read("backend/command.py").split(b"\n", 1)
+    found = re.findall('^(.+) = "(.+):main"$', listed, re.M)
+    return {name: b"#!python\n" + script.replace(b"MODULE", module.encode()) for name, module in found}
 
 
 def build_wheel(wheel_directory, config_settings=None, metadata_directory=None):
@@ -53,7 +59,7 @@ def build_wheel(wheel_directory, config_settings=None, metadata_directory=None):
     files[f"{about}/METADATA"] = ABOUT.format(version=version).encode()
     pure = "true" if tag.endswith("any") else "false"
     files[f"{about}/WHEEL"] = f"Wheel-Version: 1.0\nGenerator: wheels.py\nRoot-Is-Purelib: {pure}\nTag: {tag}\n".encode()
-    files[f"{about}/entry_points.txt"] = _commands().encode()
+    files.update({f"minorder-{version}.data/scripts/{name}": script for name, script in _commands().items()})
     record = ""
     for name, content in files.items():
         digest = base64.urlsafe_b64encode(hashlib.sha256(content).digest()).rstrip(b"=").decode()
@@ -62,14 +68,17 @@ def build_wheel(wheel_directory, config_settings=None, metadata_directory=None):
     made = f"minorder-{version}-{tag}.whl"
     with zipfile.ZipFile(os.path.join(wheel_directory, made), "w", zipfile.ZIP_DEFLATED) as archive:
         for name, content in files.items():
-            archive.writestr(name, content)
+            entry = zipfile.ZipInfo(name)
+            # pip makes a script that may be run one that may be run
+            entry.external_attr = (0o100755 if "/scripts/" in name else 0o100644) << 16
+            archive.writestr(entry, content, zipfile.ZIP_DEFLATED)
     return made
 
 
 def build_sdist(sdist_directory, config_settings=None):
     made = f"minorder-{_version()}"
     with tarfile.open(os.path.join(sdist_directory, f"{made}.tar.gz"), "w:gz") as archive:
-        for name in ["pyproject.toml", "backend/wheels.py", *_package()]:
+        for name in ["pyproject.toml", "backend/command.py", "backend/wheels.py", *_package()]:
             archive.add(_place(name), f"{made}/{name}")
         about = os.path.join(sdist_directory, "PKG-INFO")
         with open(about, "w") as file:

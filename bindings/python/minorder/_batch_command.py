@@ -1,16 +1,18 @@
-"""The command ``minorder-batch``."""
+"""Writes what minorder reports of each of many PLA files, a line a file, in the files' order.
+
+Exit status: 0 if each file has a report; 1 if some have a fault in its place, or there is no library; 2 if the words are
+refused, 4 if memory is out, 5 if a list or a folder can't be read or made, or a write failed.
+"""
 import argparse
 import csv
 import importlib
-import io
 import json
 import os
-import signal
 import sys
 from dataclasses import fields
-from typing import Callable, Iterable, Iterator, List, Sequence
+from typing import Callable, Iterable, Iterator, List, Optional, Sequence
 
-from ._errors import MinorderError
+from . import _ends
 from .batch import FileReport, Report, Status, report_files
 
 COLUMNS = ("file", "status", "fault", *(field.name for field in fields(Report)))
@@ -27,10 +29,7 @@ def _files_of(paths: Iterable[str]) -> Iterator[str]:
 
 def _listed(path: str) -> List[str]:
     """The names in a list, one a line."""
-    if path == "-":
-        return [line.rstrip("\n") for line in sys.stdin if line.strip()]
-    with open(path, errors="surrogateescape") as file:
-        return [line.rstrip("\n") for line in file if line.strip()]
+    return [os.fsdecode(line) for line in _ends.content_of(path).split(b"\n") if line.strip()]
 
 
 def _as_json(report: FileReport) -> str:
@@ -71,12 +70,9 @@ def _write(reports: Iterable[FileReport], as_csv: bool) -> bool:
 
 
 def _words() -> argparse.ArgumentParser:
-    words = argparse.ArgumentParser(
-        prog="minorder-batch",
-        description="Writes what minorder reports of each of many PLA files, a line a file, in the files' order.",
-        epilog="Status 0: each file has a report; 1: some have a fault in its place; "
-               "2: the words or the list are refused, or there is no library.")
-    words.add_argument("files", nargs="*", metavar="FILE", help="a PLA file, or a folder, which stands for its files *.pla")
+    words = _ends.parser_of("minorder-batch", __doc__)
+    words.add_argument(
+        "files", nargs="*", default=[], metavar="FILE", help="a PLA file, or a folder, which stands for its files *.pla")
     words.add_argument("--list", metavar="LIST", help="a file with the names of more files, one a line; - is standard input")
     words.add_argument("--csv", action="store_true", help="write CSV in place of JSON")
     words.add_argument("--certificates", metavar="FOLDER", help="put the certificate of each file into a folder")
@@ -84,31 +80,16 @@ def _words() -> argparse.ArgumentParser:
     return words
 
 
-def run(arguments: Sequence[str]) -> int:
-    """The command's status."""
-    words = _words()
-    given = words.parse_args(arguments)
+def command(words: argparse.ArgumentParser, given: argparse.Namespace) -> int:
     if not given.files and given.list is None:
         words.error("no FILE and no LIST")
-    try:
-        files = list(_files_of([*given.files, *(_listed(given.list) if given.list else ())]))
-        good = _write(_seen(report_files(files, given.certificates, given.workers), len(files)), given.csv)
-    except OSError as error:
-        words.exit(2, f"minorder-batch: {error.filename}: {error.strerror}\n" if error.filename else f"minorder-batch: {error}\n")
-    except MinorderError as error:
-        words.exit(2, f"minorder-batch: {error}\n")
-    return 0 if good else 1
+    files = list(_files_of([*given.files, *(_listed(given.list) if given.list else ())]))
+    return 0 if _write(_seen(report_files(files, given.certificates, given.workers), len(files)), given.csv) else 1
 
 
-def main() -> int:
-    """The command, as a process of its own."""
-    signal.signal(signal.SIGPIPE, signal.SIG_DFL)
-    signal.signal(signal.SIGINT, signal.SIG_DFL)
-    for stream in (sys.stdin, sys.stdout):
-        # names of files needn't be text
-        if isinstance(stream, io.TextIOWrapper):
-            stream.reconfigure(errors="surrogateescape")
-    return run(sys.argv[1:])
+def main(words: Optional[Sequence[str]] = None) -> int:
+    parser = _words()
+    return _ends.run(parser, lambda given: command(parser, given), words)
 
 
 if __name__ == "__main__":

@@ -8,6 +8,8 @@ from typing import Iterator, Optional
 from ._errors import NoLibrary
 
 NAME = "libminorder.so.1"
+# the loader's words where there is no room for a library
+NO_ROOM = ("cannot allocate", "failed to map", "cannot map")
 
 
 class Pair(Structure):
@@ -66,6 +68,8 @@ def _load() -> CDLL:
                 call.argtypes, call.restype = arguments, c_uint32
             return loaded
         except OSError as error:
+            if any(words in str(error).lower() for words in NO_ROOM):
+                raise MemoryError(str(error)) from None
             why = why or str(error)
         except AttributeError as error:
             raise NoLibrary(f"{path} is no {NAME} that this package can call: {error}") from error

@@ -2,10 +2,12 @@
 from __future__ import annotations
 
 import importlib
+import io
 from importlib.util import find_spec
 from typing import TYPE_CHECKING, Any, Mapping, Sequence
 
 from . import benchmarks
+from ._writing import write_file
 
 if TYPE_CHECKING:
     from ._scores import Score
@@ -41,7 +43,7 @@ def draw(scores: Sequence[Score], path: str) -> None:
     figure, panels = pyplot.subplots(1, len(scores), figsize=(1.5 + 5.4 * len(scores), 4.4), sharey=True, squeeze=False)
     colours = pyplot.get_cmap("tab10").colors
     for axes, score in zip(panels[0], scores):
-        whole = len(score.standing.lines)
+        whole = score.standing.whole
         curves = {" ".join(it): curve_of(score.others[it], whole) for it in benchmarks.CURVES if it in score.others}
         curves[score.method] = curve_of(score.standing, whole)
         draw_curves(axes, curves, [*colours[:len(curves) - 1], "#000000"], score.method)
@@ -49,5 +51,7 @@ def draw(scores: Sequence[Score], path: str) -> None:
     panels[0][0].set_ylabel("share of the functions, %")
     panels[0][-1].legend(frameon=False, loc="lower right")
     figure.tight_layout()
-    figure.savefig(path)
+    drawn = io.BytesIO()
+    figure.savefig(drawn, format=path.rpartition(".")[2])
     pyplot.close(figure)
+    write_file(path, drawn.getvalue())

@@ -1,54 +1,67 @@
-"""The results of a method: lines of CSV or JSON with a function's name and an order, or a number of nodes alone."""
+"""The results of a method: in each row a function's name and an order, or a number of nodes alone."""
 from __future__ import annotations
 
-import csv
-import io
-import json
 from dataclasses import dataclass
 from math import isfinite
-from typing import Iterator, Mapping, Optional, Sequence
+from typing import Mapping, Optional, Sequence, Union
 
 from . import benchmarks
 from ._errors import MinorderError
+from ._result_rows import COLUMNS, Fault, Unreadable, rows_of
 
 LATE = "late"
 # the family whose functions have the same size under every order
 SYMMETRIC = "symmetric"
 HERE = "an order is counted here"
-STARTS = {benchmarks.FILE: benchmarks.FILE, **{word: benchmarks.RANDOM for word in (benchmarks.RANDOM, *map(str, range(1, 11)))}}
-COLUMNS = "name and order, or name and nodes; besides these seconds and start"
+STARTS = (benchmarks.FILE, benchmarks.RANDOM, *map(str, benchmarks.NUMBERS))
+FAULTS_SHOWN, CHARACTERS_SHOWN = 20, 60
 
 
 class BadResults(MinorderError, ValueError):
-    """Results are refused; ``faults`` says why, a text for each line."""
+    """Results are refused; ``faults`` says why, a text for each line, of the first lines alone if there are many."""
 
     def __init__(self, faults: Sequence[str]) -> None:
         self.faults = list(faults)
         super().__init__("\n".join(self.faults))
 
 
-class Fault(Exception):
-    """Why a line is refused."""
-
-
 @dataclass(frozen=True)
 class Run:
-    """What a run ended with: an order, top first, or a number of nodes that is only claimed, or neither where it was late."""
+    """What a run ended with: an order, top first, perhaps with the method's own number of nodes, or that number alone,
+    which is a claim; neither where the run was late. ``start`` is `file`, `random` or the number of a random order."""
     name: str
     start: str
     order: Optional[tuple[int, ...]]
     nodes: Optional[int]
     seconds: Optional[float]
 
+    @property
+    def kind(self) -> str:
+        return benchmarks.FILE if self.start == benchmarks.FILE else benchmarks.RANDOM
+
+    @property
+    def claimed(self) -> bool:
+        return self.order is None and self.nodes is not None
+
 
 def read_results(text: str) -> list[Run]:
-    """The runs that a text of CSV or JSON lists. Raises BadResults, which says all that is wrong."""
-    runs, faults = [], []
-    for place, row in rows_of(text):
-        try:
-            runs.append(run_of(row))
-        except Fault as fault:
-            faults.append(f"{place}: {fault}")
+    """The runs that a text of CSV or JSON lists. Raises BadResults."""
+    runs: list[Run] = []
+    faults: list[str] = []
+    more = 0
+    try:
+        for place, row in rows_of(text):
+            try:
+                runs.append(run_of(row))
+            except Fault as fault:
+                if len(faults) < FAULTS_SHOWN:
+                    faults.append(f"{place}: {fault}")
+                else:
+                    more += 1
+    except Unreadable as fault:
+        faults.append(str(fault))
+    if more:
+        faults.append(f"and {more} more lines like these")
     if faults:
         raise BadResults(faults)
     if not runs:
@@ -56,79 +69,45 @@ def read_results(text: str) -> list[Run]:
     return runs
 
 
-# ---- rows
-
-Row = tuple[str, Mapping[str, object]]
-
-
-def rows_of(text: str) -> Iterator[Row]:
-    """The rows, each with its place, such as `line 3`."""
-    if text.lstrip()[:1] == "[":
-        return json_list(text)
-    return json_lines(text) if text.lstrip()[:1] == "{" else csv_rows(text)
-
-
-def json_of(text: str, place: str) -> object:
-    try:
-        return json.loads(text)
-    except (ValueError, RecursionError) as error:
-        raise BadResults([f"{place}: no JSON: {error}"]) from None
-
-
-def row_of(value: object, place: str) -> Row:
-    if not isinstance(value, dict):
-        raise BadResults([f"{place}: no object with a name"])
-    return place, value
-
-
-def json_list(text: str) -> Iterator[Row]:
-    values = json_of(text, "the list")
-    for number, value in enumerate(values if isinstance(values, list) else [values], 1):
-        yield row_of(value, f"entry {number}")
-
-
-def json_lines(text: str) -> Iterator[Row]:
-    for number, line in enumerate(text.splitlines(), 1):
-        if line.strip():
-            yield row_of(json_of(line, f"line {number}"), f"line {number}")
-
-
-def csv_rows(text: str) -> Iterator[Row]:
-    reader = csv.DictReader(io.StringIO(text.lstrip("\ufeff")), skipinitialspace=True)
-    heads = [head.strip().lower() for head in reader.fieldnames or ()]
-    if "name" not in heads or not {"order", "nodes"} & set(heads):
-        raise BadResults([f"line 1: it names no columns {COLUMNS}"])
-    reader.fieldnames = heads
-    try:
-        for row in reader:
-            if row.pop(None, None):
-                raise BadResults([f"line {reader.line_num}: more cells than columns; an order has blanks between its inputs"])
-            yield f"line {reader.line_num}", {head: cell for head, cell in row.items() if cell and cell.strip()}
-    except csv.Error as error:
-        raise BadResults([f"line {reader.line_num}: no CSV: {error}"]) from None
+def cut(value: object) -> str:
+    """A word of the results as a message shows it."""
+    text = "".join(it if it.isprintable() else "?" for it in str(value)[:CHARACTERS_SHOWN + 1])
+    return text if len(text) <= CHARACTERS_SHOWN else f"{text[:CHARACTERS_SHOWN]}.."
 
 
 # ---- what a row says
 
-def run_of(row: Mapping[str, object]) -> Run:
-    name, start = row.get("name"), str(row.get("start", benchmarks.FILE)).strip().lower()
+def run_of(row: Union[Mapping[str, object], Fault]) -> Run:
+    if isinstance(row, Fault):
+        raise row
+    name, order, nodes = row.get("name"), row.get("order"), row.get("nodes")
     if not isinstance(name, str):
         raise Fault("no name")
     try:
         entry = benchmarks.entry(name.strip())
     except benchmarks.UnknownName as error:
         raise Fault(error) from None
-    if start not in STARTS:
-        raise Fault(f"{name}: start {start}: it is file, random, or the number of a random order, 1 to 10")
-    order, nodes = row.get("order"), row.get("nodes")
+    said = name.strip()
+    start = start_of(said, row.get("start", benchmarks.FILE))
     if order is None and nodes is None:
-        raise Fault(f"{name}: neither an order nor a number of nodes")
-    seconds = seconds_of(name, row.get("seconds"))
-    if LATE in (order, nodes):
-        return Run(entry.name, STARTS[start], None, None, None)
-    if order is not None:
-        return Run(entry.name, STARTS[start], order_of(name, order, entry.inputs), None, seconds)
-    return Run(entry.name, STARTS[start], None, claim_of(name, nodes), seconds)
+        raise Fault(f"{said}: neither an order nor a number of nodes")
+    seconds = seconds_of(said, row.get("seconds"))
+    words = [str(it).strip().lower() for it in (order, nodes) if it is not None]
+    if LATE in words:
+        if set(words) != {LATE}:
+            raise Fault(f"{said}: both {LATE} and {cut(next(it for it in words if it != LATE))}")
+        return Run(entry.name, start, None, None, seconds)
+    if order is None:
+        return Run(entry.name, start, None, claim_of(said, nodes, benchmarks.optima()[entry.name]), seconds)
+    own = None if nodes is None else nodes_of(said, nodes)
+    return Run(entry.name, start, order_of(said, order, entry.inputs), own, seconds)
+
+
+def start_of(name: str, given: object) -> str:
+    start = str(given).strip().lower()
+    if start not in STARTS:
+        raise Fault(f"{name}: start {cut(start)}: it is file, random, or the number of a random order, 1 to 10")
+    return start
 
 
 def seconds_of(name: str, given: object) -> Optional[float]:
@@ -136,10 +115,10 @@ def seconds_of(name: str, given: object) -> Optional[float]:
         return None
     try:
         seconds = float(given)  # type: ignore[arg-type]
-    except (TypeError, ValueError):
+    except (TypeError, ValueError, OverflowError):
         seconds = -1
     if seconds < 0 or not isfinite(seconds) or isinstance(given, bool):
-        raise Fault(f"{name}: seconds {given}: no number of seconds")
+        raise Fault(f"{name}: seconds {cut(given)}: no number of seconds")
     return seconds
 
 
@@ -147,24 +126,30 @@ def order_of(name: str, given: object, inputs: Sequence[str]) -> tuple[int, ...]
     """The inputs' numbers of an order that is spelled by numbers or by names."""
     words = given if isinstance(given, list) else str(given).replace(",", " ").split()
     places = {**{str(x): x for x in range(len(inputs))}, **{it: x for x, it in enumerate(inputs)}}
-    unknown = [str(word) for word in words if isinstance(word, bool) or str(word) not in places]
-    if unknown:
-        raise Fault(f"{name}: {unknown[0]} is no input: they are 0 to {len(inputs) - 1}, or {' '.join(inputs)}")
-    order = tuple(places[str(word)] for word in words)
-    repeated = [x for x in order if order.count(x) > 1]
+    order: list[int] = []
+    for word in words:
+        x = None if isinstance(word, bool) else places.get(str(word))
+        if x is None:
+            raise Fault(f"{name}: {cut(word)} is no input: they are 0 to {len(inputs) - 1}, or {' '.join(inputs)}")
+        if x in order:
+            raise Fault(f"{name}: input {x} stands twice")
+        order.append(x)
     missing = [x for x in range(len(inputs)) if x not in order]
-    if repeated or missing:
-        raise Fault(f"{name}: input {repeated[0]} stands twice" if repeated else f"{name}: input {missing[0]} is missing")
-    return order
+    if missing:
+        raise Fault(f"{name}: input {missing[0]} is missing")
+    return tuple(order)
 
 
-def claim_of(name: str, given: object) -> int:
-    """A number of nodes that some order may have: not below the proved optimum, and of a symmetric function no other."""
+def nodes_of(name: str, given: object) -> int:
     text = str(given).strip()
     if isinstance(given, bool) or not (text.isascii() and text.isdigit() and len(text) < 10):
-        raise Fault(f"{name}: nodes {text}: no number of nodes")
-    nodes, row = int(text), benchmarks.optima()[benchmarks.entry(name.strip()).name]
-    fewest = row.optimum
+        raise Fault(f"{name}: nodes {cut(text)}: no number of nodes")
+    return int(text)
+
+
+def claim_of(name: str, given: object, row: benchmarks.Optimum) -> int:
+    """A number of nodes that some order may have: not below the proved optimum, and of a symmetric function no other."""
+    nodes, fewest = nodes_of(name, given), row.optimum
     if nodes > fewest and row.family == SYMMETRIC:
         raise Fault(f"{name}: {nodes} nodes, and each order has {fewest}: most likely the constants counted; {HERE}")
     if nodes < fewest:

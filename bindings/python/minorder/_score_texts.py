@@ -1,16 +1,20 @@
-"""A score as a report for a reader, as JSON, and as CSV."""
+"""A score as a report for a reader, as JSON, and the runs as CSV."""
 from __future__ import annotations
 
 import csv
 import io
 import json
-from typing import Optional, Sequence
+from typing import Iterator, Optional, Sequence
 
 from . import benchmarks
+from ._counting import Counted
 from ._picture import START_SAID
+from ._results import LATE
 from ._scores import Score, Size
+from .benchmarks import fixed, percent
 
 ENDS, SHOWN = 3, 20
+CSV_COLUMNS = ("name", "start", "order", "nodes", "optimum", "ratio", "claimed", "seconds")
 
 
 def aligned(rows: Sequence[Sequence[str]]) -> list[str]:
@@ -20,77 +24,127 @@ def aligned(rows: Sequence[Sequence[str]]) -> list[str]:
             for row in rows]
 
 
-def fixed(value: Optional[float], digits: int) -> str:
-    return "" if value is None else f"{value:.{digits}f}"
+def some(names: Sequence[str]) -> str:
+    """The first of the names, and how many more there are."""
+    more = len(names) - SHOWN
+    return " ".join(names[:SHOWN]) + (f" and {more} more" if more > 0 else "")
+
+
+# ---- the league
+
+HEADS = ["Method", "Mean ratio", "Of what ended", "Worst ratio", "Optimum met", "Runs that met it", "Late", "Seconds"]
 
 
 def league_row(name: str, standing: benchmarks.Standing) -> list[str]:
-    worst = f"{standing.worst_ratio:.2f} ({standing.worst.name})" if standing.ended else ""
-    met = f"{standing.met} of {len(standing.ended)}"
-    return [name, fixed(standing.mean, 3), worst, met, str(standing.late or ""), fixed(standing.seconds, 1)]
+    ended = len(standing.ended)
+    worst = f"{fixed(standing.worst_ratio, 2)} ({standing.worst.name})" if standing.worst else ""
+    return [
+        name, fixed(standing.mean, 3), f"{fixed(standing.mean_of_ended, 3)} of {ended}" if ended else "", worst,
+        f"{standing.met} of {standing.whole}", percent(standing.runs_met, standing.runs) if standing.runs else "",
+        str(standing.late or ""), fixed(standing.seconds, 1)]
 
 
 def league_table(score: Score) -> list[str]:
     """The methods of the league on the same functions, with this one in its place."""
-    rows = [["Method", "Mean ratio", "Worst ratio", "Optimum met", "Late", "Seconds"]]
-    rows += [league_row(" ".join(method), score.others[method]) for method in benchmarks.ranked(score.others)]
-    if score.place:
-        rows.insert(score.place, league_row(f"> {score.method}", score.standing))
-    return aligned(rows)
+    if score.place is None:
+        return []
+    rows = [league_row(" ".join(method), score.others[method]) for method in benchmarks.ranked(score.others)]
+    rows.insert(score.place - 1, league_row(f"> {score.method}", score.standing))
+    return aligned([HEADS, *rows])
+
+
+# ---- the method
+
+def all_functions(score: Score) -> str:
+    count = score.standing.whole
+    said = f"all {count} functions" if count != 1 else "the one function"
+    return f"{said} of {', '.join(score.families)}" if score.families else said
+
+
+def functions_line(score: Score) -> str:
+    counted = len(score.sizes) - score.claimed
+    known = f"{counted} by their orders, {score.claimed} by sizes that are only claimed"
+    others = f"{score.standing.late} late, {len(score.missing)} missing"
+    return f"functions: {len(score.sizes)} of {score.standing.whole}: {known}; {others}"
+
+
+def ratio_lines(score: Score) -> Iterator[str]:
+    mine = score.standing
+    ended = len(mine.ended)
+    is_whole = ended == mine.whole
+    is_plain = is_whole and fixed(mine.mean, 6) == fixed(mine.mean_of_ended, 6)
+    yield f"place: {score.place} of {1 + len(score.others)}, by the mean ratio on {all_functions(score)}"
+    yield f"mean ratio: {fixed(mine.mean, 3)}"
+    if not is_plain:
+        yield "  late and missing functions count as the worst of the league or the start, and no function counts more"
+    if not is_plain and ended:
+        yield f"of what ended: {fixed(mine.mean_of_ended, 3)} on {ended} function{'s' * (ended != 1)}"
+    if mine.worst:
+        yield f"worst ratio: {fixed(mine.worst_ratio, 2)} ({mine.worst.name})" + ("" if is_whole else ", of what ended")
+    yield f"optimum met: {mine.met} of {mine.whole}"
+    if mine.runs:
+        late = f"; {score.late_runs} late" if score.late_runs else ""
+        yield f"runs that met it: {mine.runs_met} of {mine.runs}, {percent(mine.runs_met, mine.runs)}{late}"
+    if mine.seconds is not None:
+        yield f"seconds: {fixed(mine.seconds, 1)}"
 
 
 def head(score: Score) -> list[str]:
-    counted = len(score.sizes) - score.claimed
-    lines = [f"method: {score.method}", f"start: {START_SAID[score.start]}"]
-    known = f"{counted} by their orders, {score.claimed} by sizes that are only claimed"
-    lines.append(f"functions: {len(score.sizes)} of {score.functions}, {known}")
-    if score.standing.ended:
-        lines += [
-            f"mean ratio: {score.standing.mean:.3f}",
-            f"worst ratio: {score.standing.worst_ratio:.2f} ({score.standing.worst.name})",
-            f"optimum met: {score.standing.met} of {len(score.sizes)}",
-        ]
-        lines += [f"late: {score.standing.late}"] if score.standing.late else []
-        lines += [] if score.standing.seconds is None else [f"seconds: {score.standing.seconds:.1f}"]
-        lines.append(f"place: {score.place} of {1 + len(score.rivals)}, by the mean ratio on these functions")
+    lines = [f"method: {score.method}", f"start: {START_SAID[score.start]}", functions_line(score)]
+    return lines if score.place is None else [*lines, *ratio_lines(score)]
+
+
+def notes(score: Score) -> list[str]:
+    """What of the results doesn't count, and where the method's own sizes are others."""
+    lines = []
+    if score.left_out:
+        only = f"the league has random orders for functions of up to {benchmarks.MOST_INPUTS} inputs alone"
+        lines.append(f"left out, {len(score.left_out)}: {some(score.left_out)}: {only}")
+    if score.few_starts:
+        lines.append(f"with fewer than ten random orders, {len(score.few_starts)}: {some(score.few_starts)}: "
+                     "each that is missing counts as a late run")
+    if score.of_others:
+        lines.append(f"of other families, {len(score.of_others)}: {some(score.of_others)}")
+    for difference, its in score.differences.items():
+        first = its[0]
+        example = f"as {first.run.name}, {first.run.nodes} in place of {first.nodes}"
+        lines.append(f"other own size, {len(its)} run{'s' * (len(its) > 1)}, {example}: {difference}")
     return lines
 
 
 def families(score: Score) -> list[str]:
-    found = score.families
+    found = score.by_family
     ends = [*found[:ENDS], *found[max(ENDS, len(found) - ENDS):]]
-    rows = [[f"  {it.family}", f"{it.mean_ratio:.3f}", f"{it.functions} function{'s' * (it.functions > 1)}"] for it in ends]
-    return ["best and worst families:", *aligned(rows)]
+    rows = [[f"  {it.family}", fixed(it.mean_ratio, 3), f"{it.functions} function{'s' * (it.functions > 1)}"] for it in ends]
+    return ["best and worst families:", *aligned(rows)] if rows else []
 
 
 def costliest(score: Score) -> list[str]:
-    rows = [[f"  {it.name}", f"{it.nodes} nodes", f"fewest {it.optimum}", f"{it.ratio:.3f}"] for it in score.costliest]
+    rows = [[f"  {it.name}", it.size, f"fewest {it.optimum}", fixed(it.ratio, 3)] for it in score.costliest]
     return ["costliest functions:", *aligned(rows)] if rows else []
 
 
 def missing(score: Score) -> list[str]:
-    shown, more = score.missing[:SHOWN], len(score.missing) - SHOWN
-    rest = f" and {more} more" if more > 0 else ""
-    return [f"missing, {len(score.missing)}: {' '.join(shown)}{rest}"] if shown else []
+    named = {"late": score.late, "missing": score.missing}
+    lines = [f"{what}, {len(names)}: {some(names)}" for what, names in named.items() if names]
+    if score.missing and score.whole_families:
+        lines.append(f"behind RESULTS these families give a score of their own: {', '.join(score.whole_families)}")
+    return lines
 
 
 def report(scores: Sequence[Score]) -> str:
-    parts = []
-    for score in scores:
-        parts.append(head(score))
-        if score.standing.ended:
-            parts += [league_table(score), families(score), costliest(score)]
-        parts.append(missing(score))
+    parts = [part(score) for score in scores for part in (head, notes, league_table, families, costliest, missing)]
     return "\n\n".join("\n".join(part) for part in parts if part) + "\n"
 
 
 # ---- for programs
 
 def standing_object(standing: benchmarks.Standing) -> dict[str, object]:
-    worst = {"name": standing.worst.name, "ratio": standing.worst_ratio} if standing.ended else None
+    worst = {"name": standing.worst.name, "ratio": standing.worst_ratio} if standing.worst else None
     return {
-        "functions": len(standing.ended), "mean_ratio": standing.mean, "worst": worst, "optimum_met": standing.met,
-        "late": standing.late, "seconds": standing.seconds,
+        "functions": standing.whole, "ended": len(standing.ended), "late": standing.late, "mean_ratio": standing.mean,
+        "mean_ratio_of_ended": standing.mean_of_ended, "worst": worst, "optimum_met": standing.met, "runs": standing.runs,
+        "runs_met": standing.runs_met, "seconds": standing.seconds,
     }
 
 
@@ -101,30 +155,41 @@ def size_object(size: Size) -> dict[str, object]:
     }
 
 
+def difference_object(it: Counted) -> dict[str, object]:
+    return {"name": it.run.name, "start": it.run.start, "own_nodes": it.run.nodes, "nodes": it.nodes, "why": it.difference}
+
+
 def score_object(score: Score) -> dict[str, object]:
-    found: dict[str, object] = {"method": score.method, "start": score.start}
-    found.update(standing_object(score.standing))
-    found.update({
-        "claimed": score.claimed, "place": score.place, "missing": score.missing,
-        "families": [it._asdict() for it in score.families],
+    return {
+        "method": score.method, "start": score.start, "families_asked_for": score.families, **standing_object(score.standing),
+        "claimed": score.claimed, "place": score.place, "places": 1 + len(score.others), "late_functions": score.late,
+        "late_runs": score.late_runs, "missing": score.missing, "few_starts": score.few_starts,
+        "left_out": score.left_out, "of_other_families": score.of_others,
+        "other_own_sizes": [difference_object(it) for its in score.differences.values() for it in its],
+        "families": [it._asdict() for it in score.by_family],
         "costliest": [it.name for it in score.costliest],
         "results": [size_object(size) for size in score.sizes],
         "league": [dict(standing_object(score.others[package, method]), package=package, method=method)
                    for package, method in benchmarks.ranked(score.others)],
-    })
-    return found
+    }
 
 
 def json_text(scores: Sequence[Score]) -> str:
     return json.dumps([score_object(score) for score in scores], indent=1) + "\n"
 
 
-def csv_text(scores: Sequence[Score]) -> str:
+def cells_of(it: Counted) -> list[object]:
+    run, optimum = it.run, benchmarks.optima()[it.run.name].optimum
+    nodes: Optional[int] = it.nodes
+    return [
+        run.name, run.start, " ".join(map(str, run.order or ())), LATE if nodes is None else nodes, optimum,
+        "" if nodes is None else fixed(nodes / optimum, 4), int(run.claimed), "" if run.seconds is None else repr(run.seconds)]
+
+
+def csv_text(runs: Sequence[Counted]) -> str:
+    """A line for each run."""
     out = io.StringIO()
     table = csv.writer(out, lineterminator="\n")
-    table.writerow(["name", "nodes", "optimum", "ratio", "claimed", "start", "seconds"])
-    for score in scores:
-        for it in score.sizes:
-            cells = [it.name, it.nodes, it.optimum, f"{it.ratio:.4f}", int(it.claimed), score.start, fixed(it.seconds, 4)]
-            table.writerow(cells)
+    table.writerow(CSV_COLUMNS)
+    table.writerows(cells_of(it) for it in runs)
     return out.getvalue()

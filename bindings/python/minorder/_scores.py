@@ -1,19 +1,16 @@
-"""A method's runs counted, and set beside the methods of the league."""
+"""A method's runs set beside the methods of the league."""
 from __future__ import annotations
 
 import statistics
-from concurrent.futures import ProcessPoolExecutor
 from dataclasses import dataclass
 from typing import NamedTuple, Optional, Sequence
 
 from . import benchmarks
-from ._calls import levels
-from ._library import library
-from ._results import Run
+from ._counting import Counted
 
-Order = tuple[int, ...]
-Sizes = dict[tuple[str, Order], int]
 COSTLIEST = 10
+# means that differ by less are equal
+SAME = 1e-9
 
 
 class Size(NamedTuple):
@@ -30,6 +27,14 @@ class Size(NamedTuple):
         return self.nodes / self.optimum
 
 
+class Cost(NamedTuple):
+    """What a function counts in the mean, and its size as it is said."""
+    name: str
+    size: str
+    optimum: int
+    ratio: float
+
+
 class Family(NamedTuple):
     family: str
     functions: int
@@ -38,38 +43,69 @@ class Family(NamedTuple):
 
 @dataclass(frozen=True)
 class Score:
-    """A method's score from a start. ``others`` are the methods of the league on the same functions, ``place`` counts
-    from 1 among the others and itself, by the mean ratio."""
+    """A method's score from a start. ``others`` are the methods of the league on the same functions, ``families`` those that
+    were asked for, and ``runs`` are on these functions. ``left_out`` has the functions that the league hasn't from this start,
+    ``of_others`` those of families that weren't asked for."""
     method: str
     start: str
+    families: list[str]
     standing: benchmarks.Standing
-    sizes: list[Size]
     others: dict[benchmarks.Method, benchmarks.Standing]
-    missing: list[str]
+    runs: list[Counted]
+    left_out: list[str]
+    of_others: list[str]
 
     @property
-    def functions(self) -> int:
-        """How many functions the league has from such a start."""
-        return len(self.standing.lines) + len(self.missing)
+    def missing(self) -> list[str]:
+        has = {line.name for line in self.standing.lines}
+        return [name for name in self.standing.worst_nodes if name not in has]
+
+    @property
+    def late(self) -> list[str]:
+        return [line.name for line in self.standing.lines if line.counted_nodes is None]
+
+    @property
+    def late_runs(self) -> int:
+        return sum(line.late for line in self.standing.lines)
+
+    @property
+    def few_starts(self) -> list[str]:
+        """The functions of which some random orders have no run."""
+        if self.start == benchmarks.FILE:
+            return []
+        of_function = by_function(self.runs)
+        return [name for name, its in of_function.items() if len(starts_of(its)) < len(benchmarks.NUMBERS)]
+
+    @property
+    def whole_families(self) -> list[str]:
+        """The families of which no function is missing."""
+        optima, lacking = self.standing.optima, set(self.missing)
+        lacks = {optima[name].family for name in lacking}
+        return [it for it in dict.fromkeys(optima[name].family for name in self.standing.worst_nodes) if it not in lacks]
+
+    @property
+    def sizes(self) -> list[Size]:
+        """Of the functions that ended."""
+        claimed, optima = {it.run.name for it in self.runs if it.run.claimed}, self.standing.optima
+        return [
+            Size(line.name, optima[line.name].family, line.counted_nodes or 0, optima[line.name].optimum, line.name in claimed,
+                 line.seconds) for line in self.standing.ended]
 
     @property
     def claimed(self) -> int:
         return sum(size.claimed for size in self.sizes)
 
     @property
-    def rivals(self) -> list[float]:
-        """The mean ratios of the methods that leave an order of the variables."""
-        means = [self.others[method].mean for method in benchmarks.ranked(self.others) if method != benchmarks.LAST]
-        return [mean for mean in means if mean is not None]
-
-    @property
     def place(self) -> Optional[int]:
+        """It counts from 1, among the league's methods and this one, by the mean ratio on all functions."""
         mine = self.standing.mean
-        return None if mine is None else 1 + sum(mean < mine for mean in self.rivals)
+        if mine is None:
+            return None
+        return 1 + sum((its.mean or 0) < mine * (1 - SAME) for its in self.others.values())
 
     @property
-    def families(self) -> list[Family]:
-        """By the mean ratio, the least first."""
+    def by_family(self) -> list[Family]:
+        """Of what ended, by the mean ratio, the least first."""
         ratios: dict[str, list[float]] = {}
         for size in self.sizes:
             ratios.setdefault(size.family, []).append(size.ratio)
@@ -77,71 +113,82 @@ class Score:
         return sorted(found, key=lambda it: it.mean_ratio)
 
     @property
-    def costliest(self) -> list[Size]:
-        """The functions of the largest ratios, those above the optimum alone."""
-        return sorted((size for size in self.sizes if size.ratio > 1), key=lambda size: -size.ratio)[:COSTLIEST]
+    def costliest(self) -> list[Cost]:
+        """The functions with runs that count most in the mean, those above the optimum alone."""
+        worst, optima, found = self.standing.worst_nodes, self.standing.optima, []
+        for line in self.standing.lines:
+            nodes, best, most = line.counted_nodes, optima[line.name].optimum, worst[line.name]
+            found.append(Cost(line.name, "late" if nodes is None else f"{nodes} nodes", best, min(nodes or most, most) / best))
+        return sorted((it for it in found if it.ratio > 1), key=lambda it: -it.ratio)[:COSTLIEST]
+
+    @property
+    def differences(self) -> dict[str, list[Counted]]:
+        """The runs whose own number of nodes isn't the one that is counted, by why it is another."""
+        found: dict[str, list[Counted]] = {}
+        for it in self.runs:
+            if it.difference:
+                found.setdefault(it.difference, []).append(it)
+        return found
 
 
-# ---- counting
+class OwnLine(benchmarks.Line):
+    """A line like those of the league, whose median is what the function counts."""
 
-def sizes_of_orders(name: str, orders: Sequence[Order]) -> list[int]:
-    """The sizes of a function's diagrams under orders, without complement edges."""
-    tables = benchmarks.entry(name).tables()
-    return [sum(levels(tables, order)) for order in orders]
+    @property
+    def counted_nodes(self) -> Optional[int]:
+        return self.median_nodes
 
 
-def sizes_of(runs: Sequence[Run], jobs: Optional[int] = None) -> Sizes:
-    """The sizes under all orders of the runs, several functions at a time. Raises NoLibrary."""
-    orders: dict[str, list[Order]] = {}
-    for run in runs:
-        if run.order is not None and run.order not in orders.setdefault(run.name, []):
-            orders[run.name].append(run.order)
-    if not orders:
-        return {}
-    library()
+def median_of(nodes: Sequence[Optional[int]]) -> Optional[int]:
+    """The lower median, where None counts as more than any number; None where half of them or more are."""
+    ended = sorted(it for it in nodes if it is not None)
+    return ended[(len(nodes) - 1) // 2] if 2 * len(ended) > len(nodes) else None
+
+
+def starts_of(runs: Sequence[Counted]) -> list[Optional[int]]:
+    """What counts of each random order that has a run: of a numbered one the median of its runs."""
+    numbered: dict[str, list[Optional[int]]] = {}
+    for it in runs:
+        numbered.setdefault(it.run.start, []).append(it.nodes)
+    others = numbered.pop(benchmarks.RANDOM, [])
+    return [*map(median_of, numbered.values()), *others]
+
+
+def line_of(method: str, start: str, runs: Sequence[Counted]) -> OwnLine:
+    """What the runs of a function count. Of random orders each counts once, and one without a run as a late run."""
+    counts = [it.nodes for it in runs] if start == benchmarks.FILE else starts_of(runs)
+    lacking = 0 if start == benchmarks.FILE else max(0, len(benchmarks.NUMBERS) - len(counts))
+    nodes = sorted(it.nodes for it in runs if it.nodes is not None)
+    seconds = [it.run.seconds for it in runs if it.run.seconds is not None and it.nodes is not None]
+    least, most = (nodes[0], nodes[-1]) if nodes else (None, None)
+    every = len(runs) + lacking
+    return OwnLine(
+        runs[0].run.name, "", method, start, every, every - len(nodes), 0, least, median_of([*counts, *[None] * lacking]), most,
+        sum(it.is_best for it in runs), statistics.fmean(seconds) if seconds else None)
+
+
+def by_function(runs: Sequence[Counted]) -> dict[str, list[Counted]]:
+    found: dict[str, list[Counted]] = {}
+    for it in runs:
+        found.setdefault(it.run.name, []).append(it)
+    return found
+
+
+def scores_of(method: str, runs: Sequence[Counted], families: Sequence[str] = ()) -> list[Score]:
+    """A score for each start that the runs have; if families are named, on their functions alone."""
+    kinds = [kind for kind in (benchmarks.FILE, benchmarks.RANDOM) if any(it.run.kind == kind for it in runs)]
+    return [score_from(kind, method, [it for it in runs if it.run.kind == kind], list(families)) for kind in kinds]
+
+
+def score_from(start: str, method: str, runs: Sequence[Counted], families: list[str]) -> Score:
     optima = benchmarks.optima()
-    # the largest first, so that no process is left alone with them
-    names = sorted(orders, key=lambda name: (-optima[name].inputs, -optima[name].outputs))
-    with ProcessPoolExecutor(jobs) as pool:
-        counted = list(pool.map(sizes_of_orders, names, [orders[name] for name in names]))
-    return {(name, order): size for name, sizes in zip(names, counted) for order, size in zip(orders[name], sizes)}
-
-
-# ---- scores
-
-def starts_of(runs: Sequence[Run]) -> list[str]:
-    return [start for start in (benchmarks.FILE, benchmarks.RANDOM) if any(run.start == start for run in runs)]
-
-
-def nodes_of(run: Run, sizes: Sizes) -> Optional[int]:
-    return run.nodes if run.order is None else sizes[run.name, run.order]
-
-
-def line_of(name: str, method: str, runs: Sequence[Run], sizes: Sizes) -> benchmarks.Line:
-    """A function's runs as a line of the league."""
-    nodes = sorted(it for it in (nodes_of(run, sizes) for run in runs) if it is not None)
-    seconds = [run.seconds for run in runs if run.seconds is not None and nodes_of(run, sizes) is not None]
-    least, median, most = (nodes[0], statistics.median_low(nodes), nodes[-1]) if nodes else (None, None, None)
-    fewest = benchmarks.optima()[name].optimum
-    return benchmarks.Line(
-        name, "", method, runs[0].start, len(runs), len(runs) - len(nodes), 0, least, median, most, nodes.count(fewest),
-        statistics.fmean(seconds) if seconds else None)
-
-
-def score_of(method: str, start: str, runs: Sequence[Run], sizes: Sizes) -> Score:
-    """The score of the runs from a start."""
-    by_name: dict[str, list[Run]] = {}
-    for run in runs:
-        if run.start == start:
-            by_name.setdefault(run.name, []).append(run)
-    optima, league = benchmarks.optima(), benchmarks.standings(benchmarks.league(), benchmarks.optima(), start)
-    in_league = dict.fromkeys(line.name for standing in league.values() for line in standing.lines)
-    names = [name for name in optima if name in by_name and name in in_league]
-    standing = benchmarks.Standing([line_of(name, method, by_name[name], sizes) for name in names], optima)
-    found = [
-        Size(line.name, optima[line.name].family, line.median_nodes or 0, optima[line.name].optimum,
-             any(run.order is None and run.nodes is not None for run in by_name[line.name]), line.seconds)
-        for line in standing.ended
-    ]
-    others = {other: its.of(names) for other, its in league.items()}
-    return Score(method, start, standing, found, others, [name for name in in_league if name not in by_name])
+    names = [name for name, it in optima.items() if not families or it.family in families]
+    league = {other: its.of(names) for other, its in benchmarks.standings(benchmarks.league(), optima, start).items()}
+    worst = benchmarks.worst_nodes(benchmarks.league(), optima, start)
+    of_function = by_function(runs)
+    lines = [line_of(method, start, of_function[name]) for name in optima if name in of_function and name in worst]
+    standing = benchmarks.Standing(lines, optima, worst).of(names)
+    inside = [it for it in runs if it.run.name in standing.worst_nodes]
+    left_out = [name for name in of_function if name not in worst]
+    of_others = [line.name for line in lines if line.name not in standing.worst_nodes]
+    return Score(method, start, families, standing, league, inside, left_out, of_others)

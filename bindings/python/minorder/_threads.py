@@ -3,7 +3,10 @@ import os
 import warnings
 from collections import deque
 from concurrent.futures import BrokenExecutor, Executor, Future
+from contextlib import suppress
+from ctypes import CDLL
 from queue import SimpleQueue
+from signal import SIG_BLOCK, SIG_SETMASK, SIGHUP, SIGINT, SIGTERM, pthread_sigmask
 from threading import Thread, current_thread, main_thread
 from typing import Any, Callable, Deque, Iterable, Iterator, Optional, Tuple, TypeVar
 
@@ -16,6 +19,10 @@ LASTING = 12
 # how many tasks an executor is given before the first one's outcome is waited for
 AHEAD = 256
 
+with suppress(OSError):
+    # glibc loads it where a thread ends, and aborts if memory is out by then
+    CDLL("libgcc_s.so.1")
+
 
 def aside(inputs: int, call: Callable[..., T], *arguments: object) -> T:
     """What a call gives. If it may last, Ctrl-C leaves it: the main thread waits for another one that makes it."""
@@ -23,7 +30,7 @@ def aside(inputs: int, call: Callable[..., T], *arguments: object) -> T:
         return call(*arguments)
     try:
         one = Threads(1)
-    except RuntimeError:
+    except MemoryError:
         # there is no room for a thread
         return call(*arguments)
     try:
@@ -33,13 +40,22 @@ def aside(inputs: int, call: Callable[..., T], *arguments: object) -> T:
 
 
 class Threads(Executor):
-    """Threads that end with the interpreter, also in the midst of a call, and so let it end."""
+    """Threads that end with the interpreter, also in the midst of a call, and so let it end. Raises MemoryError if one can't be
+    had."""
 
     def __init__(self, workers: int) -> None:
         self._workers = workers
         self._tasks: "SimpleQueue[Optional[Tuple[Future[Any], Callable[[], Any]]]]" = SimpleQueue()
-        for _ in range(workers):
-            Thread(target=self._work, daemon=True).start()
+        # signals are for the main thread
+        before = pthread_sigmask(SIG_BLOCK, (SIGHUP, SIGINT, SIGTERM))
+        try:
+            for _ in range(workers):
+                Thread(target=self._work, daemon=True).start()
+        except RuntimeError as error:
+            self.shutdown()
+            raise MemoryError(str(error)) from None
+        finally:
+            pthread_sigmask(SIG_SETMASK, before)
 
     def _work(self) -> None:
         while (task := self._tasks.get()) is not None:

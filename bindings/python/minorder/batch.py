@@ -11,6 +11,7 @@ from ._calls import certify, exact, levels, sift
 from ._errors import BadArgument, BadPla
 from ._tables import shown
 from ._threads import in_order
+from ._writing import write_file
 from .files import LIMIT, pla_of
 
 Path = Union[str, "os.PathLike[str]"]
@@ -52,7 +53,6 @@ class FileReport:
         """By names: the file and the status, and the fault or what the report has."""
         said = {"file": self.file, "status": int(self.status)}
         return {**said, "fault": self.fault} if self.report is None else {**said, **asdict(self.report)}
-
 
 
 # ---- one file
@@ -123,7 +123,8 @@ def _content_of(path: str) -> Optional[bytes]:
     try:
         with open(path, "rb") as file:
             return file.read(LIMIT + 1)
-    except OSError:
+    except (OSError, ValueError):
+        # a name with a NUL is a ValueError
         return None
 
 
@@ -155,9 +156,7 @@ def _certificates_of(files: Sequence[str], folder: str) -> Dict[str, str]:
 def _is_written(place: str, text: str) -> bool:
     """Puts a text in its place as a whole; whether that can be done."""
     try:
-        with open(f"{place}.part", "w") as file:
-            file.write(text)
-        os.replace(f"{place}.part", place)
+        write_file(place, text.encode("ascii"))
         return True
     except OSError:
         return False

@@ -7,32 +7,27 @@ Exit status: 0; 1 if there is no library, 2 if the words are refused, 3 if FILE 
 from __future__ import annotations
 
 import argparse
-import os
-import signal
 import sys
-from typing import NoReturn, Optional, Sequence
+from typing import Optional, Sequence
 
+from . import _ends
 from ._calls import levels
-from ._errors import BadPla, NoLibrary
+from ._errors import BadPla
 from ._orders import fault_of, numbered, orders_of
 from ._tables import Pla
+from ._writing import named
 from .files import read_pla
 
 NAME = "minorder-levels"
-
-
-def refuse(message: object, status: int) -> NoReturn:
-    print(f"{NAME}: {message}", file=sys.stderr)
-    sys.exit(status)
 
 
 def read(path: str) -> Pla:
     try:
         return read_pla(path)
     except BadPla as fault:
-        refuse(fault, 3)
+        raise _ends.Refused(_ends.REFUSED, fault) from None
     except OSError as error:
-        refuse(f"{path}: {error.strerror}", 5)
+        raise named(error, path) from None
 
 
 def checked(words: Sequence[str], names: Sequence[str]) -> list[str]:
@@ -40,7 +35,7 @@ def checked(words: Sequence[str], names: Sequence[str]) -> list[str]:
     order = numbered(words, names)
     fault = fault_of(order, len(names), names if order != words else None)
     if fault:
-        refuse(f"{' '.join(words)}: {fault}" if words else fault, 2)
+        raise _ends.Refused(_ends.BAD_WORDS, f"{' '.join(words)}: {fault}" if words else fault)
     return order
 
 
@@ -54,26 +49,17 @@ def show(file: Pla, orders: Sequence[Sequence[str]]) -> None:
         print("nodes:", sum(counts), flush=True)
 
 
+def command(given: argparse.Namespace) -> int:
+    file = read(given.file)
+    show(file, [checked(words, file.inputs) for words in orders_of(given.orders, len(file.inputs))])
+    return 0
+
+
 def main(words: Optional[Sequence[str]] = None) -> int:
-    # a reader that takes no more, as `head`, ends it
-    signal.signal(signal.SIGPIPE, signal.SIG_DFL)
-    parser = argparse.ArgumentParser(NAME, description=__doc__, formatter_class=argparse.RawDescriptionHelpFormatter)
+    parser = _ends.parser_of(NAME, __doc__)
     parser.add_argument("file", metavar="FILE")
     parser.add_argument("orders", metavar="ORDER", nargs="+")
-    given = parser.parse_args(words)
-    file = read(given.file)
-    orders = [checked(words, file.inputs) for words in orders_of(given.orders, len(file.inputs))]
-    try:
-        show(file, orders)
-    except NoLibrary as error:
-        refuse(error, 1)
-    except MemoryError:
-        refuse("OutOfMemory", 4)
-    except OSError as error:
-        # what is left unwritten goes nowhere, else the interpreter tries again at its end
-        os.dup2(os.open(os.devnull, os.O_WRONLY), sys.stdout.fileno())
-        refuse(f"standard output: {error.strerror}", 5)
-    return 0
+    return _ends.run(parser, command, words)
 
 
 if __name__ == "__main__":

@@ -3,86 +3,99 @@
 RESULTS is a file of CSV, whose first line names the columns, or of JSON, a list or an object a line; - is standard input.
 Its columns are name (a function's, or the field's name for it) and order (top first, inputs by number or by name), or name
 and nodes (a size alone, which is a claim); besides them seconds, and start: file, the order of the file, if it is left out,
-or random. The word late in place of an order is a run that didn't end. Several lines of a function are several runs, of
-which the median counts. Orders are counted by the library, without complement edges. Exit status: 0; 1 if there is no
-library, 2 if the words are refused, 3 if the results are, 4 if memory is out, 5 if a file can't be read or written.
+or random, or the number of a random order. The word late in place of an order is a run that didn't end. Several lines of a
+function are several runs, of which the median counts. Orders are counted by the library, without complement edges; nodes
+beside an order are compared with what is counted. The place is by the mean ratio on all functions, where a missing one, or
+one of which half the runs or more are late, counts as the worst that any method of the league or the start has there. Each
+of ten random orders counts once, one without a line as a late run. FAMILY, such as "hidden weighted bit", chooses the
+functions of a family; several may be named.
+Exit status: 0; 1 if there is no library, 2 if the words are refused, 3 if the results are, 4 if memory is out, 5 if a file
+can't be read or written.
 """
 from __future__ import annotations
 
 import argparse
 import os
 import sys
-from typing import Optional, Sequence
+from typing import Iterable, Optional, Sequence
 
-from . import _output, _picture, _scores, _score_texts
-from ._errors import NoLibrary
+from . import _ends, _picture, _score_texts, benchmarks
+from ._counting import counted
 from ._results import BadResults, Run, read_results
+from ._scores import Score, scores_of
+
+NAME = "minorder-score"
 
 
-def score(runs: Sequence[Run], method: str, jobs: Optional[int] = None) -> list[_scores.Score]:
-    """The score of a method's runs, one for each start. Raises NoLibrary."""
-    sizes = _scores.sizes_of(runs, jobs)
-    return [_scores.score_of(method, start, runs, sizes) for start in _scores.starts_of(runs)]
+def score(runs: Sequence[Run], method: str, families: Sequence[str] = (), jobs: Optional[int] = None) -> list[Score]:
+    """The score of a method's runs, one for each start. Raises NoLibrary, MemoryError."""
+    return scores_of(method, counted(runs, jobs), families)
 
 
 def parser_of_words() -> argparse.ArgumentParser:
-    form = argparse.RawDescriptionHelpFormatter
-    parser = argparse.ArgumentParser("minorder-score", description=__doc__, formatter_class=form)
+    parser = _ends.parser_of(NAME, __doc__)
     parser.add_argument("results", metavar="RESULTS")
+    parser.add_argument("families", metavar="FAMILY", nargs="*", default=[])
     parser.add_argument("--name", help="the method's name; that of the file if it is left out")
     text = parser.add_mutually_exclusive_group()
     text.add_argument("--json", action="store_true", help="write all as JSON")
-    text.add_argument("--csv", action="store_true", help="write a line for each function, as the page reads it")
+    text.add_argument("--csv", action="store_true", help="write each run with its nodes, as the page and another score read it")
     parser.add_argument("--picture", metavar="FILE", help="draw the curves (.svg, .png, .pdf), by matplotlib")
     parser.add_argument("--jobs", type=int, metavar="N", help="functions counted at a time; as many as there are processors")
     return parser
 
 
-def fail(status: int, *lines: object) -> int:
-    for line in lines:
-        print(f"minorder-score: {line}", file=sys.stderr)
-    return status
+def families_of(words: Iterable[str]) -> list[str]:
+    """The families that the words name, as the table spells them. Raises UnknownName."""
+    known = benchmarks.families()
+    for word in words:
+        if word.lower() not in known:
+            raise benchmarks.UnknownName(word, known, "family")
+    return list(dict.fromkeys(known[word.lower()][0].family for word in words))
 
 
-def text_of(path: str) -> str:
-    if path == "-":
-        return sys.stdin.buffer.read().decode("utf-8")
-    with open(path, "rb") as file:
-        return file.read().decode("utf-8")
-
-
-def draw(scores: Sequence[_scores.Score], path: str) -> None:
+def draw(scores: Sequence[Score], path: str) -> None:
     if not _picture.is_there():
-        fail(0, "no picture: matplotlib isn't here (Debian's python3-matplotlib)")
-        return
-    _picture.draw(scores, path)
+        _ends.say(NAME, "no picture: matplotlib isn't here (Debian's python3-matplotlib)")
+    else:
+        _picture.draw(scores, path)
 
 
-def main(words: Optional[Sequence[str]] = None) -> int:
-    parser = parser_of_words()
-    given = parser.parse_args(words)
+def runs_of(path: str) -> list[Run]:
+    try:
+        return read_results(_ends.content_of(path).decode("utf-8"))
+    except BadResults as error:
+        raise _ends.Refused(_ends.REFUSED, *error.faults) from None
+    except UnicodeDecodeError as error:
+        raise _ends.Refused(_ends.REFUSED, f"{path}: no text (UTF-8) from byte {error.start} on") from None
+
+
+def command(parser: argparse.ArgumentParser, given: argparse.Namespace) -> int:
     if given.jobs is not None and given.jobs < 1:
         parser.error("--jobs: at least 1")
     if given.picture and not given.picture.endswith((".svg", ".png", ".pdf")):
         parser.error("--picture: the name of a file that ends in .svg, .png or .pdf")
-    method = given.name or ("results" if given.results == "-" else os.path.splitext(os.path.basename(given.results))[0])
     try:
-        scores = score(read_results(text_of(given.results)), method, given.jobs)
-        if given.picture:
-            draw(scores, given.picture)
-    except BadResults as error:
-        return fail(3, *error.faults)
-    except UnicodeDecodeError:
-        return fail(3, "the results are no text (UTF-8)")
-    except NoLibrary as error:
-        return fail(1, error)
-    except MemoryError:
-        return fail(4, "OutOfMemory")
-    except OSError as error:
-        return fail(5, f"{error.filename or given.results}: {error.strerror}")
-    form = _score_texts.json_text if given.json else _score_texts.csv_text if given.csv else _score_texts.report
-    fault = _output.write(form(scores))
-    return fail(5, fault) if fault else 0
+        families = families_of(given.families)
+    except benchmarks.UnknownName as error:
+        parser.error(str(error))
+    stem = "results" if given.results == "-" else os.path.splitext(os.path.basename(given.results))[0]
+    runs = counted(runs_of(given.results), given.jobs)
+    scores = scores_of(given.name or stem, runs, families)
+    if given.picture:
+        draw(scores, given.picture)
+    if given.csv:
+        for it in scores:
+            _ends.say(NAME, *_score_texts.notes(it))
+        sys.stdout.write(_score_texts.csv_text(runs))
+    else:
+        sys.stdout.write(_score_texts.json_text(scores) if given.json else _score_texts.report(scores))
+    return 0
+
+
+def main(words: Optional[Sequence[str]] = None) -> int:
+    parser = parser_of_words()
+    return _ends.run(parser, lambda given: command(parser, given), words)
 
 
 if __name__ == "__main__":

@@ -14,7 +14,7 @@ import unittest
 sys.path.insert(0, os.path.dirname(os.path.dirname(os.path.abspath(__file__))))
 
 import minorder  # noqa: E402
-from minorder import benchmarks, functions  # noqa: E402
+from minorder import _writing, benchmarks, functions  # noqa: E402
 
 
 def ran(*words):
@@ -26,6 +26,16 @@ def ran(*words):
         except SystemExit as end:
             status = end.code
     return status, out.getvalue(), errors.getvalue()
+
+
+def content_of(folder, name):
+    with open(f"{folder}/{name}") as file:
+        return file.read()
+
+
+def names_in(folder):
+    """The functions of the folder's list."""
+    return [row["name"] for row in csv.DictReader(io.StringIO(content_of(folder, "functions.csv")))]
 
 
 class Benchmarks(unittest.TestCase):
@@ -63,6 +73,62 @@ class Written(unittest.TestCase):
                 self.assertEqual(row["sha256"], known.pla_sha256)
             names = {"functions.csv", *(f"{row['name']}.pla" for row in rows)}
             self.assertEqual(set(os.listdir(f"{folder}/new/one")), names)
+
+    def test_the_list_keeps_what_lies_there(self):
+        with tempfile.TemporaryDirectory() as folder:
+            self.assertEqual([ran(folder, name)[0] for name in ("hwb4", "codes", "hwb4")], [0, 0, 0])
+            self.assertEqual(names_in(folder), ["hwb4", "gray8", "gray16", "bcd7seg"])
+            os.remove(f"{folder}/gray8.pla")
+            self.assertEqual(ran(folder, "life")[0], 0)
+            self.assertEqual(names_in(folder), ["hwb4", "gray16", "bcd7seg", "life"])
+
+    def test_what_is_another_file_is_kept(self):
+        own = {"hwb4.pla": ".i 1\n.o 1\n1 1\n.e\n", "functions.csv": "my,own\n1,2\n", "starts.csv": "also mine\n", "notes": "x"}
+        with tempfile.TemporaryDirectory() as folder:
+            for name, text in own.items():
+                with open(f"{folder}/{name}", "w") as file:
+                    file.write(text)
+            refused = "it is there and isn't what would be written; --force overwrites it\n"
+            status, out, errors = ran(folder, "hwb4", "hwb5", "--starts")
+            self.assertEqual((status, out), (5, ""))
+            self.assertEqual(errors, "".join(
+                f"minorder-functions: {folder}/{name}: {refused}" for name in ("hwb4.pla", "functions.csv", "starts.csv")))
+            self.assertEqual(ran(folder, "hwb5"), (5, "", f"minorder-functions: {folder}/functions.csv: {refused}"))
+            self.assertEqual({name: content_of(folder, name) for name in os.listdir(folder)}, own)
+            self.assertEqual(ran(folder, "hwb4", "hwb5", "--force")[0], 0)
+            self.assertEqual(names_in(folder), ["hwb4", "hwb5"])
+            self.assertEqual((content_of(folder, "starts.csv"), content_of(folder, "notes")), ("also mine\n", "x"))
+            self.assertEqual(len(os.listdir(folder)), 5)
+
+    def test_random_starts(self):
+        with tempfile.TemporaryDirectory() as folder:
+            self.assertEqual(ran(folder, "hwb12", "hwb13", "life", "--starts")[0], 0)
+            rows = list(csv.DictReader(io.StringIO(content_of(folder, "starts.csv"))))
+            self.assertEqual([(row["name"], row["start"]) for row in rows], [
+                (name, str(number)) for name in ("hwb12", "life") for number in range(1, 11)])
+            self.assertEqual(ran(folder, "hwb4", "--starts")[0], 0)
+            again = content_of(folder, "starts.csv").splitlines()
+        self.assertEqual(len(again), 31)
+        for row in rows:
+            order = list(map(int, row["order"].split()))
+            sums = {i: hashlib.sha256(f"bakchuon start {len(order)} {row['start']} {i}".encode()).digest() for i in order}
+            self.assertEqual(order, sorted(sums, key=sums.get))
+            self.assertIn(f"{row['name']},{row['start']},{row['order']}", again)
+
+    def test_the_table_has_the_nodes_under_random_orders(self):
+        for it in benchmarks.optima().values():
+            self.assertEqual(len(it.random_order_nodes), 10 if it.inputs <= benchmarks.MOST_INPUTS else 0)
+            self.assertTrue(all(nodes >= it.optimum for nodes in it.random_order_nodes))
+
+    def test_all_or_nothing_is_written(self):
+        with tempfile.TemporaryDirectory() as folder:
+            with self.assertRaises(OSError):
+                _writing.write_all(f"{folder}/new/one", lambda: {"a": b"1", "b/c": b"2"})
+            self.assertEqual(os.listdir(folder), [])
+            os.mkdir(f"{folder}/hwb5.pla")
+            status, out, errors = ran(folder, "hwb4", "hwb5")
+            self.assertEqual((status, errors), (5, f"minorder-functions: {folder}/hwb5.pla: Is a directory\n"))
+            self.assertEqual(os.listdir(folder), ["hwb5.pla"])
 
     def test_refusals(self):
         with tempfile.TemporaryDirectory() as folder:

@@ -7,11 +7,14 @@
 
 ``optima.csv`` and ``league.csv`` lie beside this module; optima/README.md explains their columns.
 """
-from ._rows import FILE, RANDOM, Line, Optimum, league, optima, read_league, read_optima
-from ._selection import UnknownName, entries, entry, selected
-from ._standing import CURVES, LAST, Method, Standing, geometric_mean, ranked, standings
+from ._figures import fixed, geometric_mean, percent
+from ._rows import Line, Optimum, league, optima, read_league, read_optima
+from ._selection import UnknownName, entries, entry, families, selected
+from ._standing import CURVES, Method, Standing, ranked, standings, worst_nodes
+from ._starts import FILE, MOST_INPUTS, NUMBERS, RANDOM, random_start, random_starts
 
 __all__ = [
-    "CURVES", "FILE", "LAST", "Line", "Method", "Optimum", "RANDOM", "Standing", "UnknownName", "entries", "entry",
-    "geometric_mean", "league", "optima", "ranked", "read_league", "read_optima", "selected", "standings",
+    "CURVES", "FILE", "Line", "MOST_INPUTS", "Method", "NUMBERS", "Optimum", "RANDOM", "Standing", "UnknownName", "entries",
+    "entry", "families", "fixed", "geometric_mean", "league", "optima", "percent", "random_start", "random_starts", "ranked",
+    "read_league", "read_optima", "selected", "standings", "worst_nodes",
 ]

@@ -7,7 +7,6 @@ from functools import lru_cache
 from typing import Iterator, NamedTuple, Optional
 
 HERE = os.path.dirname(os.path.abspath(__file__))
-FILE, RANDOM = "file", "random"
 
 
 class Optimum(NamedTuple):
@@ -26,6 +25,7 @@ class Optimum(NamedTuple):
     level_counts: tuple[int, ...]
     pla_sha256: str
     certificate_sha256: str
+    random_order_nodes: tuple[int, ...]
 
 
 class Line(NamedTuple):
@@ -44,6 +44,15 @@ class Line(NamedTuple):
     optimum_met: int
     seconds: Optional[float]
 
+    @property
+    def counted_nodes(self) -> Optional[int]:
+        """The lower median of all runs, one without an order behind all others; None where half of them or more are such
+        ones. Where that isn't the median of the others, which the line has, the most nodes."""
+        ended = self.runs - self.late - self.without_an_order
+        if 2 * ended <= self.runs:
+            return None
+        return self.median_nodes if (ended - 1) // 2 == (self.runs - 1) // 2 else self.most_nodes
+
 
 def _rows(path: str) -> Iterator[dict[str, str]]:
     with open(path, newline="", encoding="utf-8") as file:
@@ -60,6 +69,7 @@ def read_optima(path: str) -> dict[str, Optimum]:
         row["family"], row["name"], tuple(row["aliases"].split()), row["what"], int(row["inputs"]), int(row["outputs"]),
         int(row["file_order_nodes"]), int(row["sifted_nodes"]), int(row["optimum"]), _numbers(row["first_optimal_order"]),
         _numbers(row["sifted_order"]), _numbers(row["level_counts"]), row["pla_sha256"], row["certificate_sha256"],
+        _numbers(row["random_order_nodes"]),
     ) for row in _rows(path)}
 
 

@@ -12,11 +12,25 @@ from .entry import Entry
 MODULES = (textbook, sboxes, chips, codings, digits, circuits, automata)
 
 
+# of longer words no close ones are looked for
+LONGEST = 60
+
+
 class UnknownName(MinorderError, KeyError):
-    """No function and no family has this name."""
+    """No function and no family has this name, or no family if only families are ``asked`` for."""
+
+    def __init__(self, name: str, names: Iterable[str], asked: str = "function or family") -> None:
+        super().__init__(name)
+        self.name, self.names, self.asked = name, list(names), asked
+
+    def __reduce__(self) -> tuple[object, ...]:
+        return type(self), (self.name, self.names, self.asked)
 
     def __str__(self) -> str:
-        return str(self.args[0])
+        if len(self.name) > LONGEST or not self.name.isprintable():
+            return f"no {self.asked} is named {self.name[:LONGEST]!r}.."
+        close = difflib.get_close_matches(self.name, self.names, 3)
+        return f"no {self.asked} is named {self.name}" + (f"; is it {' or '.join(close)}?" if close else "")
 
 
 def entries() -> Iterator[Entry]:
@@ -35,25 +49,25 @@ def entry(name: str) -> Entry:
     known = by_name()
     own = name if name in known else aliases.FIELD[name][0] if name in aliases.FIELD else ""
     if not own:
-        raise UnknownName(unknown(name, [*known, *aliases.FIELD]))
+        raise UnknownName(name, [*known, *aliases.FIELD])
     return known[own]
 
 
-def unknown(name: str, names: Iterable[str]) -> str:
-    close = difflib.get_close_matches(name, list(names), 3)
-    return f"no function or family is named {name}" + (f"; is it {' or '.join(close)}?" if close else "")
+def families() -> dict[str, list[Entry]]:
+    """The functions of each family, by its name in small letters."""
+    found: dict[str, list[Entry]] = {}
+    for it in by_name().values():
+        found.setdefault(it.family.lower(), []).append(it)
+    return found
 
 
 def selected(words: Iterable[str]) -> list[Entry]:
     """The functions that words name, by name or by family, each once; all where there are no words. Raises UnknownName."""
-    known, wanted = by_name(), list(words)
-    families: dict[str, list[Entry]] = {}
-    for it in known.values():
-        families.setdefault(it.family.lower(), []).append(it)
+    known, of_family, wanted = by_name(), families(), list(words)
     found: dict[str, Entry] = {}
     for word in wanted:
-        family = families.get(word.lower())
+        family = of_family.get(word.lower())
         if not family and word not in known and word not in aliases.FIELD:
-            raise UnknownName(unknown(word, [*known, *aliases.FIELD, *families]))
+            raise UnknownName(word, [*known, *aliases.FIELD, *of_family])
         found.update({it.name: it for it in family or [entry(word)]})
     return list(found.values()) if wanted else list(known.values())

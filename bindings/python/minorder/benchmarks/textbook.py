@@ -56,9 +56,10 @@ def achilles(k: int) -> Formula:
 
 def arithmetic() -> Iterator[Entry]:
     for n in range(4, 17):
-        yield Entry("hidden weighted bit", f"hwb{n}", named("x", n), 1,
+        yield Entry("hidden weighted bit", f"hwb{n}", [f"x{i + 1}" for i in range(n)], 1,
                     "x[w], w being the number of ones among x1 .. xn; 0 where w is 0 (Bryant 1991)", hidden_weighted_bit)
-    for s in (1, 2, 3):
+    yield Entry("multiplexer", "mux2", ["a", "b", "s"], 1, "a where s is 0, else b", lambda x: [x[x[2]]])
+    for s in (2, 3):
         yield Entry("multiplexer", f"mux{1 << s}", named("d", 1 << s) + named("s", s), 1,
                     "data bit d[s], data before the selector", lambda x, s=s: [x[number(x[1 << s:])]])
     for k in range(2, 9):
@@ -90,7 +91,7 @@ def others() -> Iterator[Entry]:
         yield Entry("codes", f"gray{n}", named("x", n), n, "binary to Gray: x xor x / 2",
                     lambda x, n=n: bits_of(number(x) ^ number(x) >> 1, n))
     segments = [0x3F, 0x06, 0x5B, 0x4F, 0x66, 0x6D, 0x7D, 0x07, 0x7F, 0x6F]
-    yield Entry("codes", "bcd7seg", named("x", 4), 7, "a decimal digit to the segments a .. g of a display; dark above 9",
+    yield Entry("codes", "bcd7seg", named("d", 4), 7, "a decimal digit to the segments a .. g of a display; dark above 9",
                 lambda x: bits_of(segments[number(x)], 7) if number(x) < 10 else [0] * 7)
     for n in (5, 7, 9, 11, 13, 15):
         yield Entry("symmetric", f"majority{n}", named("x", n), 1, "more ones than zeros", lambda x: [2 * sum(x) > len(x)])

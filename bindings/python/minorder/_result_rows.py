@@ -1,0 +1,101 @@
+"""The rows of a text of results: lines of CSV, a list in JSON, or an object of JSON a line."""
+from __future__ import annotations
+
+import csv
+import io
+import json
+from typing import Iterator, Mapping, Union
+
+KNOWN = ("name", "order", "nodes", "seconds", "start")
+COLUMNS = "name and order, or name and nodes; besides these seconds and start"
+SEPARATORS = ",;\t"
+
+
+class Fault(Exception):
+    """Why a row is refused."""
+
+
+class Unreadable(Exception):
+    """Why nothing behind some place can be read."""
+
+
+# with its place, such as `line 3`
+Row = tuple[str, Union[Mapping[str, object], Fault]]
+
+
+def rows_of(text: str) -> Iterator[Row]:
+    """The rows with their places. Raises Unreadable."""
+    text = text.lstrip("\ufeff").replace("\r\n", "\n").replace("\r", "\n")
+    begin = text.lstrip()[:1]
+    return json_list(text) if begin == "[" else json_lines(text) if begin == "{" else csv_rows(text)
+
+
+# ---- JSON
+
+def object_of(pairs: list[tuple[str, object]]) -> dict[str, object]:
+    names = [name for name, _ in pairs]
+    twice = [name for name in KNOWN if names.count(name) > 1]
+    if twice:
+        raise ValueError(f"{twice[0]} stands twice")
+    return dict(pairs)
+
+
+def json_of(text: str, place: str) -> object:
+    try:
+        return json.loads(text, object_pairs_hook=object_of)
+    except (ValueError, RecursionError) as error:
+        raise Unreadable(f"{place}: no JSON: {error}") from None
+
+
+def json_row(value: object, place: str) -> Row:
+    return place, value if isinstance(value, dict) else Fault("no object with a name")
+
+
+def json_list(text: str) -> Iterator[Row]:
+    values = json_of(text, "the list")
+    for number, value in enumerate(values if isinstance(values, list) else [values], 1):
+        yield json_row(value, f"entry {number}")
+
+
+def json_lines(text: str) -> Iterator[Row]:
+    for number, line in enumerate(text.split("\n"), 1):
+        if line.strip():
+            yield json_row(json_of(line, f"line {number}"), f"line {number}")
+
+
+# ---- CSV
+
+def separator_of(text: str) -> str:
+    """What stands between the cells of the first line that isn't blank."""
+    head = next((line for line in text.split("\n") if line.strip()), "")
+    return next((character for character in head if character in SEPARATORS), ",")
+
+
+def heads_of(cells: list[str], place: str) -> list[str]:
+    heads = [cell.strip().lower() for cell in cells]
+    twice = [head for head in KNOWN if heads.count(head) > 1]
+    if twice:
+        raise Unreadable(f"{place}: the column {twice[0]} stands twice")
+    if "name" not in heads or not {"order", "nodes"} & set(heads):
+        raise Unreadable(f"{place}: it names no columns {COLUMNS}")
+    return heads
+
+
+def csv_rows(text: str) -> Iterator[Row]:
+    reader = csv.reader(io.StringIO(text, newline=""), delimiter=separator_of(text), skipinitialspace=True)
+    heads: list[str] = []
+    try:
+        for cells in reader:
+            place = f"line {reader.line_num}"
+            if not any(cell.strip() for cell in cells):
+                continue
+            if not heads:
+                heads = heads_of(cells, place)
+            elif len(cells) > len(heads):
+                yield place, Fault("more cells than columns; an order has blanks between its inputs")
+            else:
+                yield place, {head: cell for head, cell in zip(heads, cells) if head in KNOWN and cell.strip()}
+    except csv.Error as error:
+        raise Unreadable(f"line {reader.line_num}: no CSV: {error}") from None
+    if not heads:
+        heads_of([], "line 1")

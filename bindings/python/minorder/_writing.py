@@ -1,0 +1,128 @@
+"""Files that are written as a whole or not at all."""
+from __future__ import annotations
+
+import fcntl
+import os
+import shutil
+import signal
+import tempfile
+from contextlib import contextmanager, suppress
+from threading import current_thread, main_thread
+from types import FrameType
+from typing import Callable, Iterator, Mapping, Optional
+
+SIGNALS = (signal.SIGINT, signal.SIGTERM, signal.SIGHUP)
+
+
+def named(error: OSError, path: str) -> OSError:
+    """An error like this one, of the file with a name."""
+    return OSError(error.errno, error.strerror or str(error), path)
+
+
+@contextmanager
+def undisturbed() -> Iterator[None]:
+    """Lets signals wait while something is done that is to be whole."""
+    before = signal.pthread_sigmask(signal.SIG_BLOCK, SIGNALS)
+    try:
+        yield
+    finally:
+        signal.pthread_sigmask(signal.SIG_SETMASK, before)
+
+
+def write_file(path: str, content: bytes) -> None:
+    """Writes a file, or leaves what was there. Raises OSError with its name."""
+    part = f"{path}.{os.getpid()}.part"
+    with undisturbed():
+        try:
+            with open(part, "wb") as file:
+                file.write(content)
+            os.replace(part, path)
+        except BaseException as error:
+            with suppress(OSError):
+                os.unlink(part)
+            raise named(error, path) if isinstance(error, OSError) else error
+
+
+def write_all(folder: str, contents: Callable[[], Mapping[str, bytes]]) -> None:
+    """Writes files into a folder, which is made if it isn't there: all of them or none. What they are is asked for when no
+    other process writes there so. Raises OSError with a name."""
+    made: list[str] = []
+    places: list[str] = []
+
+    def undo() -> None:
+        for place in places:
+            shutil.rmtree(place, ignore_errors=True)
+        for above in made:
+            with suppress(OSError):
+                os.rmdir(above)
+
+    with _undone(undo):
+        with undisturbed():
+            made += _made(folder)
+            places.append(_room_in(folder))
+        with _locked(folder):
+            names = []
+            for name, content in contents().items():
+                names.append(name)
+                try:
+                    with open(os.path.join(places[0], name), "wb") as file:
+                        file.write(content)
+                except OSError as error:
+                    raise named(error, os.path.join(folder, name)) from None
+            with undisturbed():
+                for name in names:
+                    os.replace(os.path.join(places[0], name), os.path.join(folder, name))
+                os.rmdir(places.pop())
+                made.clear()
+
+
+def _made(folder: str) -> list[str]:
+    """Makes a folder and those above it; those that it made, the lowest first."""
+    made, above = [], os.path.abspath(folder)
+    while not os.path.lexists(above):
+        made.append(above)
+        above = os.path.dirname(above)
+    os.makedirs(folder, exist_ok=True)
+    return made
+
+
+def _room_in(folder: str) -> str:
+    """A new folder in a folder."""
+    try:
+        return tempfile.mkdtemp(prefix=".minorder-", dir=folder)
+    except OSError as error:
+        raise named(error, folder) from None
+
+
+@contextmanager
+def _locked(folder: str) -> Iterator[None]:
+    """Waits for other processes that have the folder so, where its file system has locks."""
+    number = os.open(folder, os.O_RDONLY)
+    try:
+        with suppress(OSError):
+            fcntl.flock(number, fcntl.LOCK_EX)
+        yield
+    finally:
+        os.close(number)
+
+
+@contextmanager
+def _undone(undo: Callable[[], None]) -> Iterator[None]:
+    """Undoes what was begun if it fails, or if a signal ends the process."""
+    def end(number: int, _: Optional[FrameType]) -> None:
+        undo()
+        signal.signal(number, signal.SIG_DFL)
+        os.kill(os.getpid(), number)
+
+    is_main = current_thread() is main_thread()
+    ending = [number for number in SIGNALS if is_main and signal.getsignal(number) == signal.SIG_DFL]
+    for number in ending:
+        signal.signal(number, end)
+    try:
+        yield
+    except BaseException:
+        undo()
+        raise
+    finally:
+        for number in ending:
+            signal.signal(number, signal.SIG_DFL)

@@ -1,0 +1,22 @@
+"""Figures of several ratios, and how they are rounded."""
+from __future__ import annotations
+
+from decimal import ROUND_HALF_UP, Decimal
+from math import exp, log
+from typing import Optional, Sequence
+
+
+def geometric_mean(values: Sequence[float]) -> Optional[float]:
+    """None of no values."""
+    return exp(sum(map(log, values)) / len(values)) if values else None
+
+
+def fixed(value: Optional[float], digits: int) -> str:
+    """A number with so many digits behind the point, half of the last one rounded up, as a browser does; nothing of None."""
+    if value is None:
+        return ""
+    return f"{Decimal(value).quantize(Decimal(1).scaleb(-digits), ROUND_HALF_UP):f}"
+
+
+def percent(part: int, whole: int) -> str:
+    return f"{fixed(100 * part / whole, 0)} %"

@@ -1,0 +1,212 @@
+"""Files of results in the page, and what it says of them."""
+import tempfile
+
+from page_browser import FILE, OPTIMA, SIFT, Opened
+from minorder import _score_texts, benchmarks
+from minorder._counting import counted
+from minorder._results import read_results
+from minorder._scores import scores_of
+from minorder.benchmarks import fixed
+
+
+class Results(Opened):
+    def setUp(self):
+        super().setUp()
+        self.driver.execute_script("localStorage.clear()")
+        self.open()
+
+    def give(self, name, text):
+        with tempfile.TemporaryDirectory() as folder:
+            with open(f"{folder}/{name}", "w") as file:
+                file.write(text)
+            self.one("#file").send_keys(f"{folder}/{name}")
+            self.until(lambda: self.one("#said").text)
+        return self.one("#said").text
+
+    def test_a_file_stands_as_a_method(self):
+        lines = [f"{line.name},{line.counted_nodes or 'late'}" for line in FILE[SIFT].lines]
+        said = self.give("mine.csv", "\n".join(["name,nodes", *lines, ""]))
+        its = FILE[SIFT]
+        self.assertIn(f"mean ratio {fixed(its.mean, 3)} on all {len(OPTIMA)} functions", said)
+        rows = [[it.text for it in row.find_elements("css selector", "th, td")] for row in self.all("#league-table tbody tr")]
+        rows = {row[0]: row for row in rows}
+        self.assertEqual(rows["mine"][1:6], rows["CUDD SIFT"][1:6])
+        self.assertEqual(self.all("#families-table thead th")[3].text, "mine")
+        self.assertEqual(len(self.all("#curves-chart .curve.yours")), 1)
+        self.assertEqual(self.one("#functions-table th[data-key=nodes]").text, "mine")
+        starts = "".join(f"hwb8,45,{start}\n" for start in range(1, 10))
+        self.give("mine.csv", f'\ufeffname,nodes,start\n"hwb8",50,file\nhwb8,44,\nz4ml,26,file\n{starts}')
+        self.until(lambda: "on 2 functions" in self.one("#said").text)
+        ended = {"mine": f"{fixed(its.mean_of_ended, 3)} of {len(its.ended)}", "mine 2": "1.000 of 2"}
+        self.assertEqual(self.own_rows(3), ended)
+        self.assertIn("of what ended 1.023 on 1 function;", self.one("#said").text)
+        self.assertIn("; 1 run late;", self.one("#said").text)
+
+    def own_rows(self, column):
+        """Of the reader's methods in the league the cells of a column, by the methods' names."""
+        rows = "#league-table tbody tr.yours"
+        return dict(zip(self.texts(f"{rows} th"), self.texts(f"{rows} td:nth-child({column})")))
+
+    def names_everywhere(self):
+        """The names of the reader's methods: in the league, families, curves, list and choice of a method."""
+        curves = [it.get_attribute("textContent") for it in self.all(".curve.yours title")]
+        listed = [it.get_attribute("value") for it in self.all("#own input")]
+        chosen = [it.text for it in self.all("#method option")][len(FILE):]
+        places = [list(self.own_rows(2)), self.texts("#families-table th.yours"), curves, listed, chosen]
+        return [sorted(place) for place in places]
+
+    def test_methods_are_told_apart_named_and_taken_off(self):
+        self.drop_in("one.csv", "hwb8,55\n", "CUDD SIFT.csv", "hwb8,44\n", "one.csv", "hwb8,50\n")
+        self.assertEqual(self.names_everywhere(), [["CUDD SIFT 2", "one", "one 2"]] * 5)
+        dashes = self.driver.execute_script(
+            "return [...document.querySelectorAll('.curve.yours')].map(it => it.getAttribute('stroke-dasharray'))")
+        self.assertEqual(len(set(dashes)), 3)
+        self.assertIn("stands here already", self.drop_in("again.csv", "name,nodes,start\nhwb8,50,file\n"))
+        for wish, name in (("a, b", "a, b"), ("one 2", "one 2 2"), ("  ", "one 2 2"), ("BuDDy  SIFT", "BuDDy SIFT 2")):
+            self.driver.execute_script("document.querySelector('#own input').select()")
+            self.one("#own input").send_keys(wish, "\n")
+            self.assertEqual(self.names_everywhere(), [sorted([name, "CUDD SIFT 2", "one 2"])] * 5)
+            self.assertEqual(self.one("#own button").get_attribute("aria-label"), f"Take off {name}")
+        self.press(self.one("#families-table th[data-key='CUDD SIFT 2']"))
+        self.press(self.all("#own button")[1])
+        self.assertEqual(self.texts("#families-table th[aria-sort]"), ["Family"])
+        self.assertEqual(self.names_everywhere(), [["BuDDy SIFT 2", "one 2"]] * 5)
+        self.assertIn("CUDD SIFT 2 is taken off", self.one("#said").text)
+        self.open("#hwb8")
+        self.assertEqual(self.texts("#function tr.yours td:nth-child(2)"), ["50", "55"])
+
+    def test_the_browser_keeps_them(self):
+        self.drop_in("one.csv", "hwb8,55\nlife,late\nhwb8,50\n", "two.csv", "name,nodes,start\nhwb8,44,3\nhwb8,44,file\n")
+        rows = [self.own_rows(column) for column in range(2, 11)]
+        self.driver.refresh()
+        self.assertEqual(self.names_everywhere(), [["one", "two"]] * 5)
+        self.assertEqual([self.own_rows(column) for column in range(2, 11)], rows)
+        self.press(self.one("#own button"))
+        # another window of the same browser takes off and adds what this one does
+        first = self.driver.current_window_handle
+        self.driver.switch_to.new_window("window")
+        self.open()
+        self.assertEqual(self.names_everywhere(), [["two"]] * 5)
+        self.drop_in("three.csv", "hwb8,44\n")
+        self.driver.close()
+        self.driver.switch_to.window(first)
+        self.until(lambda: self.names_everywhere() == [["three", "two"]] * 5)
+        for _ in range(2):
+            self.press(self.one("#own button"))
+        self.driver.refresh()
+        self.assertEqual(self.names_everywhere(), [[]] * 5)
+
+    def test_a_large_file(self):
+        said = self.drop_in("large.csv", "hwb8,55\nhwb8,44\n" * 200_000)
+        self.assertIn("by 200000 of 400000 runs, 50 %", said)
+        self.driver.execute_script("takeFiles([{name: 'folder', size: 4096, text: async () => { throw new Error('no file'); }}])")
+        self.until(lambda: self.one("#said").text == "folder is refused:\nit can't be read")
+        self.driver.execute_script("takeFiles([{name: 'huge.csv', size: 3e7}])")
+        self.until(lambda: self.one("#said").text == "huge.csv is refused:\nit is larger than 20 MB")
+
+    def test_what_a_browser_does_not_keep(self):
+        self.driver.execute_script("Object.defineProperty(window, 'localStorage', {get() { throw new Error('denied'); }});")
+        self.assertIn("This browser doesn't keep it", self.drop_in("one.csv", "hwb8,55\n"))
+        self.open()
+        refused = ["old, which this browser kept, is refused"]
+        for text, said in (("[", []), ("7", []), ('[{"name": "old", "text": "hwb8,43"}]', refused)):
+            self.driver.execute_script("localStorage.setItem(STORE, arguments[0])", text)
+            self.driver.refresh()
+            self.assertEqual([it.split(":")[0] for it in self.texts("#said")], said)
+            self.assertEqual(self.names_everywhere(), [[]] * 5)
+
+    def test_files_are_dropped(self):
+        said = self.drop_in("dropped.csv", "hwb8,55\nlife,26\n")
+        self.assertIn("dropped, from the file's order: place ", said)
+        self.assertIn("of what ended 1.118 on 2 functions; 0 late, 254 missing; worst ratio 1.25 (hwb8); optimum met in 1", said)
+        said = self.drop_in("one.csv", "hwb8,55\n", "two.csv", "hwx8,55\n", "three.csv", "life,26\n")
+        for text in ("one, from the file's order", "two.csv is refused:\nline 1: no function is named hwx8", "three, from"):
+            self.assertIn(text, said)
+
+    def test_what_is_said_stands_at_the_edge_of_the_window(self):
+        for link in ("", "#families", "#yours", "#about", "#hwb8", "#sn74181"):
+            self.open(link)
+            for text in ("hwb8,44\n", "hwb8,43\n"):
+                said = self.drop_in("mine.csv", text)
+                self.assertIn("mine.csv is refused" if "43" in text else "mine", said)
+                place = self.driver.execute_script("""
+                    const box = document.getElementById("said").getBoundingClientRect(), x = box.left + 5, y = box.top + 5;
+                    return [box.top, box.bottom, innerHeight, document.elementFromPoint(x, y).id];""")
+                self.assertTrue(0 <= place[0] < place[1] <= place[2] and place[3] == "said", place)
+            self.one("#message button").click()
+            self.assertEqual(self.all("#said"), [])
+            self.drop_in("mine.csv", "hwb8,43\n")
+            self.press_keys("escape")
+            self.assertEqual(self.all("#said"), [])
+
+    def test_files_of_other_makes_are_read(self):
+        for text in ("\ufeff\r\n\r\nname;nodes\rhwb8;55\rlife;26\r", "name\tnodes\tstart\r\nhwb8\t55\t\r\nlife\t26\tfile",
+                     '"name" , "nodes"\n"hwb8", 55\n life,"26"\n'):
+            self.assertIn("of what ended 1.118 on 2 functions", self.drop_in("dropped.csv", text))
+            self.press(self.one("#own button"))
+
+    def texts_of_runs(self):
+        """Runs as lines of CSV: all of CUDD's SIFT, the worst ones late, missing, and others."""
+        fewest = {name: it.optimum for name, it in OPTIMA.items()}
+        nodes = {line.name: line.counted_nodes or OPTIMA[line.name].file_order_nodes for line in FILE[SIFT].lines}
+        names = sorted(OPTIMA, key=lambda name: nodes[name] / fewest[name])
+        best, worst = names[:147], names[147:]
+        small = [name for name in OPTIMA if OPTIMA[name].inputs <= benchmarks.MOST_INPUTS]
+        most = {name: OPTIMA[name].file_order_nodes for name in small}
+        return {
+            "all": [f"{name},{nodes[name]},file,0.1" for name in names],
+            "late": [f"{name},{nodes[name]},," for name in best] + [f"{name},LATE,file," for name in worst],
+            "missing": [f"{name},{nodes[name]},," for name in best],
+            "none": [f"{name},late,," for name in names],
+            "several": [f"{name},{most[name] if k > 6 else nodes[name] if k % 3 else 'late'},{k},0.0{k}"
+                        for name in small for k in range(1, 11)] + ["hwb13,1000,1,", "hwb16,late,random,"],
+            "ties": ["life,52,,", "hwb8,44,,", "sn7442,40,file,", "sn7442,20,2,", "sn7442,late,1,"],
+        }
+
+    def test_its_figures_are_those_of_the_score(self):
+        texts = self.texts_of_runs()
+        for name, lines in texts.items():
+            runs = counted(read_results("\n".join(["name,nodes,start,seconds", *lines])))
+            said = self.drop_in(f"{name}.csv", _score_texts.csv_text(runs))
+            for score in scores_of(name, runs):
+                its, from_file = score.standing, score.start == benchmarks.FILE
+                self.assertIn(f"place {score.place} of 26, by the mean ratio {fixed(its.mean, 3)} on all {its.whole} ", said)
+                self.assertIn(f"; optimum met in {its.met} of {its.whole} functions, and by {its.runs_met} of {its.runs} ", said)
+                if len(its.ended) < its.whole:
+                    self.assertIn(f"; {its.late} late, {len(score.missing)} missing", said)
+                if 0 < len(its.ended) < its.whole:
+                    self.assertIn(f"; of what ended {fixed(its.mean_of_ended, 3)} on {len(its.ended)} function", said)
+                if its.ended:
+                    self.assertRegex(said, f"; {score.claimed} (size is|sizes are) only claimed\\.")
+                if score.left_out:
+                    self.assertIn(f"left out, {len(score.left_out)}: {' '.join(score.left_out)}: ", said)
+                row = _score_texts.league_row(name, its)
+                wanted = [*row[1:5], row[6], row[7]] if from_file else [row[1], row[3].split(" ")[0], row[5]]
+                found = [self.own_rows(column)[name] for column in (range(2, 8) if from_file else range(8, 11))]
+                self.assertEqual(found, wanted, (name, score.start))
+        places = {name: int(self.drop_place(lines)) for name, lines in texts.items() if name in ("all", "late", "missing")}
+        self.assertTrue(places["all"] <= places["late"] == places["missing"] <= len(FILE) + 1, places)
+
+    def drop_place(self, lines):
+        """The place of results that stand alone."""
+        for button in self.all("#own button"):
+            self.press(self.one("#own button"))
+        return self.drop_in("alone.csv", "\n".join(["name,nodes,start,seconds", *lines])).partition("place ")[2].split(" ")[0]
+
+    def test_what_is_refused(self):
+        said = self.give("bad.csv", "name,nodes\nhwb8,43\nhwx8,44\nhwb8,\nhwb8,4x\nparity8,17\n")
+        for text in ("line 2: hwb8: 43 nodes, and no order has fewer than 44", "line 3: no function is named hwx8",
+                     "line 4: hwb8: nothing is no number", "line 5: hwb8: 4x is no number",
+                     "line 6: parity8: 17 nodes, and each order has 15"):
+            self.assertIn(text, said)
+        for text, why in (
+                ("name,order\nhwb4,0 1 2 3\n", "it has orders"), ("name,size\nhwb4,7\n", "it has no column nodes"),
+                ("name,nodes,nodes\n", "the column nodes stands twice"), ('\ufeff[{"name": "hwb4"}]', "it is JSON"),
+                ("name,nodes\n\n", "there are no results"), ("", "there are no results"),
+                ("name,nodes\nhwb4,7,8\n", "line 2: more cells than columns"), (",7\n", "line 1: no function is named by an"),
+                ("name,nodes,seconds\nhwb4,7,soon\n", "line 2: hwb4: seconds soon"),
+                ("\0\1\x7f", "line 1: no function is named ???"),
+                ("name,nodes,order\nhwb4,late,0 1 2 3\nhwb4,7,late\n", "both late and 0 1 2 3\nline 3: hwb4: both late and 7"),
+                ("x" * 200_000, f"line 1: no function is named {'x' * 40}…"), ("hwx4,7\n" * 200_000, "and 199988 more")):
+            self.assertIn(why, self.drop_in("other.csv", text))
+        self.assertEqual(self.all(".yours td"), [])
