@@ -12,6 +12,8 @@ TOP = os.path.dirname(os.path.dirname(os.path.abspath(__file__)))
 ENDINGS = r"\.(antt|c|cases|cert|cff|csv|h|html|json|md|pla|py|report|rs|rt|sh|svg|txt|v)$"
 WORD = re.compile(r"(?<![\w/.$<>*{}-])(?:PREFIX/)?((?:[\w.*-]|\{[\w,.]+\})+/(?:[\w.*/-]|\{[\w,.]+\})*|[\w-]+\.md)(?![\w/])")
 LINK = re.compile(r"\]\(([^()#: ]+)\)")
+# a folder that an example makes
+MADE = re.compile(r"^\$ minorder-functions (?:--\w+ )*([\w/]+)", re.M)
 # folders of the prefix; those of the repository are read from it
 FOLDERS = {"bin", "include", "lib", "share", "man"}
 
@@ -51,9 +53,12 @@ def cited_by(page):
     """The paths that a page cites: links, pages, what begins with a folder of the repository or the prefix, or ends as files."""
     folders = FOLDERS | {name for name in os.listdir(TOP) if name != "out" and os.path.isdir(f"{TOP}/{name}")}
     text = text_of(page)
+    made = set(MADE.findall(text))
     yield from LINK.findall(text)
     for found in WORD.finditer(text):
         word = found[1].rstrip(".,-")
+        if word.split("/")[0] in made:
+            continue
         if word.split("/")[0] in folders or re.search(ENDINGS, word):
             yield from spread(word)
 
