@@ -1,6 +1,6 @@
 #!/usr/bin/env bash
-# release.sh VERSION     makes out/minorder-VERSION-linux-x86_64.tar.gz, out/minorder-VERSION-certificates.tar.xz, Debian packages where
-#                        dpkg-deb is there, and out/SHA256SUMS
+# release.sh VERSION     makes out/minorder-VERSION-linux-x86_64.tar.gz, out/minorder-VERSION-certificates.tar.xz, Debian packages
+#                        where dpkg-deb is there, out/minorder-VERSION.crate where cargo is there, and out/SHA256SUMS
 # release.sh --without-certificates VERSION     the same but for the certificates
 # The certificates of the table of optima are taken from optima/out where they all lie there, and else made, in two minutes of processor
 # time.
@@ -55,6 +55,20 @@ packages() {
     files+=("${packages[@]}")
 }
 
+# The crate, built once with the archive's library. What cargo makes beside it stays out of the repository.
+crate() {
+    if ! command -v cargo > /dev/null; then
+        echo "left out: the crate, since cargo isn't here"
+        return
+    fi
+    mkdir "$made/crate"
+    cp -R "$top"/bindings/rust/{Cargo.toml,build.rs,examples,src} "$made/crate"
+    (cd "$made/crate" && MINORDER_LIB_DIR=$made/$name/lib cargo package --offline --target-dir "$made/target" > "$made/log" 2>&1) ||
+        fail "the crate can't be packed: $(grep -m 1 '^error' "$made/log")"
+    mv "$made/target/package/minorder-$version.crate" "$made"
+    files+=("minorder-$version.crate")
+}
+
 # The certificates of the table of optima: those of an earlier run if all lie in optima/out, else made anew.
 certificates() {
     local room=$top/optima/out certificates=minorder-$version-certificates.tar.xz
@@ -68,6 +82,7 @@ certificates() {
 
 archive
 packages
+crate
 ! "$with_certificates" || certificates
 (cd "$made" && sha256sum "${files[@]}" > SHA256SUMS)
 mkdir -p "$top/out" || fail "$top/out can't be made"

@@ -1,7 +1,7 @@
 #!/usr/bin/env bash
 # try.sh         tries the release that release/release.sh made, from an empty folder: its sums, the programs alone on the path, the
-#                library for C by pkg-config, the shared library from Python, the certificates of the table of optima; the tree of
-#                the Debian packages likewise, and what lintian says of them
+#                library for C by pkg-config, the shared library from Python, the crate, the certificates of the table of
+#                optima; the tree of the Debian packages likewise, and what lintian says of them
 set -euo pipefail
 top=$(cd "$(dirname "${BASH_SOURCE[0]}")/.." && pwd)
 version=$(< "$top/VERSION")
@@ -92,6 +92,20 @@ for line in sys.stdin:
     echo "minorder-batch: the reports of the examples, and the faults of others"
 }
 
+# The Rust program that USING.md shows, with the packed crate and the archive.
+crate() {
+    [ -e "$top/out/minorder-$version.crate" ] || { echo "left out: the crate, which the release hasn't"; return 0; }
+    has cargo || return 0
+    tar -xzf "$top/out/minorder-$version.crate"
+    install -d "$made/adder/src"
+    printf '%s\n' '[package]' 'name = "adder"' 'version = "0.1.0"' 'edition = "2021"' '[dependencies]' \
+        "minorder = { path = \"../minorder-$version\", features = [\"static\"] }" > "$made/adder/Cargo.toml"
+    sed -n '/^```rust$/,/^```$/{/^```/d;p}' "$tree/share/doc/minorder/docs/USING.md" > "$made/adder/src/main.rs"
+    [ "$(cd "$made/adder" && MINORDER_LIB_DIR=$libraries cargo run --offline --quiet)" = "[3, 7, 2, 6, 1, 5, 0, 4]: 29 nodes" ] ||
+        fail "the Rust example prints something else"
+    echo "the Rust example with the packed crate: as USING.md says"
+}
+
 # try_tree TREE FOLDER FOLDER: a tree, its folder of libraries and that of Python's modules
 try_tree() {
     tree=$1 libraries=$1/$2 modules=$1/$3
@@ -132,6 +146,7 @@ tree=$made/minorder-$version-linux-x86_64
 (cd "$tree" && sha256sum --quiet -c SHA256SUMS)
 cat "$tree/share/doc/minorder/PROVED_WITH"
 try_tree "$tree" lib share/minorder/python
+crate
 certificates
 packages=("$top"/out/{minorder,libminorder1,libminorder-dev}_"$version"_amd64.deb "$top/out/python3-minorder_${version}_all.deb")
 if [ -e "${packages[0]}" ] && has dpkg-deb; then

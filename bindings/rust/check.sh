@@ -1,16 +1,60 @@
 #!/usr/bin/env bash
-# check.sh PREFIX     compiles the block of Rust of docs/USING.md with both libraries of an installation, and runs it
+# check.sh PREFIX     tries the crate with both libraries of an installation: its tests, its documentation, clippy's and rustfmt's
+#                     judgement, where build.rs looks, and the example, which is the one of docs/USING.md
 set -euo pipefail
 [ $# = 1 ] || { echo "usage: bindings/rust/check.sh PREFIX" >&2; exit 1; }
 prefix=$(cd "$1" && pwd)
-here=$(cd "$(dirname "${BASH_SOURCE[0]}")" && pwd)
-command -v rustc > /dev/null || { echo "left out: no rustc here"; exit; }
+cd "$(dirname "${BASH_SOURCE[0]}")"
+command -v cargo > /dev/null || { echo "left out: no cargo here"; exit; }
 made=$(mktemp -d)
 trap 'rm -rf "$made"' EXIT
-sed -n '/^```rust$/,/^```$/{/^```/d;p}' "$here/../../docs/USING.md" > "$made/example.rs"
-for kind in dylib static; do
-    rustc --edition 2021 -D warnings -L "native=$prefix/lib" -l "$kind=minorder" "$made/example.rs" -o "$made/example"
-    said=$(LD_LIBRARY_PATH=$prefix/lib "$made/example")
-    [ "$said" = "[0, 3, 1, 4, 2, 5] 6" ] || { echo "bindings/rust/check.sh: the example prints $said" >&2; exit 1; }
-done
-echo "the example in Rust, with the shared library and the archive: as USING.md says"
+fail() { echo "bindings/rust/check.sh: $*" >&2; exit 1; }
+unset MINORDER_LIB_DIR
+export CARGO_TARGET_DIR=$made/target CARGO_TERM_COLOR=never
+
+# with FOLDER COMMAND..: a command with the libraries of a folder, whose words are shown if it fails
+with() { MINORDER_LIB_DIR=$1 LD_LIBRARY_PATH=$1 "${@:2}" > "$made/log" 2>&1 || { cat "$made/log" >&2; fail "${*:2} fails"; }; }
+
+skipped=()
+if ! grep -q minorder_diagram_with_lengths "$prefix/lib/libminorder.so.1"; then
+    echo "left out: the crate's diagrams, which this library doesn't make"
+    skipped=(--skip diagram)
+    export RUSTFLAGS=-Clink-arg=-Wl,--defsym=minorder_diagram_with_lengths=0
+    export RUSTDOCFLAGS=$RUSTFLAGS
+fi
+
+tests() {
+    local kind
+    for kind in "" static; do
+        with "$prefix/lib" cargo test --offline --quiet --features "$kind" -- "${skipped[@]}"
+    done
+    echo "the crate's tests, with the shared library and the archive: passed"
+}
+
+judgement() {
+    RUSTDOCFLAGS="-D warnings" with "$prefix/lib" cargo doc --offline --quiet --no-deps
+    local said="its documentation"
+    ! cargo clippy --version > /dev/null 2>&1 || { with "$prefix/lib" cargo clippy --offline --quiet --all-targets -- -D warnings; said+=", clippy"; }
+    ! cargo fmt --version > /dev/null 2>&1 || { with "$prefix/lib" cargo fmt --check; said+=", rustfmt"; }
+    echo "$said: no complaints"
+}
+
+# The example with the library that pkg-config finds, and without the shared library's folder.
+example() {
+    sed -n '/^```rust$/,/^```$/{/^```/d;p}' ../../docs/USING.md | diff - examples/adder.rs || fail "docs/USING.md shows another program than examples/adder.rs"
+    local flags=(--offline --quiet --features static --example adder)
+    if command -v pkg-config > /dev/null; then
+        PKG_CONFIG_PATH=$prefix/lib/pkgconfig cargo run "${flags[@]}" > "$made/said"
+    else
+        echo "left out: no pkg-config here"
+        MINORDER_LIB_DIR=$prefix/lib cargo run "${flags[@]}" > "$made/said"
+    fi
+    [ "$(< "$made/said")" = "[3, 7, 2, 6, 1, 5, 0, 4]: 29 nodes" ] || fail "the example prints $(< "$made/said")"
+    ! MINORDER_LIB_DIR=$made cargo build --offline 2> "$made/said" || fail "a folder without the library is taken"
+    grep -qx " *minorder: MINORDER_LIB_DIR: $made has no libminorder.so.1" "$made/said" || fail "another message: $(< "$made/said")"
+    echo "the example in Rust: as USING.md says"
+}
+
+tests
+judgement
+example

@@ -1,0 +1,76 @@
+use crate::library::{self, done};
+use crate::orders::check_order;
+use crate::{Error, Tables};
+
+/// A node of a diagram: its variable, and its successors where that is 0 and where it is 1.
+/// 0 and 1 are the constants, i + 2 is node i.
+#[derive(Debug, Clone, Copy, Default, PartialEq, Eq, Hash)]
+#[repr(C)]
+pub struct Node {
+    /// The variable.
+    pub variable: u32,
+    /// The successor where the variable is 0.
+    pub low: u32,
+    /// The successor where the variable is 1.
+    pub high: u32,
+}
+
+/// The reduced shared diagram of functions under an order.
+#[derive(Debug, Clone, PartialEq, Eq)]
+pub struct Diagram {
+    /// The nodes, level by level from below: children stand before parents.
+    pub nodes: Vec<Node>,
+    /// The root of each output: 0, 1, or i + 2 for node i.
+    pub roots: Vec<u32>,
+}
+
+impl Diagram {
+    /// The value of an output at a point.
+    ///
+    /// # Panics
+    /// If there is no such output.
+    pub fn value(&self, point: usize, output: usize) -> bool {
+        let mut at = self.roots[output];
+        while at > 1 {
+            let node = self.nodes[at as usize - 2];
+            at = if point >> node.variable & 1 == 0 { node.low } else { node.high };
+        }
+        at == 1
+    }
+}
+
+/// The reduced shared diagram under an order. A loop over its nodes builds it in another package.
+///
+/// ```
+/// use minorder::{diagram, exact, Tables};
+///
+/// let mux = Tables::from_words(3, 1, vec![0xca])?;
+/// let best = diagram(&mux, &exact(&mux)?.order)?;
+/// // by points: the bits of the table
+/// let mut values = vec![0, 0xff];
+/// for node in &best.nodes {
+///     let variable = [0xaa, 0xcc, 0xf0][node.variable as usize];
+///     values.push(values[node.low as usize] & !variable | values[node.high as usize] & variable);
+/// }
+/// assert_eq!(values[best.roots[0] as usize], 0xca);
+/// # Ok::<(), minorder::Error>(())
+/// ```
+pub fn diagram(tables: &Tables, order: &[u8]) -> Result<Diagram, Error> {
+    check_order(tables, order)?;
+    let mut nodes = vec![Node::default(); most_nodes(tables.inputs(), tables.outputs())];
+    let (mut roots, mut count) = (vec![0; tables.outputs()], 0);
+    done(library::diagram(tables, order, &mut nodes, &mut roots, &mut count))?;
+    nodes.truncate(count);
+    nodes.shrink_to_fit();
+    Ok(Diagram { nodes, roots })
+}
+
+/// As many nodes as a diagram of such functions has at most: on each level one for each output
+/// and values of the variables above, and one for each function of its variables and those below.
+fn most_nodes(inputs: usize, outputs: usize) -> usize {
+    let level = |above: usize| match inputs - above {
+        below @ 1..=4 => (outputs << above).min(1 << (1 << below)),
+        _ => outputs << above,
+    };
+    (0..inputs).map(level).sum()
+}

@@ -1,0 +1,87 @@
+use std::fmt;
+
+use crate::Pair;
+
+/// Why a call was refused. Its text is one line that names the argument.
+#[derive(Debug, Clone, PartialEq, Eq)]
+#[non_exhaustive]
+pub enum Error {
+    /// Another number of inputs than 1 to 16.
+    BadInputs(usize),
+    /// Another number of outputs than 1 to 16.
+    BadOutputs(usize),
+    /// Another number of words than the tables of all outputs take.
+    BadWords {
+        /// How many there are.
+        given: usize,
+        /// How many the tables take.
+        wanted: usize,
+    },
+    /// An output has another number of values than its function has points.
+    BadValues {
+        /// The number of the output, from 0.
+        output: usize,
+        /// How many values it has.
+        given: usize,
+        /// How many points the function has.
+        wanted: usize,
+    },
+    /// The order hasn't each variable once.
+    BadOrder {
+        /// The order.
+        order: Vec<u8>,
+        /// How many variables there are.
+        inputs: usize,
+    },
+    /// A pair has a variable that the functions haven't.
+    PairOutOfRange {
+        /// The pair.
+        pair: Pair,
+        /// How many variables there are.
+        inputs: usize,
+    },
+    /// The pairs lead from a variable back to itself.
+    PairCycle,
+    /// Of many problems this one has other numbers of inputs and outputs than the first.
+    OtherShape(usize),
+    /// The text is no certificate.
+    BadCertificate,
+    /// The library was refused memory.
+    OutOfMemory,
+    /// The library ended with a status that this crate doesn't know.
+    UnknownStatus(u32),
+    /// The library gave a reason for its verdict that this crate doesn't know.
+    UnknownReason(u32),
+}
+
+impl fmt::Display for Error {
+    fn fmt(&self, to: &mut fmt::Formatter<'_>) -> fmt::Result {
+        match self {
+            Self::BadInputs(given) => write!(to, "inputs: {given}: there are 1 to 16"),
+            Self::BadOutputs(given) => write!(to, "outputs: {given}: there are 1 to 16"),
+            Self::BadWords { given, wanted } => {
+                write!(to, "words: {given}: the tables of all outputs take {wanted}")
+            }
+            Self::BadValues { output, given, wanted } => {
+                write!(to, "values: {given} of output {output}: the function has {wanted} points")
+            }
+            Self::BadOrder { order, inputs } => {
+                write!(to, "order: {order:?}: an order has each variable below {inputs} once")
+            }
+            Self::PairOutOfRange { pair, inputs } => {
+                let Pair { above, below } = pair;
+                write!(to, "pairs: {above} above {below}: variables are below {inputs}")
+            }
+            Self::PairCycle => write!(to, "pairs: they lead from a variable back to itself"),
+            Self::OtherShape(problem) => {
+                write!(to, "problems: problem {problem} hasn't the first one's inputs and outputs")
+            }
+            Self::BadCertificate => write!(to, "certificate: the text isn't one"),
+            Self::OutOfMemory => write!(to, "the library was refused memory"),
+            Self::UnknownStatus(status) => write!(to, "the library ended with status {status}"),
+            Self::UnknownReason(reason) => write!(to, "the library gave the reason {reason}"),
+        }
+    }
+}
+
+impl std::error::Error for Error {}

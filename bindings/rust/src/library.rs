@@ -1,0 +1,242 @@
+//! The calls of the C library as functions over slices, which give its statuses.
+#![allow(unsafe_code)]
+
+use crate::{Error, FoundOrder, Node, Pair, Tables};
+
+/// The answer of a check.
+#[derive(Default)]
+#[repr(C)]
+pub struct Judged {
+    pub reason: u32,
+    pub mask: u32,
+    pub variable: u32,
+}
+
+#[rustfmt::skip]
+extern "C" {
+    fn minorder_exact_with_lengths(
+        tables: *const u64, words: usize, inputs: u32, outputs: u32,
+        order: *mut u8, order_length: usize, levels: *mut u32, levels_length: usize, total: *mut u32,
+    ) -> u32;
+    fn minorder_exact_above_with_lengths(
+        tables: *const u64, words: usize, inputs: u32, outputs: u32, pairs: *const Pair, count: usize,
+        order: *mut u8, order_length: usize, levels: *mut u32, levels_length: usize, total: *mut u32,
+    ) -> u32;
+    fn minorder_exact_many_with_lengths(
+        tables: *const u64, words: usize, inputs: u32, outputs: u32,
+        orders: *mut u8, orders_length: usize, levels: *mut u32, levels_length: usize,
+        totals: *mut u32, count: usize,
+    ) -> u32;
+    fn minorder_levels_with_lengths(
+        tables: *const u64, words: usize, inputs: u32, outputs: u32,
+        order: *const u8, order_length: usize, levels: *mut u32, levels_length: usize,
+    ) -> u32;
+    fn minorder_sift_with_lengths(
+        tables: *const u64, words: usize, inputs: u32, outputs: u32,
+        order: *mut u8, order_length: usize, levels: *mut u32, levels_length: usize, total: *mut u32,
+    ) -> u32;
+    fn minorder_diagram_with_lengths(
+        tables: *const u64, words: usize, inputs: u32, outputs: u32,
+        order: *const u8, order_length: usize, nodes: *mut Node, room: usize,
+        roots: *mut u32, roots_length: usize, count: *mut usize,
+    ) -> u32;
+    fn minorder_certify_with_pairs(
+        tables: *const u64, words: usize, inputs: u32, outputs: u32, pairs: *const Pair, count: usize,
+        text: *mut u8, room: usize, length: *mut usize,
+    ) -> u32;
+    fn minorder_check_total_with_pairs(
+        tables: *const u64, words: usize, inputs: u32, outputs: u32,
+        certificate: *const u8, length: usize, verdict: *mut Judged, total: *mut u32,
+        pairs: *mut Pair, room: usize, count: *mut usize,
+    ) -> u32;
+}
+
+/// The error that a status other than 0 stands for. Shapes and orders are checked before the
+/// calls, so that their statuses don't come.
+pub fn done(status: u32) -> Result<(), Error> {
+    match status {
+        0 => Ok(()),
+        3 => Err(Error::BadCertificate),
+        4 => Err(Error::OutOfMemory),
+        8 => Err(Error::PairCycle),
+        other => Err(Error::UnknownStatus(other)),
+    }
+}
+
+/// The numbers of inputs and outputs.
+fn shape(tables: &Tables) -> (u32, u32) {
+    (tables.inputs() as u32, tables.outputs() as u32)
+}
+
+pub fn exact(tables: &Tables, found: &mut FoundOrder) -> u32 {
+    let (words, (inputs, outputs)) = (tables.words(), shape(tables));
+    let FoundOrder { order, levels, total } = found;
+    // SAFETY: each pointer is of a slice and comes with its length, or of one number; what is
+    // written is borrowed by this call alone.
+    unsafe {
+        minorder_exact_with_lengths(
+            words.as_ptr(),
+            words.len(),
+            inputs,
+            outputs,
+            order.as_mut_ptr(),
+            order.len(),
+            levels.as_mut_ptr(),
+            levels.len(),
+            total,
+        )
+    }
+}
+
+pub fn exact_above(tables: &Tables, pairs: &[Pair], found: &mut FoundOrder) -> u32 {
+    let (words, (inputs, outputs)) = (tables.words(), shape(tables));
+    let FoundOrder { order, levels, total } = found;
+    // SAFETY: as in `exact`; a `Pair` is laid out as C's.
+    unsafe {
+        minorder_exact_above_with_lengths(
+            words.as_ptr(),
+            words.len(),
+            inputs,
+            outputs,
+            pairs.as_ptr(),
+            pairs.len(),
+            order.as_mut_ptr(),
+            order.len(),
+            levels.as_mut_ptr(),
+            levels.len(),
+            total,
+        )
+    }
+}
+
+/// `shape` is the inputs and outputs of each problem.
+pub fn exact_many(
+    words: &[u64],
+    shape: (usize, usize),
+    orders: &mut [u8],
+    levels: &mut [u32],
+    totals: &mut [u32],
+) -> u32 {
+    // SAFETY: as in `exact`.
+    unsafe {
+        minorder_exact_many_with_lengths(
+            words.as_ptr(),
+            words.len(),
+            shape.0 as u32,
+            shape.1 as u32,
+            orders.as_mut_ptr(),
+            orders.len(),
+            levels.as_mut_ptr(),
+            levels.len(),
+            totals.as_mut_ptr(),
+            totals.len(),
+        )
+    }
+}
+
+pub fn levels(tables: &Tables, order: &[u8], levels: &mut [u32]) -> u32 {
+    let (words, (inputs, outputs)) = (tables.words(), shape(tables));
+    // SAFETY: as in `exact`.
+    unsafe {
+        minorder_levels_with_lengths(
+            words.as_ptr(),
+            words.len(),
+            inputs,
+            outputs,
+            order.as_ptr(),
+            order.len(),
+            levels.as_mut_ptr(),
+            levels.len(),
+        )
+    }
+}
+
+pub fn sift(tables: &Tables, found: &mut FoundOrder) -> u32 {
+    let (words, (inputs, outputs)) = (tables.words(), shape(tables));
+    let FoundOrder { order, levels, total } = found;
+    // SAFETY: as in `exact`.
+    unsafe {
+        minorder_sift_with_lengths(
+            words.as_ptr(),
+            words.len(),
+            inputs,
+            outputs,
+            order.as_mut_ptr(),
+            order.len(),
+            levels.as_mut_ptr(),
+            levels.len(),
+            total,
+        )
+    }
+}
+
+pub fn diagram(
+    tables: &Tables,
+    order: &[u8],
+    nodes: &mut [Node],
+    roots: &mut [u32],
+    count: &mut usize,
+) -> u32 {
+    let (words, (inputs, outputs)) = (tables.words(), shape(tables));
+    // SAFETY: as in `exact`; a `Node` is laid out as C's.
+    unsafe {
+        minorder_diagram_with_lengths(
+            words.as_ptr(),
+            words.len(),
+            inputs,
+            outputs,
+            order.as_ptr(),
+            order.len(),
+            nodes.as_mut_ptr(),
+            nodes.len(),
+            roots.as_mut_ptr(),
+            roots.len(),
+            count,
+        )
+    }
+}
+
+pub fn certify(tables: &Tables, pairs: &[Pair], text: &mut [u8], length: &mut usize) -> u32 {
+    let (words, (inputs, outputs)) = (tables.words(), shape(tables));
+    // SAFETY: as in `exact`; a `Pair` is laid out as C's.
+    unsafe {
+        minorder_certify_with_pairs(
+            words.as_ptr(),
+            words.len(),
+            inputs,
+            outputs,
+            pairs.as_ptr(),
+            pairs.len(),
+            text.as_mut_ptr(),
+            text.len(),
+            length,
+        )
+    }
+}
+
+pub fn check(
+    tables: &Tables,
+    certificate: &[u8],
+    judged: &mut Judged,
+    total: &mut u32,
+    pairs: &mut [Pair],
+    count: &mut usize,
+) -> u32 {
+    let (words, (inputs, outputs)) = (tables.words(), shape(tables));
+    // SAFETY: as in `exact`; a `Judged` and a `Pair` are laid out as C's.
+    unsafe {
+        minorder_check_total_with_pairs(
+            words.as_ptr(),
+            words.len(),
+            inputs,
+            outputs,
+            certificate.as_ptr(),
+            certificate.len(),
+            judged,
+            total,
+            pairs.as_mut_ptr(),
+            pairs.len(),
+            count,
+        )
+    }
+}
