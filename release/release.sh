@@ -1,5 +1,5 @@
 #!/usr/bin/env bash
-# release.sh VERSION     makes out/minorder-VERSION-linux-x86_64.tar.gz, out/minorder-VERSION-certificates.tar.xz, Debian packages
+# release.sh VERSION     makes out/minorder-VERSION-linux-x86_64.tar.gz, a wheel, out/minorder-VERSION-certificates.tar.xz, Debian packages
 #                        where dpkg-deb is there, out/minorder-VERSION.crate where cargo is there, and out/SHA256SUMS
 # release.sh --without-certificates VERSION     the same but for the certificates
 # The certificates of the table of optima are taken from optima/out where they all lie there, and else made, in two minutes of processor
@@ -55,6 +55,12 @@ packages() {
     files+=("${packages[@]}")
 }
 
+wheel() {
+    local made_wheel
+    made_wheel=$("$top/release/wheel.py" "$made/$name" "$made") || fail "the wheel can't be made"
+    files+=("$made_wheel")
+}
+
 # The crate, built once with the archive's library. What cargo makes beside it stays out of the repository.
 crate() {
     if ! command -v cargo > /dev/null; then
@@ -82,6 +88,7 @@ certificates() {
 
 archive
 packages
+wheel
 crate
 ! "$with_certificates" || certificates
 (cd "$made" && sha256sum "${files[@]}" > SHA256SUMS)

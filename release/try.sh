@@ -1,6 +1,6 @@
 #!/usr/bin/env bash
 # try.sh         tries the release that release/release.sh made, from an empty folder: its sums, the programs alone on the path, the
-#                library for C by pkg-config, the shared library from Python, the crate, the certificates of the table of
+#                library for C by pkg-config, the shared library from Python, the wheel, the crate, the certificates of the table of
 #                optima; the tree of the Debian packages likewise, and what lintian says of them
 set -euo pipefail
 top=$(cd "$(dirname "${BASH_SOURCE[0]}")/.." && pwd)
@@ -92,6 +92,52 @@ for line in sys.stdin:
     echo "minorder-batch: the reports of the examples, and the faults of others"
 }
 
+# The platform in the wheel's name, beside what objdump reads off the library.
+wheel_platform() {
+    has objdump || return 0
+    local newest
+    newest=$(objdump -T "$libraries/libminorder.so.1" | grep -o 'GLIBC_2\.[0-9]*' | sort -uV | tail -1)
+    [[ $wheel == *"-manylinux_2_${newest#GLIBC_2.}_x86_64.whl" ]] || fail "$wheel: the library asks for $newest"
+}
+
+# The wheel in an empty virtual environment: no network, no prefix, no variable that names the library.
+wheel() {
+    has python3 || return 0
+    local environment=$made/environment examples=$tree/share/doc/minorder/examples wheel command file
+    wheel=$(grep -o 'minorder-.*\.whl$' "$top/out/SHA256SUMS")
+    wheel_platform
+    python3 -m venv "$environment" > /dev/null 2>&1 || { echo "left out: the wheel, since this python3 makes no virtual environment"; return 0; }
+    alone() { (cd "$made/alone" && env -i PATH="$environment/bin" "$@"); }
+    mkdir "$made/alone"
+    alone pip install --quiet --no-index --disable-pip-version-check "$top/out/$wheel"
+    alone python -c '
+import sys
+import minorder
+from minorder._library import library
+
+assert library()._name.startswith(sys.prefix), library()
+assert minorder.exact(lambda a, b, s: b if s else a, 3) == ((2, 0, 1), (1, 1, 1), 3)
+assert [it.total for it in minorder.exact_many([0b0110, 0b1000], inputs=2)] == [3, 2]
+for file in sys.argv[1:]:
+    with open(file.split("/")[-1], "w") as certificate:
+        certificate.write(minorder.certify(minorder.read_pla(file)))
+' "$examples"/*.pla || fail "the wheel answers something else"
+    for file in "$examples"/*.pla; do
+        run minorder --cert "$made/cert" "$file" > /dev/null
+        cmp "$made/alone/$(basename "$file")" "$made/cert" || fail "$file: the wheel makes another certificate"
+    done
+    for command in "$environment"/bin/minorder-*; do alone "$command" --help > /dev/null || fail "$command doesn't run"; done
+    [[ $(alone minorder-batch "$examples/mux2.pla") == *'"nodes": 3,'* ]] || fail "the wheel's minorder-batch reports something else"
+    [[ $(alone minorder-levels "$examples/adder4.pla" 3,7,2,6,1,5,0,4) == *"nodes: 29" ]] || fail "the wheel's minorder-levels counts something else"
+    alone minorder-functions own "hidden weighted bit" > /dev/null
+    {
+        echo name,order
+        for file in "$made"/alone/own/*.pla; do run minorder "$file" | sed -n "s/^order: /$(basename "$file" .pla),/p"; done
+    } > "$made/alone/orders"
+    [[ $(alone minorder-score orders "hidden weighted bit") == *"mean ratio: 1.000"* ]] || fail "the wheel's minorder-score has another ratio"
+    echo "the wheel in an empty environment: answers, commands and certificates as they are to be"
+}
+
 # The Rust program that USING.md shows, with the packed crate and the archive.
 crate() {
     [ -e "$top/out/minorder-$version.crate" ] || { echo "left out: the crate, which the release hasn't"; return 0; }
@@ -146,6 +192,7 @@ tree=$made/minorder-$version-linux-x86_64
 (cd "$tree" && sha256sum --quiet -c SHA256SUMS)
 cat "$tree/share/doc/minorder/PROVED_WITH"
 try_tree "$tree" lib share/minorder/python
+wheel
 crate
 certificates
 packages=("$top"/out/{minorder,libminorder1,libminorder-dev}_"$version"_amd64.deb "$top/out/python3-minorder_${version}_all.deb")

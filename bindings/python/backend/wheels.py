@@ -53,8 +53,10 @@ def _commands():
 
 
 def build_wheel(wheel_directory, config_settings=None, metadata_directory=None):
+    """With the library it is for the platform that the settings name, else for this machine's system."""
     version, files = _version(), {name: _read(name) for name in _package()}
-    tag = "py3-none-linux_x86_64" if any(".so" in name for name in files) else "py3-none-any"
+    platform = (config_settings or {}).get("platform", "linux_x86_64")
+    tag = f"py3-none-{platform if LIBRARY in files else 'any'}"
     about = f"minorder-{version}.dist-info"
     files[f"{about}/METADATA"] = ABOUT.format(version=version).encode()
     pure = "true" if tag.endswith("any") else "false"

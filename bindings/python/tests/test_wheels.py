@@ -10,12 +10,12 @@ PACKAGE = os.path.dirname(os.path.dirname(os.path.abspath(__file__)))
 LIBRARY = "libminorder.so.1"
 
 
-def wheel_of(package, folder):
+def wheel_of(package, folder, settings=None):
     """The name of the wheel of a package's folder, and its files."""
     spec = importlib.util.spec_from_file_location("wheels", f"{package}/backend/wheels.py")
     backend = importlib.util.module_from_spec(spec)
     spec.loader.exec_module(backend)
-    name = backend.build_wheel(folder)
+    name = backend.build_wheel(folder, settings)
     with zipfile.ZipFile(f"{folder}/{name}") as wheel:
         return name, {it: wheel.read(it) for it in wheel.namelist()}
 
@@ -46,6 +46,10 @@ class Wheels(unittest.TestCase):
             self.assertTrue(name.endswith("-py3-none-linux_x86_64.whl"))
             self.assertEqual(files[f"minorder/{LIBRARY}"], b"a library")
             self.assertIn("minorder/benchmarks/league.csv", files)
+        name, files = wheel_of(package, self.folder, {"platform": "manylinux_2_17_x86_64"})
+        self.assertTrue(name.endswith("-py3-none-manylinux_2_17_x86_64.whl"))
+        about = next(content.decode() for it, content in files.items() if it.endswith(".dist-info/WHEEL"))
+        self.assertIn("\nRoot-Is-Purelib: false\nTag: py3-none-manylinux_2_17_x86_64\n", about)
 
     def test_of_the_repository(self):
         name, files = wheel_of(PACKAGE, self.folder)
