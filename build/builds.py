@@ -23,8 +23,6 @@ from sources import is_touched, made_of, sum_of
 
 # what rattle and rt say of a library that is damaged, or was proved over other builds of those below than lie there
 UNUSABLE = re.compile(r"help: rebuild `(\w+)`|rt: the kept work of (\w+) cannot be used")
-
-
 TWICE = "edited more than once during the build: {}; call this again"
 
 

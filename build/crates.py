@@ -20,10 +20,15 @@ def row_of(name: str) -> str:
     return listed().get(name) or sys.exit(f"{name}: no crate of crates.txt")
 
 
+def used() -> Uses:
+    """The crates of crates.txt with the libraries that each uses, the kit's among them."""
+    return {crate: row.partition(":")[2].split() for crate, row in listed().items()}
+
+
 def named() -> Uses:
     """The crates of crates.txt with the libraries of the repository that each uses."""
-    rows = listed()
-    return {crate: [it for it in row.partition(":")[2].split() if it in rows] for crate, row in rows.items()}
+    every = used()
+    return {crate: [it for it in uses if it in every] for crate, uses in every.items()}
 
 
 def needed(name: str, uses: Uses) -> List[str]:

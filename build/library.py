@@ -19,7 +19,7 @@ import sys
 from typing import Any, Iterable, Optional, Set
 
 from crates import TOP, named
-from sources import written
+from writing import written
 
 # what is used of the kit's module `rtlib`
 OF_CRATES = ("below", "build_rlib", "call", "is_built", "stamp", "words")

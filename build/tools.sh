@@ -7,6 +7,7 @@ whose() {
         ar | ld | nm | objcopy | objdump | strip) echo "Debian: binutils" ;;
         cc) echo "Debian: gcc; or set CC" ;;
         dpkg-deb) echo "Debian: dpkg" ;;
+        */*) echo "no such program" ;;
         *) echo "Debian: $1" ;;
     esac
 }

@@ -3,8 +3,8 @@
 `rt try` compiles the sources with checks, which takes a minute or two, and runs them in a folder of its own."""
 import os
 import re
-import shutil
 import subprocess
+import sys
 import tempfile
 from collections.abc import Iterator
 from contextlib import contextmanager
@@ -13,6 +13,10 @@ from pathlib import Path
 from edits import Fault, changed_texts
 
 TOP = Path(__file__).resolve().parent.parent
+sys.path.append(str(TOP / "build"))
+from crates import listed  # noqa: E402
+from preview import lay_out  # noqa: E402
+
 CRATES = TOP / "crates"
 DATA = CRATES / "worked_cases/data"
 # a test has so long, and is taken not to end past it
@@ -25,12 +29,7 @@ def changed_sources(body: Path | None) -> Iterator[Path]:
     """A folder with the sources of all crates, changed by a wrong body, while the context lasts."""
     with tempfile.TemporaryDirectory(prefix="wrong-body-") as made:
         folder = Path(made)
-        for crate in (it for it in CRATES.iterdir() if it.is_dir()):
-            for part in ("src", "specs"):
-                if (crate / part).is_dir():
-                    shutil.copytree(crate / part, folder / "crates" / crate.name / part)
-        for name in ("crates.txt", "HANDLES"):
-            shutil.copy(TOP / name, folder / name)
+        lay_out(str(TOP), listed(), made)
         for file, text in (changed_texts(body, CRATES) if body else {}).items():
             (folder / "crates" / file).write_text(text, encoding="utf-8")
         yield folder

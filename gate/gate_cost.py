@@ -1,6 +1,6 @@
 #!/usr/bin/env python3
 """gate_cost.py [--anew]      runs the gate in this checkout and says what it took of processor time; with --anew nothing that an
-                         earlier run kept is taken (kits whose `rt ci` has no --anew keep nothing)
+                         earlier run kept is taken
 gate_cost.py --beside COMMIT [CRATE..]      runs the whole gate in clean clones of HEAD and of the commit at once, each on half of
                          the cores, and says what each took and how the two compare; some kits can run it for single crates
 gate_cost.py --unit      takes the unit alone
@@ -12,7 +12,6 @@ between machines and hours; the seconds of build/costs.csv, which a run in this 
 What a call of the prover has used is read from /proc twice a second, so a call's last half second is missing. The sum of all
 is the system's own count."""
 import concurrent.futures
-import csv
 import os
 import re
 import resource
@@ -21,28 +20,33 @@ import subprocess
 import sys
 import tempfile
 import time
+from collections.abc import Iterable
+from typing import NamedTuple
 
-TOP = os.path.dirname(os.path.dirname(os.path.abspath(__file__)))
-sys.path.append(f"{TOP}/build")
+sys.path.append(os.path.join(os.path.dirname(os.path.dirname(os.path.abspath(__file__))), "build"))
 import tools  # noqa: E402
+from crates import TOP, used  # noqa: E402
+from writing import written  # noqa: E402
 
 TICKS = os.sysconf("SC_CLK_TCK")
 KINDS = ("proof", "tests", "edits")
+# processor seconds of each kind
+Seconds = dict[str, float]
 
 
-def flags(words):
-    """The words that this kit's `rt ci` takes of these: some kits keep what a run has proved, and prove it again with --anew."""
-    told = subprocess.run(["rt", "help"], capture_output=True, text=True)
-    return [it for it in words if it != "--anew" or it in told.stdout + told.stderr]
+class Process(NamedTuple):
+    parent: str
+    start: str
+    seconds: float
 
 
-def children_seconds():
+def children_seconds() -> float:
     """The processor seconds of all children that have ended."""
-    used = resource.getrusage(resource.RUSAGE_CHILDREN)
-    return used.ru_utime + used.ru_stime
+    usage = resource.getrusage(resource.RUSAGE_CHILDREN)
+    return usage.ru_utime + usage.ru_stime
 
 
-def unit():
+def unit() -> float:
     """The processor seconds of the fixed proof."""
     kit = os.path.dirname(subprocess.run(["rt", "doc"], check=True, capture_output=True, text=True).stdout.strip())
     with tempfile.TemporaryDirectory(prefix="unit-") as room:
@@ -52,12 +56,12 @@ def unit():
             with open(f"{room}/{name}", "w") as it:
                 it.write(text)
         before = children_seconds()
-        silent = {"stdout": subprocess.DEVNULL, "stderr": subprocess.DEVNULL}
-        subprocess.run(["rt", "verdict", "--jobs", "1"], cwd=f"{room}/crates/compiler", check=True, **silent)
+        subprocess.run(["rt", "verdict", "--jobs", "1"], cwd=f"{room}/crates/compiler", check=True, stdout=subprocess.DEVNULL,
+                       stderr=subprocess.DEVNULL)
         return children_seconds() - before
 
 
-def read(path):
+def read(path: str) -> str:
     try:
         with open(path, "rb") as it:
             return it.read().decode(errors="replace")
@@ -65,24 +69,23 @@ def read(path):
         return ""
 
 
-def processes():
-    """The running processes: parent, start and processor seconds, by number."""
+def processes() -> dict[str, Process]:
+    """The running processes by number."""
     found = {}
     for number in filter(str.isdigit, os.listdir("/proc")):
-        _, _, fields = read(f"/proc/{number}/stat").rpartition(") ")
-        fields = fields.split()
+        fields = read(f"/proc/{number}/stat").rpartition(") ")[2].split()
         if len(fields) > 19:
-            found[number] = fields[1], fields[19], (int(fields[11]) + int(fields[12])) / TICKS
+            found[number] = Process(fields[1], fields[19], (int(fields[11]) + int(fields[12])) / TICKS)
     return found
 
 
-def is_below(number, top, running):
+def is_below(number: str, top: str, running: dict[str, Process]) -> bool:
     while number in running and number != top:
-        number = running[number][0]
+        number = running[number].parent
     return number == top
 
 
-def kind_of(words):
+def kind_of(words: str) -> tuple[str, str] | None:
     """What a call of the prover is for: its crate, and whether it is the crate's proof, that of its tests, or an edit."""
     crate = re.search(r"--crate-name (\w+) ", words)
     if not crate:
@@ -94,37 +97,39 @@ def kind_of(words):
 class Meter:
     """What each call of the prover below a process has used."""
 
-    def __init__(self, top):
-        self.top, self.calls = str(top), {}
+    def __init__(self, top: int) -> None:
+        self.top = str(top)
+        # by number and start; a process that is no call of the prover has no kind
+        self.kinds: dict[tuple[str, str], tuple[str, str] | None] = {}
+        self.seconds: dict[tuple[str, str], float] = {}
 
-    def look(self):
+    def look(self) -> None:
         running = processes()
-        for number, (_, start, seconds) in running.items():
-            call = number, start
-            if call not in self.calls:
+        for number, process in running.items():
+            call = number, process.start
+            if call not in self.kinds:
                 if not is_below(number, self.top, running):
                     continue
-                folder = os.path.realpath(f"/proc/{number}/cwd") if os.path.exists(f"/proc/{number}/cwd") else ""
                 words = read(f"/proc/{number}/cmdline").replace("\0", " ")
-                self.calls[call] = [kind_of(f"{folder} {words}"), 0]
-            self.calls[call][1] = seconds
+                self.kinds[call] = kind_of(f"{os.path.realpath(f'/proc/{number}/cwd')} {words}")
+            self.seconds[call] = process.seconds
 
-    def by_crate(self):
-        found = {}
-        for kind, seconds in self.calls.values():
-            if kind:
-                crate = found.setdefault(kind[0], dict.fromkeys(KINDS, 0))
-                crate[kind[1]] += seconds
+    def by_crate(self) -> dict[str, Seconds]:
+        found: dict[str, Seconds] = {}
+        for call, prover in self.kinds.items():
+            if prover:
+                crate, kind = prover
+                found.setdefault(crate, dict.fromkeys(KINDS, 0.0))[kind] += self.seconds[call]
         return found
 
 
 class Gate:
     """A run of the gate in a checkout: its status, its time, its processor seconds and those of each crate."""
 
-    def __init__(self, top, words, cores):
+    def __init__(self, top: str, words: list[str], cores: Iterable[int]) -> None:
         start = time.monotonic()
-        limit = {"preexec_fn": lambda: os.sched_setaffinity(0, cores), "stdin": subprocess.DEVNULL}
-        ran = subprocess.Popen(["rt", "ci", *flags(words)], cwd=top, **limit)
+        ran = subprocess.Popen(["rt", "ci", *words], cwd=top, preexec_fn=lambda: os.sched_setaffinity(0, cores),
+                               stdin=subprocess.DEVNULL)
         meter, ended = Meter(ran.pid), 0
         while not ended:
             meter.look()
@@ -133,18 +138,18 @@ class Gate:
         self.status, self.passed = os.waitstatus_to_exitcode(status), time.monotonic() - start
         self.seconds, self.found = used.ru_utime + used.ru_stime, meter.by_crate()
 
-    def __str__(self):
+    def __str__(self) -> str:
         proofs, tests, edits = (round(sum(it[kind] for it in self.found.values())) for kind in KINDS)
         parts = f"proofs {proofs}, tests {tests}, edits {edits}"
         return f"{self.passed / 60:.0f} min, {self.seconds:.0f} s of processor time: {parts}; status {self.status}"
 
 
-def beside(commit, words):
+def beside(commit: str, words: list[str]) -> None:
     """Runs the gate of HEAD and that of a commit at once, each on one half of the cores."""
     cores = sorted(os.sched_getaffinity(0))
     half = len(cores) // 2
     with tempfile.TemporaryDirectory(prefix="gates-") as room, concurrent.futures.ThreadPoolExecutor() as pool:
-        runs = []
+        runs: list[concurrent.futures.Future[Gate]] = []
         for name, own in (("HEAD", cores[:half]), (commit, cores[half:])):
             top = f"{room}/{len(runs)}"
             told = subprocess.run(["git", "rev-parse", name], cwd=TOP, check=True, capture_output=True, text=True)
@@ -157,37 +162,32 @@ def beside(commit, words):
     sys.exit(ours.status)
 
 
-def edits_of(crate):
+def edits_of(crate: str) -> int:
     folder = f"{TOP}/crates/{crate}/must-fail"
     return sum(it.endswith(".edit") for it in os.listdir(folder)) if os.path.isdir(folder) else 0
 
 
-def crates():
-    with open(f"{TOP}/crates.txt") as lines:
-        rows = [line.partition("#")[0].strip() for line in lines]
-    return [re.split(r"[ :]", row)[0] for row in rows if row]
+def write_costs(found: dict[str, Seconds]) -> None:
+    rows = [["crate", *KINDS, "edits_tried"]]
+    for crate in (it for it in used() if it in found):
+        rows.append([crate, *(str(round(found[crate][kind])) for kind in KINDS), str(edits_of(crate))])
+    with written(f"{TOP}/build/costs.csv") as it:
+        it.writelines(f"{','.join(row)}\n".encode() for row in rows)
 
 
-def write_costs(found):
-    with open(f"{TOP}/build/costs.csv", "w", newline="") as it:
-        table = csv.writer(it, lineterminator="\n")
-        table.writerow(["crate", "proof", "tests", "edits", "edits_tried"])
-        for crate in filter(found.get, crates()):
-            table.writerow([crate, *(round(found[crate][kind]) for kind in KINDS), edits_of(crate)])
-
-
-def main(words):
+def main(words: list[str]) -> None:
     if words[:1] == ["--beside"] and len(words) > 1:
         return beside(words[1], words[2:])
     first = unit()
     if words == ["--unit"]:
-        return print(f"one unit: {first:.1f} s of processor time")
+        print(f"one unit: {first:.1f} s of processor time")
+        return
     ran = Gate(TOP, words, os.sched_getaffinity(0))
     last = unit()
     write_costs(ran.found)
     print(f"{ran}\none unit: {first:.1f} s before, {last:.1f} s after")
     print(f"the gate: {2 * ran.seconds / (first + last):.0f} units")
-    return sys.exit(ran.status)
+    sys.exit(ran.status)
 
 
 if __name__ == "__main__":

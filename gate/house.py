@@ -8,7 +8,9 @@ import re
 import sys
 from typing import Iterable, Iterator, NamedTuple
 
-TOP = os.path.dirname(os.path.dirname(os.path.abspath(__file__)))
+sys.path.append(os.path.join(os.path.dirname(os.path.dirname(os.path.abspath(__file__))), "build"))
+from crates import TOP, used  # noqa: E402
+
 LONG_CONTRACT, MANY_PARAMETERS, WINDOW, LONG_FILE = 10, 7, 5, 400
 COMMENT_COLUMNS, PYTHON_COLUMNS, PROOF_COLUMNS = 100, 130, 160
 # how many there may be of each
@@ -17,8 +19,6 @@ MOST_WINDOWS_OF_TWO, MOST_WINDOWS_OF_ONE = 7, 102
 MOST_FILES, MOST_UNUSED, MOST_WIDE = 4, 0, 0
 NO_CODE = ("//", "use ", "ghost use ", "pub use ", "mod ", "pub mod ", "#!")
 FUNCTION = re.compile(r"^\s*(pub(\([a-z]+\))? )?(const )?(unsafe )?(extern \"C\" )?fn (\w+)")
-
-
 # calls whose parameters include/minorder.h or the project's description fixes
 FIXED_CALLS = re.compile(
     r"crates/(minorder_c/.* minorder_\w+|unique_table/.* set_entry|dd_builder/.* (from_cover|from_tables|build)"
@@ -46,15 +46,8 @@ class Count(NamedTuple):
             print(*(f"    {it}" for it in self.places), sep="\n")
 
 
-def listed() -> dict[str, list[str]]:
-    """The crates of crates.txt, with what each uses."""
-    with open(f"{TOP}/crates.txt") as lines:
-        rows = [line.partition("#")[0].strip() for line in lines]
-    return {re.split(r"[ :]", row)[0]: row.partition(":")[2].split() for row in rows if row}
-
-
-def crates() -> list[str]:
-    return [it for it in listed() if not it.endswith("_tests")]
+def crates_of_code() -> list[str]:
+    return [it for it in used() if not it.endswith("_tests")]
 
 
 def files(folder: str, *endings: str) -> Iterator[str]:
@@ -102,15 +95,19 @@ def contract_lines(lines: list[str], at: int) -> int:
     return 0
 
 
+def files_of_code() -> Iterator[tuple[str, str]]:
+    """The files of the crates that hold more than tests, with their crates."""
+    for crate in crates_of_code():
+        yield from ((crate, path) for path in files(f"{TOP}/crates/{crate}/src", ".rt"))
+
+
 def functions() -> Iterator[tuple[str, int, int]]:
-    for crate in crates():
-        for path in files(f"{TOP}/crates/{crate}/src", ".rt"):
-            lines = lines_of(path)
-            for at, line in enumerate(lines):
-                found = FUNCTION.match(line)
-                if found:
-                    place = f"{os.path.relpath(path, TOP)}:{at + 1} {found[6]}"
-                    yield place, parameters(lines, at), contract_lines(lines, at)
+    for _, path in files_of_code():
+        lines = lines_of(path)
+        for at, line in enumerate(lines):
+            found = FUNCTION.match(line)
+            if found:
+                yield f"{os.path.relpath(path, TOP)}:{at + 1} {found[6]}", parameters(lines, at), contract_lines(lines, at)
 
 
 def code(path: str) -> Iterator[tuple[int, str]]:
@@ -123,9 +120,8 @@ def code(path: str) -> Iterator[tuple[int, str]]:
 
 def rows_of_code() -> Iterator[list[Row]]:
     """The lines of code of each file."""
-    for crate in crates():
-        for path in files(f"{TOP}/crates/{crate}/src", ".rt"):
-            yield [(crate, f"{os.path.relpath(path, TOP)}:{number}", line) for number, line in code(path)]
+    for crate, path in files_of_code():
+        yield [(crate, f"{os.path.relpath(path, TOP)}:{number}", line) for number, line in code(path)]
 
 
 def windows(rows_of_files: Iterable[list[Row]]) -> tuple[list[str], list[str]]:
@@ -147,7 +143,7 @@ def windows(rows_of_files: Iterable[list[Row]]) -> tuple[list[str], list[str]]:
 
 def unused() -> Iterator[str]:
     """What crates.txt says that a crate uses, and its sources don't name; and files of lemmas that nothing cites."""
-    rows = listed()
+    rows = used()
     paths = (path for crate in rows for end in (".rt", ".antt") for path in files(f"{TOP}/crates/{crate}", end))
     texts = {path: "\n".join(lines_of(path)) for path in paths}
     for crate, uses in rows.items():
@@ -170,19 +166,15 @@ def long_files() -> Iterator[str]:
 
 
 def wide_lines() -> Iterator[str]:
-    for crate in crates():
-        for path in files(f"{TOP}/crates/{crate}/src", ".rt"):
+    # the files, the columns that they may have, and the lines that are looked at
+    for paths, columns, of_lines in (
+            ((path for _, path in files_of_code()), COMMENT_COLUMNS, r"\s*//"),
+            (files(TOP, ".py"), PYTHON_COLUMNS, ""),
+            (files(f"{TOP}/crates", ".antt"), PROOF_COLUMNS, "(?!use )")):
+        for path in paths:
             for number, line in enumerate(lines_of(path), 1):
-                if line.strip().startswith("//") and len(line) > COMMENT_COLUMNS:
+                if len(line) > columns and re.match(of_lines, line):
                     yield f"{os.path.relpath(path, TOP)}:{number}"
-    for path in files(TOP, ".py"):
-        for number, line in enumerate(lines_of(path), 1):
-            if len(line) > PYTHON_COLUMNS:
-                yield f"{os.path.relpath(path, TOP)}:{number}"
-    for path in files(f"{TOP}/crates", ".antt"):
-        for number, line in enumerate(lines_of(path), 1):
-            if len(line) > PROOF_COLUMNS and not line.startswith("use "):
-                yield f"{os.path.relpath(path, TOP)}:{number}"
 
 
 def say_lines(what: str, among: Iterable[str]) -> None:
@@ -214,7 +206,7 @@ def main(is_named: bool) -> int:
     found = counts()
     for count in found:
         count.say(is_named)
-    say_lines("lines of .antt to lines of .rt", [it for it in crates() if it not in THEORY])
+    say_lines("lines of .antt to lines of .rt", [it for it in crates_of_code() if it not in THEORY])
     say_lines(f"of the crates of definitions and laws ({', '.join(THEORY)})", THEORY)
     return int(any(count.is_over() for count in found))
 

@@ -8,6 +8,7 @@ import os
 import re
 import sys
 from collections import defaultdict
+from collections.abc import Iterator
 
 TOP = os.path.dirname(os.path.dirname(os.path.abspath(__file__)))
 # the modules that the prover makes of one function
@@ -15,7 +16,7 @@ PARTS = ("Answers", "Code", "Goals", "Given", "Invariants", "Kinds", "Lts", "Met
 RECORD = re.compile(r'\{"aux":')
 
 
-def whose(module):
+def whose(module: str) -> str:
     """The function, or the lemma file, that a module belongs to."""
     names = module.split(".")
     while len(names) > 1 and names[-1] in PARTS:
@@ -23,7 +24,7 @@ def whose(module):
     return ".".join(names)
 
 
-def declarations(path):
+def declarations(path: str) -> Iterator[tuple[str, int]]:
     """Name and steps of each declaration of a module."""
     with open(path, encoding="utf-8", errors="replace") as it:
         text = it.read()
@@ -35,9 +36,9 @@ def declarations(path):
             continue
 
 
-def steps_of(crate):
+def steps_of(crate: str) -> dict[str, dict[str, int]]:
     """The steps of each declaration, by the function or lemma file that it belongs to."""
-    found = defaultdict(lambda: defaultdict(int))
+    found: dict[str, dict[str, int]] = defaultdict(lambda: defaultdict(int))
     for at, _, names in os.walk(f"{TOP}/crates/{crate}/out/incremental"):
         for name in names:
             module = re.match(rf"Rattle-{crate}-(?:proofs|specs)\.(.*?)(\.decls)?\.oantt$", name)
@@ -47,15 +48,21 @@ def steps_of(crate):
     return found
 
 
-def main(crate, count):
+def main(crate: str, count: int) -> None:
     found = steps_of(crate)
+    if not found:
+        sys.exit(f"proof_steps.py: no check of {crate} is kept here")
     print(f"{sum(sum(it.values()) for it in found.values()) / 1e6:8.1f} in all")
     for name, own in sorted(found.items(), key=lambda it: -sum(it[1].values()))[:count]:
-        dearest = max(own, key=own.get)
+        dearest = max(own, key=lambda it: own[it])
         print(f"{sum(own.values()) / 1e6:8.1f} {name}: {dearest} {own[dearest] / 1e6:.1f}")
 
 
 if __name__ == "__main__":
-    if not 2 <= len(sys.argv) <= 3:
-        sys.exit(__doc__)
-    main(sys.argv[1], int(sys.argv[2]) if len(sys.argv) == 3 else 20)
+    match sys.argv[1:]:
+        case [crate]:
+            main(crate, 20)
+        case [crate, count] if count.isdecimal():
+            main(crate, int(count))
+        case _:
+            sys.exit(__doc__)

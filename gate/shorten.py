@@ -11,10 +11,13 @@ import shutil
 import subprocess
 import sys
 import tempfile
+from collections.abc import Iterator
+from typing import NamedTuple
 
-TOP = os.path.dirname(os.path.dirname(os.path.abspath(__file__)))
-sys.path.append(f"{TOP}/build")
+sys.path.append(os.path.join(os.path.dirname(os.path.dirname(os.path.abspath(__file__))), "build"))
 import tools  # noqa: E402
+from crates import TOP, row_of  # noqa: E402
+from writing import written  # noqa: E402
 
 LEAST_LINES, MOST_LEMMAS, COLUMNS = 4, 8, 150
 TOKEN = re.compile(r"--[^\n]*|\s+|[(){}\[\],;]|[^\s(){}\[\],;]+")
@@ -23,19 +26,38 @@ WORD = re.compile(r"^[^\s(){}\[\],;:→×≡]+$")
 # what the library's proofs pass on and is no lemma
 NO_LEMMA = set(("refl sym ap ap₂ subst subst₂ arith rules inl inr absurd cond map length get_or take drop zero suc true false "
                 "not min max None Some Ok Err eqb ltb leb nat_eq common_steps").split())
+Lines = list[str]
+# texts of files, by their paths
+Texts = dict[str, str]
 
 
-def tokens(text):
+class Declaration(NamedTuple):
+    """Its first line, the one behind its last, its indent and its name."""
+    first: int
+    end: int
+    deep: int
+    name: str
+
+
+class Form(NamedTuple):
+    """A shorter form of a declaration: the file, the declaration's place among those of the file, and the lines."""
+    path: str
+    number: int
+    lines: Lines
+
+
+def tokens(text: str) -> Lines:
     return [it for it in TOKEN.findall(text) if not it.isspace() and not it.startswith("--")]
 
 
-def indent(line):
+def indent(line: str) -> int:
     return len(line) - len(line.lstrip())
 
 
-def declarations(lines):
-    """The declarations of a file: their first line, the one behind the last, the indent and the name."""
-    found, at = [], 0
+def declarations(lines: Lines) -> list[Declaration]:
+    """The declarations of a file."""
+    found: list[Declaration] = []
+    at = 0
     while at < len(lines):
         head = SIGNATURE.match(lines[at])
         if not head or len(head[1]) not in (0, 2):
@@ -49,14 +71,14 @@ def declarations(lines):
                 break
             if line.strip():
                 end = number + 1
-        found.append((at, end, deep, name))
+        found.append(Declaration(at, end, deep, name))
         at = end
     return found
 
 
-def clauses(lines, deep):
+def clauses(lines: Lines, deep: int) -> tuple[Lines, list[Lines], list[Lines]]:
     """A declaration's lines as its signature, its line `unfolding`, if there is one, and its clauses."""
-    parts = []
+    parts: list[Lines] = []
     for line in lines:
         if not parts or line.strip() and indent(line) == deep and line.strip()[0] not in ")]}":
             parts.append([])
@@ -65,9 +87,10 @@ def clauses(lines, deep):
     return parts[0], opened, parts[1 + len(opened):]
 
 
-def groups(items):
+def groups(items: Lines) -> list[Lines]:
     """Tokens cut at depth 0 into single ones and bracketed runs."""
-    found, depth = [], 0
+    found: list[Lines] = []
+    depth = 0
     for item in items:
         if depth:
             found[-1].append(item)
@@ -77,9 +100,10 @@ def groups(items):
     return found
 
 
-def parameters(signature):
+def parameters(signature: Lines) -> list[str | None]:
     """The names of the explicit arguments that a signature shows, None for one without a name."""
-    found, is_new = [], True
+    found: list[str | None] = []
+    is_new = True
     rows = groups(tokens(" ".join(signature).split(" : ", 1)[1]))
     for at, row in enumerate(rows):
         if row == ["→"]:
@@ -94,7 +118,7 @@ def parameters(signature):
     return found
 
 
-def patterns(clause):
+def patterns(clause: Lines) -> tuple[list[str | None], str] | None:
     """The patterns of a clause, and its right side; None if they can't be told."""
     rows = groups(tokens("\n".join(clause)))
     if ["="] not in rows:
@@ -102,9 +126,10 @@ def patterns(clause):
     return ["".join(it) if len(it) == 1 else None for it in rows[1:rows.index(["="])]], "\n".join(clause).split("=", 1)[1]
 
 
-def calls(name, body):
+def calls(name: str, body: str) -> Lines:
     """The recursive calls of a body, where these have no λ."""
-    found, rows = [], groups(tokens(body))
+    found: Lines = []
+    rows = groups(tokens(body))
     for row in (it for it in rows if len(it) > 1):
         found += calls(name, " ".join(row[1:-1]))
     for at, row in enumerate(rows):
@@ -119,25 +144,25 @@ def calls(name, body):
     return list(dict.fromkeys(found))[:3]
 
 
-def fitted(head, body, deep):
+def fitted(head: str, body: str, deep: int) -> Lines:
     """A clause, on one line if it fits."""
     line = f"{head} = {body}"
     return [line] if len(line) <= COLUMNS else [f"{head} =", " " * (deep + 4) + body]
 
 
-def call(tactic, items):
+def call(tactic: str, items: Lines) -> str:
     return f"{tactic} ({', '.join(items)})" if len(items) > 1 else f"{tactic} {items[0]}"
 
 
-def tries(lines, deep, name, lemmas):
+def tries(lines: Lines, deep: int, name: str, lemmas: set[str]) -> Iterator[Lines]:
     """Shorter forms of a declaration."""
     signature, opened, rows = clauses(lines, deep)
-    parted = [patterns(it) for it in rows]
-    if sum(map(len, rows)) < LEAST_LINES or not rows or None in parted:
+    parted = [it for it in map(patterns, rows) if it]
+    if sum(map(len, rows)) < LEAST_LINES or len(parted) < len(rows):
         return
     front = [*signature, *(line for it in opened for line in it)]
 
-    def cited(text):
+    def cited(text: str) -> Lines:
         return list(dict.fromkeys(it for it in tokens(text) if it in lemmas and it != name))[:MOST_LEMMAS]
 
     if not any(calls(name, body) for _, body in parted):
@@ -147,7 +172,7 @@ def tries(lines, deep, name, lemmas):
         given = [it or next(spare, None) for it in shown[:len(parted[0][0])]]
         if len(given) == len(parted[0][0]) and None not in given:
             own = parted[0][0] if len(rows) == 1 and None not in parted[0][0] else given
-            head = " " * deep + " ".join([name, *own])
+            head = " " * deep + " ".join([name, *filter(None, own)])
             yield [*front, *fitted(head, call("grind", ["arith", *used]), deep)]
             if used:
                 yield [*front, *fitted(head, call("search", used), deep)]
@@ -158,74 +183,76 @@ def tries(lines, deep, name, lemmas):
             yield [*front, *(line for it in [*rows[:at], short, *rows[at + 1:]] for line in it)]
 
 
-def lemmas_of(text):
+def lemmas_of(text: str) -> set[str]:
     """The names that a file imports from proofs."""
-    found = set()
+    found: set[str] = set()
     for module, names in re.findall(r"(?m)^use (\S+)\.\{([^}]*)\}", text):
         if ".specs." not in module:
             found |= {it.strip() for it in names.split(",") if "◌" not in it and not it.strip()[:1].isupper()} - NO_LEMMA
     return found
 
 
-def forms_of(texts):
-    """All shorter forms: the file, the declaration's place among those of the file, and the lines."""
-    found = []
+def forms_of(texts: Texts) -> list[Form]:
+    """All shorter forms."""
+    found: list[Form] = []
     for path, text in texts.items():
         lines, known = text.split("\n"), lemmas_of(text)
         for number, (first, end, deep, name) in enumerate(declarations(lines)):
             if not re.search(r": .*Type \d", lines[first]):
-                found += [(path, number, it) for it in tries(lines[first:end], deep, name, known)]
+                found += [Form(path, number, it) for it in tries(lines[first:end], deep, name, known)]
             known.add(name)
     return found
 
 
-def renamed(lines, deep, name, form):
+def renamed(lines: Lines, deep: int, name: str, form: int) -> Lines:
     """A form as a declaration with a name of its own."""
     heads = rf"^( *)(?:pub )?{re.escape(name)}(?= )"
-    return [re.sub(heads, lambda it: f"{it[1]}{name}_try{form}", it) if indent(it) == deep else it for it in lines]
+    return [re.sub(heads, lambda head: f"{head[1]!s}{name}_try{form}", it) if indent(it) == deep else it for it in lines]
 
 
-def write(folder, texts, forms, live):
-    """Writes each file with the forms behind their declarations, and says where they stand."""
-    spans = {}
+def write(path: str, lines: Lines) -> None:
+    with written(path) as it:
+        it.write("\n".join(lines).encode())
+
+
+def write_forms(folder: str, texts: Texts, forms: list[Form], live: list[int]) -> dict[tuple[str, int], int]:
+    """Writes each file with the forms behind their declarations, and says which form stands at each file's lines."""
+    places: dict[tuple[str, int], int] = {}
     for path, text in texts.items():
-        lines, out, at = text.split("\n"), [], 0
-        for number, (first, end, deep, name) in enumerate(declarations(lines)):
+        lines, at = text.split("\n"), 0
+        out: Lines = []
+        for number, (_, end, deep, name) in enumerate(declarations(lines)):
             out += lines[at:end]
             at = end
             for form in (it for it in live if forms[it][:2] == (path, number)):
-                new = renamed(forms[form][2], deep, name, form)
-                spans.setdefault(path, []).append((len(out) + 1, len(out) + 1 + len(new), form))
-                out += ["", *new]
-        with open(f"{folder}/{path}", "w", encoding="utf-8") as it:
-            it.write("\n".join([*out, *lines[at:]]))
-    return spans
+                before = len(out)
+                out += ["", *renamed(forms[form].lines, deep, name, form)]
+                places |= {(path, line + 1): form for line in range(before, len(out))}
+        write(f"{folder}/{path}", [*out, *lines[at:]])
+    return places
 
 
-def check(folder):
-    """The lines of errors by file, and whether the crate is proved."""
-    ran = subprocess.run(["rt", "check"], cwd=folder, capture_output=True, text=True)
-    said, found = ran.stdout + ran.stderr, {}
-    for path, line in re.findall(r"(?m)^\./(\S+\.antt):(\d+):\d+: error", said):
-        found.setdefault(path, []).append(int(line))
-    # the libraries below are told of first
-    return found, re.findall(r"(?m)^logic=(\S+)", said)[-1:] == ["proved"]
+def errors_of(said: str) -> list[tuple[str, int]]:
+    """The files and lines of errors."""
+    return [(path, int(line)) for path, line in re.findall(r"(?m)^\./(\S+\.antt):(\d+):\d+: error", said)]
 
 
-def proved_forms(folder, texts, forms):
-    """The places of the forms that are proved."""
+def proved_forms(folder: str, texts: Texts, forms: list[Form]) -> list[Form]:
+    """The forms that are proved."""
     live, is_proved = list(range(len(forms))), False
     while live and not is_proved:
-        spans = write(folder, texts, forms, live)
-        errors, is_proved = check(folder)
-        bad = {form for path, rows in errors.items() for row in rows for a, b, form in spans.get(path, ()) if a <= row <= b}
+        places = write_forms(folder, texts, forms, live)
+        ran = subprocess.run(["rt", "check"], cwd=folder, stdout=subprocess.PIPE, stderr=subprocess.STDOUT, text=True)
+        # the libraries below are told of first
+        is_proved = re.findall(r"(?m)^logic=(\S+)", ran.stdout)[-1:] == ["proved"]
+        bad = {places[it] for it in errors_of(ran.stdout) if it in places}
         if not bad and not is_proved:
             sys.exit("not proved without any shorter form either")
         live = [it for it in live if it not in bad]
-    return live
+    return [forms[it] for it in live]
 
 
-def copied(crate, room):
+def copied(crate: str, room: str) -> tuple[str, Texts]:
     """The texts of a crate's proofs, and its folder in a copy of the tree."""
     shutil.copytree(f"{TOP}/crates", f"{room}/crates", ignore=shutil.ignore_patterns("out"))
     for name in ("crates.txt", "HANDLES"):
@@ -238,27 +265,23 @@ def copied(crate, room):
     return folder, texts
 
 
-def main(crate, writes):
+def main(crate: str, writes: bool) -> None:
+    row_of(crate)
     with tempfile.TemporaryDirectory() as room:
         folder, texts = copied(crate, room)
-        forms = forms_of(texts)
-        best = {}
-        for path, number, lines in (forms[it] for it in proved_forms(folder, texts, forms)):
-            if len(lines) < len(best.get((path, number), lines + [""])):
-                best[path, number] = lines
+        proved = proved_forms(folder, texts, forms_of(texts))
+    shortest = {(it.path, it.number): it.lines for it in sorted(proved, key=lambda it: -len(it.lines))}
     saved = 0
     for path, text in texts.items():
-        lines, out, at = text.split("\n"), [], 0
-        for number, (first, end, _, name) in enumerate(declarations(lines)):
-            new = best.get((path, number), lines[first:end])
+        lines = text.split("\n")
+        for number, (first, end, _, name) in reversed([*enumerate(declarations(lines))]):
+            new = shortest.get((path, number), lines[first:end])
             if len(new) < end - first:
                 print(f"{end - first - len(new):4} {path} {name}")
                 saved += end - first - len(new)
-                out += [*lines[at:first], *new]
-                at = end
-        if writes and at:
-            with open(f"{TOP}/crates/{crate}/{path}", "w", encoding="utf-8") as it:
-                it.write("\n".join([*out, *lines[at:]]))
+                lines[first:end] = new
+        if writes:
+            write(f"{TOP}/crates/{crate}/{path}", lines)
     print(f"{saved} lines of {sum(len(it.splitlines()) for it in texts.values())}")
 
 

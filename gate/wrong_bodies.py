@@ -9,7 +9,6 @@ The wrong body of a test or a case stands in gate/bodies, in the folder CRATE or
 import csv
 import os
 import re
-import shutil
 import sys
 from collections.abc import Iterator
 from concurrent.futures import ThreadPoolExecutor
@@ -19,6 +18,7 @@ from pathlib import Path
 
 from body_runs import CRATES, TOP, difference_in_case, difference_in_test, text_of_case
 from edits import Fault, changed_texts
+from tools import need
 
 LIST = TOP / "gate/wrong_bodies.csv"
 BODIES = TOP / "gate/bodies"
@@ -149,8 +149,7 @@ def run(names: list[str]) -> None:
     unknown = set(names) - {it.wrong_body for it in listed}
     if unknown:
         sys.exit(f"no test or worked case shows {', '.join(sorted(unknown))}")
-    if not shutil.which("rt"):
-        sys.exit("--run needs rt, of the Rattle kit, on the path")
+    need("rt")
     wanted = [it for it in listed if not names or it.wrong_body in names]
     with ThreadPoolExecutor(max(1, (os.cpu_count() or 1) // 2)) as pool:
         try:
