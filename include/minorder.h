@@ -36,7 +36,7 @@ extern "C" {
 /* The version of the library that is called: 10000 for 1.0.0, 10203 for 1.2.3. */
 uint32_t minorder_version(void);
 
-/* How a call ends. Where it isn't MINORDER_DONE the call has written nothing, but for the length at MINORDER_SHORT_TEXT. */
+/* How a call ends. Where it isn't MINORDER_DONE the call has written nothing, but for how much there is at MINORDER_SHORT_TEXT. */
 enum {
     MINORDER_DONE = 0,
     /* inputs or outputs isn't 1 to 16, or a length isn't what these ask for */
@@ -46,7 +46,7 @@ enum {
     MINORDER_OUT_OF_MEMORY = 4,
     /* the order hasn't each variable once */
     MINORDER_BAD_ORDER = 5,
-    /* the certificate is longer than its place */
+    /* there is more to write than there is room for */
     MINORDER_SHORT_TEXT = 7,
     /* a pair has another variable, or the pairs lead from a variable back to itself */
     MINORDER_BAD_PAIRS = 8
@@ -60,7 +60,7 @@ MINORDER_INLINE const char *minorder_status_text(uint32_t status) {
     case MINORDER_BAD_CERTIFICATE: return "the text is no certificate";
     case MINORDER_OUT_OF_MEMORY: return "out of memory";
     case MINORDER_BAD_ORDER: return "the order hasn't each variable once";
-    case MINORDER_SHORT_TEXT: return "the certificate is longer than its place";
+    case MINORDER_SHORT_TEXT: return "there is more to write than there is room for";
     case MINORDER_BAD_PAIRS: return "a pair has another variable, or the pairs lead from a variable back to itself";
     default: return "no status of this library";
     }
@@ -74,6 +74,12 @@ typedef struct {
     uint8_t above, below;
 } minorder_pair;
 
+/* A node of a diagram: its variable, and its successors where that is 0 and where it is 1. 0 and 1 are the constants, i + 2 is
+   node i. */
+typedef struct {
+    uint32_t variable, low, high;
+} minorder_node;
+
 /* The calls as the library has them, with the lengths of all arrays; those behind them ask for `inputs` entries of each. */
 uint32_t minorder_exact_with_lengths(const uint64_t *tables, size_t words, uint32_t inputs, uint32_t outputs,
                                      uint8_t *order, size_t order_length, uint32_t *levels, size_t levels_length, uint32_t *total);
@@ -84,14 +90,17 @@ uint32_t minorder_certify_with_pairs(const uint64_t *tables, size_t words, uint3
                                      const minorder_pair *pairs, size_t count, uint8_t *text, size_t room, size_t *length);
 uint32_t minorder_levels_with_lengths(const uint64_t *tables, size_t words, uint32_t inputs, uint32_t outputs,
                                       const uint8_t *order, size_t order_length, uint32_t *levels, size_t levels_length);
+uint32_t minorder_diagram_with_lengths(const uint64_t *tables, size_t words, uint32_t inputs, uint32_t outputs,
+                                       const uint8_t *order, size_t order_length, minorder_node *nodes, size_t room,
+                                       uint32_t *roots, size_t roots_length, size_t *count);
 uint32_t minorder_exact_many_with_lengths(const uint64_t *tables, size_t words, uint32_t inputs, uint32_t outputs,
                                           uint8_t *orders, size_t orders_length, uint32_t *levels, size_t levels_length,
                                           uint32_t *totals, size_t count);
 uint32_t minorder_sift_with_lengths(const uint64_t *tables, size_t words, uint32_t inputs, uint32_t outputs,
                                     uint8_t *order, size_t order_length, uint32_t *levels, size_t levels_length, uint32_t *total);
 
-/* As many entries as an order of so many variables has; 0 where there are no such functions, which is then a bad shape. */
-static inline size_t minorder_places(uint32_t inputs) { return inputs <= 16 ? inputs : 0; }
+/* As many entries as so many variables or outputs ask for; 0 where there are no such functions, which is then a bad shape. */
+static inline size_t minorder_places(uint32_t count) { return count <= 16 ? count : 0; }
 
 /* Writes the first order of the fewest nodes, its level counts and its size. `order` and `levels` have `inputs` entries. */
 MINORDER_INLINE uint32_t minorder_exact(const uint64_t *tables, size_t words, uint32_t inputs, uint32_t outputs,
@@ -142,6 +151,17 @@ MINORDER_INLINE uint32_t minorder_levels(const uint64_t *tables, size_t words, u
                                        const uint8_t *order, uint32_t *levels) {
     size_t places = minorder_places(inputs);
     return minorder_levels_with_lengths(tables, words, inputs, outputs, order, places, levels, places);
+}
+
+/* Writes the reduced shared diagram under an order: its nodes, level by level from the bottom, so children before their parents; the
+   root of each output, 0, 1 or i + 2 for node i; and the number of nodes, the sum of the level counts. `order` has `inputs` entries,
+   `roots` has `outputs`, `nodes` has `room`. If there are more nodes, only their number is written and the call returns
+   MINORDER_SHORT_TEXT. Without room `nodes` may be null. */
+MINORDER_INLINE uint32_t minorder_diagram(const uint64_t *tables, size_t words, uint32_t inputs, uint32_t outputs,
+                                          const uint8_t *order, minorder_node *nodes, size_t room, uint32_t *roots, size_t *count) {
+    minorder_node no_node = {0, 0, 0};
+    return minorder_diagram_with_lengths(tables, words, inputs, outputs, order, minorder_places(inputs), room == 0 ? &no_node : nodes,
+                                         room, roots, minorder_places(outputs), count);
 }
 
 /* Puts in the place of an order what one pass of sifting makes of it, and writes its level counts and its size. `order` and

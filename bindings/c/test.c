@@ -147,6 +147,87 @@ static void many_problems(void) {
     EXPECT(minorder_exact_many_with_lengths(&table, 1, 1, 1, &order, 1, &level, 0, &total, 1) == MINORDER_BAD_SHAPE);
 }
 
+/* ---- diagrams */
+
+static uint32_t place_in(const uint8_t *order, uint32_t variable) {
+    uint32_t place = 0;
+    while (order[place] != variable)
+        place++;
+    return place;
+}
+
+static uint32_t value_at(const minorder_node *nodes, uint32_t ref, uint32_t point) {
+    while (ref > 1)
+        ref = point >> nodes[ref - 2].variable & 1 ? nodes[ref - 2].high : nodes[ref - 2].low;
+    return ref;
+}
+
+/* the diagram of random functions under an order: each value, the levels, and what makes it reduced and ordered */
+static void random_diagram(uint32_t inputs, uint32_t outputs, const uint8_t *order) {
+    static uint64_t tables[16 * 4];
+    static minorder_node nodes[2048];
+    uint64_t seed = 31 * inputs + outputs;
+    size_t each = minorder_words(inputs), count = 0, needed = 0;
+    uint32_t roots[16], levels[16], found[16] = {0};
+    for (size_t i = 0; i < outputs * each; i++) {
+        seed = seed * 6364136223846793005u + 1442695040888963407u;
+        tables[i] = seed ^ seed >> 29;
+    }
+    EXPECT(minorder_levels(tables, outputs * each, inputs, outputs, order, levels) == MINORDER_DONE);
+    memset(nodes, 66, sizeof nodes);
+    memset(roots, 66, sizeof roots);
+    EXPECT(minorder_diagram(tables, outputs * each, inputs, outputs, order, NULL, 0, roots, &needed) == MINORDER_SHORT_TEXT);
+    EXPECT(minorder_diagram(tables, outputs * each, inputs, outputs, order, nodes, needed - 1, roots, &count) == MINORDER_SHORT_TEXT);
+    EXPECT(count == needed && needed == sum(levels, inputs) && nodes[0].low == 0x42424242 && roots[0] == 0x42424242);
+    EXPECT(minorder_diagram(tables, outputs * each, inputs, outputs, order, nodes, sizeof nodes / sizeof *nodes, roots, &count) == MINORDER_DONE);
+    EXPECT(count == needed && nodes[count].variable == 0x42424242);
+    for (uint32_t i = 0; i < count; i++) {
+        uint32_t level = place_in(order, nodes[i].variable);
+        found[level]++;
+        EXPECT(nodes[i].low != nodes[i].high && nodes[i].low < i + 2 && nodes[i].high < i + 2);
+        EXPECT(i == 0 || level <= place_in(order, nodes[i - 1].variable));
+        EXPECT(nodes[i].low < 2 || place_in(order, nodes[nodes[i].low - 2].variable) > level);
+        EXPECT(nodes[i].high < 2 || place_in(order, nodes[nodes[i].high - 2].variable) > level);
+        for (uint32_t j = 0; j < i; j++)
+            EXPECT(memcmp(&nodes[i], &nodes[j], sizeof *nodes) != 0);
+    }
+    EXPECT(memcmp(found, levels, inputs * sizeof *levels) == 0);
+    for (uint32_t output = 0; output < outputs; output++)
+        for (uint32_t point = 0; point < 1u << inputs; point++)
+            EXPECT(value_at(nodes, roots[output], point) == (tables[output * each + point / 64] >> point % 64 & 1));
+}
+
+static void diagrams(void) {
+    const uint8_t rising[] = {0, 1, 2, 3, 4, 5, 6, 7}, falling[] = {7, 6, 5, 4, 3, 2, 1, 0}, mixed[] = {2, 0, 4, 1, 3};
+    for (uint32_t inputs = 1; inputs <= 8; inputs++) {
+        random_diagram(inputs, 3, rising);
+        random_diagram(inputs, 16, falling + 8 - inputs);
+    }
+    random_diagram(5, 3, mixed);
+
+    /* x0 x1, and the constants 1 and 0 */
+    uint64_t tables[] = {8, 15, 0};
+    minorder_node nodes[2];
+    uint32_t roots[3];
+    size_t count = 77;
+    EXPECT(minorder_diagram(tables, 3, 2, 3, rising, nodes, 2, roots, &count) == MINORDER_DONE && count == 2);
+    EXPECT(nodes[0].variable == 1 && nodes[0].low == 0 && nodes[0].high == 1);
+    EXPECT(nodes[1].variable == 0 && nodes[1].low == 0 && nodes[1].high == 2);
+    EXPECT(roots[0] == 3 && roots[1] == 1 && roots[2] == 0);
+    EXPECT(minorder_diagram(tables + 1, 2, 2, 2, rising, NULL, 0, roots, &count) == MINORDER_DONE && count == 0);
+
+    /* what is refused otherwise writes nothing */
+    count = 77;
+    roots[0] = 66;
+    EXPECT(minorder_diagram(tables, 3, 2, 3, falling, nodes, 2, roots, &count) == MINORDER_BAD_ORDER);
+    EXPECT(minorder_diagram(tables, 3, 17, 3, rising, nodes, 2, roots, &count) == MINORDER_BAD_SHAPE);
+    EXPECT(minorder_diagram(tables, 3, 2, 17, rising, nodes, 2, roots, &count) == MINORDER_BAD_SHAPE);
+    EXPECT(minorder_diagram(tables, 2, 2, 3, rising, nodes, 2, roots, &count) == MINORDER_BAD_SHAPE);
+    EXPECT(minorder_diagram_with_lengths(tables, 3, 2, 3, rising, 3, nodes, 2, roots, 3, &count) == MINORDER_BAD_SHAPE);
+    EXPECT(minorder_diagram_with_lengths(tables, 3, 2, 3, rising, 2, nodes, 2, roots, 2, &count) == MINORDER_BAD_SHAPE);
+    EXPECT(count == 77 && roots[0] == 66 && nodes[0].variable == 1);
+}
+
 static const char good[] = "bddorder-certificate 1\ninputs 1\noutputs 1\norder 0\nlevels 1\ntotal 1\ncells 1\n0000 0\nend\n";
 
 static uint32_t checked(const char *text, minorder_verdict *verdict) {
@@ -209,7 +290,7 @@ static void written_certificates(void) {
     length = 77;
     EXPECT(minorder_certify(&table, 1, 6, 1, circle, 2, text, sizeof text, &length) == MINORDER_BAD_PAIRS && length == 77);
     EXPECT(minorder_certify(&table, 1, 17, 1, NULL, 0, text, sizeof text, &length) == MINORDER_BAD_SHAPE && length == 77);
-    EXPECT(strcmp(minorder_status_text(MINORDER_SHORT_TEXT), "the certificate is longer than its place") == 0);
+    EXPECT(strcmp(minorder_status_text(MINORDER_SHORT_TEXT), "there is more to write than there is room for") == 0);
     EXPECT(strcmp(minorder_status_text(6), "no status of this library") == 0);
 }
 
@@ -288,6 +369,14 @@ static uint32_t above_call(void) {
     return minorder_exact_above(refused_tables, 3, 4, 3, pairs, 2, answered_order, answered_levels, &answered_total);
 }
 static uint32_t levels_call(void) { return minorder_levels_with_lengths(refused_tables, 3, 4, 3, given_order, 4, answered_levels, 4); }
+static uint32_t diagram_call(void) {
+    minorder_node nodes[32];
+    size_t count;
+    uint32_t roots[3] = {0};
+    uint32_t status = minorder_diagram(refused_tables, 3, 4, 3, given_order, nodes, 32, roots, &count);
+    EXPECT((status == MINORDER_DONE) == (roots[0] != 0));
+    return status;
+}
 static uint32_t sift_call(void) { return minorder_sift_with_lengths(refused_tables, 3, 4, 3, answered_order, 4, answered_levels, 4, &answered_total); }
 static uint32_t check_call(void) { return checked(good, &answered_verdict); }
 static uint32_t many_call(void) { return minorder_exact_many(refused_tables, 3, 4, 1, 3, many_orders, many_levels, many_totals); }
@@ -343,6 +432,7 @@ static void refusals(void) {
     refuse_each("minorder_exact", exact_call);
     refuse_each("minorder_exact_above", above_call);
     refuse_each("minorder_levels", levels_call);
+    refuse_each("minorder_diagram", diagram_call);
     refuse_each("minorder_sift", sift_call);
     refuse_each("minorder_check", check_call);
     refuse_each("minorder_certify", certify_call);
@@ -418,6 +508,7 @@ int main(int count, char **words) {
         return report((unsigned)atoi(words[1]), (unsigned)atoi(words[2]));
     worked_cases();
     many_problems();
+    diagrams();
     certificates();
     written_certificates();
     versions();

@@ -1,14 +1,16 @@
 //! The certificate of the first order of the fewest nodes.
 
-ghost use Rattle.std.specs.Prelude.{◌≡◌, ◌≢◌, ◌≤◌, ◌++◌, drop, length, string_bytes, IfOk, IfErr, OnOk};
+ghost use Rattle.std.specs.Prelude.{◌≡◌, ◌≢◌, string_bytes, IfOk, IfErr, OnOk};
 ghost use Rattle.definitions.specs.KeptPairs.{CanBeKept};
 ghost use Rattle.solutions.specs.Solutions.{IsSolution};
 ghost use Rattle.minorder_c.specs.Answers.{AreTables, given, pairs_given};
-ghost use Rattle.minorder_c.specs.Certified.{Holds, IsTextFor, IsCertificateText, IsCertifyStatus, IsShort};
+ghost use Rattle.minorder_c.specs.Certified.{IsTextFor, IsCertificateText, IsCertifyStatus};
+ghost use Rattle.minorder_c.specs.Rooms.{Holds, IsShort};
 ghost use Rattle.minorder_c.specs.Statuses.{RefusesPairs, TellsPairs, TellsShape};
 
 use crate::above::{AbovePair, kept_pairs};
 use crate::arguments::{GivenTables, tables_of};
+use crate::rooms::{SHORT_ROOM, put_front};
 use crate::sifting_from::bound_of;
 use crate::status::Refusal;
 use certificate::certificate_text;
@@ -17,9 +19,6 @@ use order_solve::{Solution, solve_alone};
 use small_search::{is_small, solve};
 use std::alloc::{AllocError, Global};
 use truth_table::Tables;
-
-/// The status of a certificate that is longer than its place.
-const SHORT_TEXT: u32 = 7;
 
 /// The first order of the fewest nodes among those that keep the pairs, and the cells of its
 /// certificate; where the truth tables are not small, searched below the size of a sifted order.
@@ -67,15 +66,6 @@ fn certificate(alloc: Global, given: &GivenTables, above: &[AbovePair]) -> Resul
     Ok(text)
 }
 
-/// Puts bytes at the front of a place.
-fn put_front(place: &mut [u8], bytes: &[u8])
-    requires { length bytes.now ≤ length place.old }
-    ensures { place.new ≡ bytes.now ++ drop (length bytes.now) place.old }
-{
-    let (front, _) = place.split_at_mut(bytes.len());
-    front.copy_from_slice(bytes);
-}
-
 /// Writes the certificate of the first order of the fewest nodes among those that keep some pairs,
 /// the text that `minorder --cert` writes, and its length. If it is longer than its place only the
 /// length is written; a call that is refused otherwise writes nothing.
@@ -109,7 +99,7 @@ pub extern "C" fn minorder_certify_with_pairs(
             let bytes = made.as_bytes();
             *size = bytes.len();
             if text.len() < bytes.len() {
-                return SHORT_TEXT;
+                return SHORT_ROOM;
             }
             put_front(text, bytes);
             0

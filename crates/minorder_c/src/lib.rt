@@ -1,14 +1,16 @@
-//! The order of the fewest nodes, its certificate, level counts, sifting and the checker of
-//! certificates, for callers in C. include/minorder.h declares them.
+//! The order of the fewest nodes, its certificate, level counts, diagrams, sifting and the checker
+//! of certificates, for callers in C. include/minorder.h declares them.
 #![tactic(auto)]
 
 mod above;
 mod arguments;
 mod certifying;
+mod diagrams;
 mod exact;
 mod judging;
 mod levels;
 mod many;
+mod rooms;
 mod sift;
 mod sifting_from;
 mod stated;

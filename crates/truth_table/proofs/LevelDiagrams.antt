@@ -10,7 +10,7 @@ use Rattle.definitions.specs.declared.refs.Ref.TheVariants.{Terminal, Place}
 use Rattle.definitions.specs.declared.refs.Node.{Node}
 use Rattle.definitions.specs.Functions.{Point, Function, bit, restrict, SameFunction, from_table}
 use Rattle.definitions.specs.Orders.{has, IsOrder, place_in}
-use Rattle.definitions.specs.Levels.{subfunctions, reach}
+use Rattle.definitions.specs.Levels.{reach}
 use Rattle.definitions.specs.Diagrams.{Graph, IsBefore, IsOrdered, IsOf, IsReduced, Reached, Represents, value}
 use Rattle.definitions.specs.Diagrams.Reached.{from_root, from_parent}
 use Rattle.definitions.proofs.Lists.Orders.{has_at, place_get}
@@ -27,7 +27,7 @@ use Rattle.std.proofs.Math.Nat.{mul-le-mul_right}
 use Rattle.definitions.specs.OrderedGraphs.{OrderedGraph}
 use Rattle.definitions.proofs.Nodes.Reduced.{reduced_levels}
 use Rattle.definitions.proofs.Widths.BoundsAbove.{reach_nothing}
-use Rattle.truth_table.specs.Reduced.{IsDiagramOf}
+use Rattle.truth_table.specs.Reduced.{IsByLevel, IsDiagramOf}
 use Rattle.truth_table.proofs.LevelSteps.{reach_last, length-reach, few_blocks}
 use Rattle.truth_table.specs.Levels.{ref_named, node_over, IsNumberOf, IsNumbered, IsLevelAbove}
 use Rattle.truth_table.proofs.Lists.{map_get, get_map, zip_at, zip_from, same_key}
@@ -49,6 +49,7 @@ pub record Leveled (n : ℕ) (fs : List Function) (order : List ℕ) (level : �
   pub represents : Represents n fs order (graph_with nodes numbers)
   pub reduced : IsReduced (graph_with nodes numbers)
   pub deep : (k : ℕ) (node : Node) → slice_get nodes k ≡ Some node → level ≤ place_in order node.variable
+  pub by_level : IsByLevel order nodes
 
 -- ---- with all variables fixed
 
@@ -78,7 +79,7 @@ leaf_roots n (f ∷ fs) (c ∷ cs) z zero d h = leaf_before c z.0.1
 leaf_roots n (f ∷ fs) (c ∷ cs) z (suc k) d h = leaf_roots n fs cs z.1 k d (omega arith)
 
 leveled_at_leaves : (n : ℕ) (fs : List Function) (order : List ℕ) (level : ℕ) (cs : List ℕ) → AllZip (IsLeaf n) fs cs → Leveled n fs order level [] cs
-unfolding IsOrdered IsOf
+unfolding IsOrdered IsOf IsByLevel
 leveled_at_leaves n fs order level cs z = grind (arith, leaf_roots, leaf_values)
 
 -- ---- one level up
@@ -354,9 +355,25 @@ module _ (n : ℕ) (fs : List Function) (order : List ℕ) (level x : ℕ) (o : 
         | inr past ↦ absurd (omega (arith, past.0, length_both))
       ]
 
+  both_by_level : IsByLevel order both
+  unfolding IsByLevel variable_of
+  both_by_level j k lower upper h ej ek = elim (cases k upper ek) [
+    | inl a ↦ elim (cases j lower ej) [
+      | inl b ↦ rest.by_level j k lower upper h b a
+      | inr b ↦ absurd (omega (arith, slice_get_within old k upper a, b.1))
+    ]
+    | inr a ↦ elim (cases j lower ej) [
+      | inl b ↦ omega (arith, rest.deep j lower b, at_this upper a.0 a.2)
+      | inr b ↦ omega (arith, at_this lower b.0 b.2, at_this upper a.0 a.2)
+    ]
+  ]
+    where
+      at_this : (node : Node) (i : ℕ) → Stands i node → place_in order node.variable ≡ level
+      at_this node i s = ap (λ z. place_in order (variable_of z)) s.node_is ∙ place_x
+
   pub leveled_up : Leveled n fs order level new above
   unfolding both more variable_of
-  leveled_up = grind (arith, both_represents, both_reduced, cases, variable_of, place_x)
+  leveled_up = grind (arith, both_represents, both_reduced, both_by_level, cases, variable_of, place_x)
 
   -- nodes and refs together become no more
   pub few_up : length new + length above ≤ length old + length below

@@ -1,9 +1,13 @@
 -- The reduced diagram of some functions under an order.
 --     HasLevelCounts n F order d      a diagram has the level counts of the functions
 --     IsDiagramOf n F order d      the reduced diagram of some functions under an order
-use Rattle.std.specs.Prelude.{◌≡◌, ℕ, ◌<◌, List, length, slice_index}
+--     IsByLevel order nodes      the nodes stand level by level, from the bottom level up
+use Rattle.std.specs.Prelude.{◌≡◌, ℕ, ◌<◌, ◌≤◌, List, length, slice_get, slice_index}
+use Rattle.std.specs.declared.option.Option.TheVariants.{Some}
+use Rattle.definitions.specs.declared.refs.Node.{Node}
 use Rattle.definitions.specs.Functions.{Function}
 use Rattle.definitions.specs.Levels.{level_count}
+use Rattle.definitions.specs.Orders.{place_in}
 use Rattle.definitions.specs.Diagrams.{Graph, Represents, IsReduced, nodes_at}
 use Rattle.definitions.specs.OrderedGraphs.{OrderedGraph}
 
@@ -17,3 +21,8 @@ pub record IsDiagramOf (n : ℕ) (F : List Function) (given : List ℕ) (d : Ord
   pub diagram : Represents n F given d.graph
   pub reduced : IsReduced d.graph
   pub levels : HasLevelCounts n F given d.graph
+
+-- the nodes stand level by level, from the bottom level up
+unfoldable pub IsByLevel : List ℕ → List Node → Type 0
+IsByLevel order nodes = (j k : ℕ) (lower upper : Node) → j ≤ k → slice_get nodes j ≡ Some lower → slice_get nodes k ≡ Some upper →
+    place_in order upper.variable ≤ place_in order lower.variable

@@ -1,8 +1,8 @@
 //! Reduced diagrams of truth tables, made level by level from the bottom, without a store.
 
-ghost use Rattle.std.specs.Prelude.{◌≡◌, length, map, IfOk};
+ghost use Rattle.std.specs.Prelude.{◌≡◌, ◌≤◌, ◌^◌, length, map, IfOk};
 ghost use Rattle.definitions.specs.Problems.{functions};
-ghost use Rattle.truth_table.specs.Reduced.{IsDiagramOf};
+ghost use Rattle.truth_table.specs.Reduced.{IsByLevel, IsDiagramOf};
 ghost use Rattle.truth_table.specs.Levels.{ref_named};
 
 use crate::levels::{level_above, ref_of};
@@ -26,7 +26,10 @@ fn refs_of(alloc: Global, numbers: &[u32]) -> Result<Vec<Ref>, AllocError>
 /// output and point.
 pub fn reduced_diagram(alloc: Global, tables: &Tables, order: &Order) -> Result<Diagram, AllocError>
     requires { length order.now ≡ tables.now.inputs }
-    ensures { IfOk result (IsDiagramOf tables.now.inputs (functions tables.now) order.now) }
+    ensures diagram { IfOk result
+        (IsDiagramOf tables.now.inputs (functions tables.now) order.now) }
+    ensures by_level { IfOk result (λ d. IsByLevel order.now d.graph.nodes) }
+    ensures few { IfOk result (λ d. length d.graph.nodes ≤ 2 ^ 20) }
 {
     prove!(tables.problem().outputs() <= 16);
     let n = order.len();

@@ -19,6 +19,6 @@ returns-then-is_small g c =
     let cover = c.args.instance.now.cover.now in
     let t = c.args.instance.now.tables.now in
     ok_same (IsDiagramOf t.inputs (functions t) c.args.order.now) (IsDiagramOf cover.inputs (functions_of cover) c.args.order.now)
-    c.reduced_diagram.result c.reduced_diagram.ensures (λ d h.
+    c.reduced_diagram.result c.reduced_diagram.ensures.diagram (λ d h.
     tables_diagram c.some_diagram_has_the_level_counts.ensures.reduced c.truth_tables_keep_functions.ensures.same cover t c.args.order.now d
     c.args.instance.now.are_its_tables c.requires.order h)

@@ -4,6 +4,7 @@ use Rattle.definitions.specs.Levels.{reach}
 use Rattle.definitions.specs.Orders.{IsOrder}
 use Rattle.definitions.specs.Problems.{functions, outputs_of}
 use Rattle.truth_table.specs.Levels.{IsLevelAbove, ref_named}
+use Rattle.truth_table.specs.Reduced.{IsByLevel}
 use Rattle.truth_table.proofs.LevelDiagrams.{Leveled, few_leaves, leveled_leaves, leveled_step, leveled_top}
 use Rattle.truth_table.proofs.diagrams.reduced_diagram.Goals as goal
 
@@ -36,11 +37,15 @@ loop-level-preserved c =
     let few = c.loop-level.invariant.few in
     record { leveled = step.0; few = omega arith }
 
-pub returns : goal.returns
-returns c =
+pub returns-clause-diagram : goal.returns-clause-diagram
+returns-clause-diagram c =
     let t = c.args.tables.now in
     let order = c.args.order.now in
     let o : IsOrder t.inputs order = subst (λ (m : ℕ). IsOrder m order) c.requires c.variables-levels.ensures.order in
     leveled_top t.inputs (functions t) order c.loop-level.level c.loop-level.nodes.items c.loop-level.numbers.items o (omega arith)
     c.loop-level.invariant.leveled c.new.result (c.new.ensures.order ∙ c.in_ok-try_clone.ensures) c.new.ensures.nodes
     (c.new.ensures.roots ∙ c.in_ok-roots.ensures ∙ ap (map ref_named) c.deref-2.ensures.value)
+
+pub returns-clause-by_level : goal.returns-clause-by_level
+returns-clause-by_level c =
+    subst (λ (ns : List Node). IsByLevel c.args.order.now ns) (sym c.new.ensures.nodes) c.loop-level.invariant.leveled.by_level
