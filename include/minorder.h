@@ -36,7 +36,8 @@ extern "C" {
 /* The version of the library that is called: 10000 for 1.0.0, 10203 for 1.2.3. */
 uint32_t minorder_version(void);
 
-/* How a call ends. Where it isn't MINORDER_DONE the call has written nothing, but for how much there is at MINORDER_SHORT_TEXT. */
+/* How a call ends. Where it isn't MINORDER_DONE the call has written nothing, but for how much there is at MINORDER_SHORT_TEXT, and
+   the fault at MINORDER_BAD_PLA. */
 enum {
     MINORDER_DONE = 0,
     /* inputs or outputs isn't 1 to 16, or a length isn't what these ask for */
@@ -49,7 +50,9 @@ enum {
     /* there is more to write than there is room for */
     MINORDER_SHORT_TEXT = 7,
     /* a pair has another variable, or the pairs lead from a variable back to itself */
-    MINORDER_BAD_PAIRS = 8
+    MINORDER_BAD_PAIRS = 8,
+    /* the text is no PLA file */
+    MINORDER_BAD_PLA = 9
 };
 
 /* The words of a status. */
@@ -62,6 +65,7 @@ MINORDER_INLINE const char *minorder_status_text(uint32_t status) {
     case MINORDER_BAD_ORDER: return "the order hasn't each variable once";
     case MINORDER_SHORT_TEXT: return "there is more to write than there is room for";
     case MINORDER_BAD_PAIRS: return "a pair has another variable, or the pairs lead from a variable back to itself";
+    case MINORDER_BAD_PLA: return "the text is no PLA file";
     default: return "no status of this library";
     }
 }
@@ -216,6 +220,51 @@ MINORDER_INLINE uint32_t minorder_check_total(const uint64_t *tables, size_t wor
     minorder_pair no_pair = {0, 0};
     return minorder_check_total_with_pairs(tables, words, inputs, outputs, certificate, length, verdict, total,
                                            room == 0 ? &no_pair : pairs, room, count);
+}
+
+/* A name, as a part of a text: the place of its first byte, and how many bytes it has; 0 and 0 where there is no name. */
+typedef struct {
+    size_t start, length;
+} minorder_name;
+
+/* What a PLA file says besides its truth tables. The first `inputs` and `outputs` names count. */
+typedef struct {
+    uint32_t inputs, outputs;
+    minorder_name input_names[16], output_names[16];
+} minorder_pla;
+
+/* What is wrong with a PLA file: its first faulty line, counted from 1, and how. */
+typedef struct {
+    size_t line;
+    uint32_t kind; /* 1 to 15, in the order of minorder_fault_text */
+} minorder_fault;
+
+/* The words of a fault's kind, as minorder prints it. Above 16,777,216 bytes it is TooLong, and the line is 0. */
+MINORDER_INLINE const char *minorder_fault_text(uint32_t kind) {
+    static const char *const words[] = {
+        "MissingHead", "RepeatedHead", "InputCount", "OutputCount", "BadNumber", "NameCount", "BadName", "UnknownDirective",
+        "UnsupportedType", "DontCare", "BadInputChar", "BadOutputChar", "ShortTerm", "LongTerm", "TooLong"};
+    return 1 <= kind && kind <= 15 ? words[kind - 1] : "no fault of this library";
+}
+
+/* As many words as the truth tables of a PLA file take at most. */
+enum { MINORDER_MOST_WORDS = 16384 };
+
+uint32_t minorder_read_pla_with_lengths(const uint8_t *text, size_t length, uint32_t *inputs, uint32_t *outputs,
+                                        minorder_name *input_names, size_t input_places,
+                                        minorder_name *output_names, size_t output_places,
+                                        uint64_t *tables, size_t room, minorder_fault *fault);
+
+/* Reads the text of a PLA file of so many bytes, as minorder does: writes its numbers of inputs and outputs, its names as parts of
+   the text, and the truth tables of its functions, `outputs` times minorder_words(inputs) words of the `room` in `tables`. If there
+   is less room, all but the tables is written and the call returns MINORDER_SHORT_TEXT. Of a text that is no PLA file only the first
+   fault is written, and the call returns MINORDER_BAD_PLA. Without bytes `text` may be null, and without room `tables`. */
+MINORDER_INLINE uint32_t minorder_read_pla(const char *text, size_t length, minorder_pla *pla, uint64_t *tables, size_t room,
+                                           minorder_fault *fault) {
+    const uint8_t no_text = 0;
+    uint64_t no_table = 0;
+    return minorder_read_pla_with_lengths(length == 0 ? &no_text : (const uint8_t *)text, length, &pla->inputs, &pla->outputs,
+                                          pla->input_names, 16, pla->output_names, 16, room == 0 ? &no_table : tables, room, fault);
 }
 
 #ifdef __cplusplus

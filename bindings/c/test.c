@@ -294,6 +294,73 @@ static void written_certificates(void) {
     EXPECT(strcmp(minorder_status_text(6), "no status of this library") == 0);
 }
 
+/* ---- PLA files */
+
+static uint32_t read_text(const char *text, minorder_pla *pla, uint64_t *tables, size_t room, minorder_fault *fault) {
+    return minorder_read_pla(text, strlen(text), pla, tables, room, fault);
+}
+
+static int is_name(const char *text, minorder_name name, const char *wanted) {
+    return name.length == strlen(wanted) && memcmp(text + name.start, wanted, name.length) == 0;
+}
+
+static int is_fault(const char *text, size_t line, const char *kind) {
+    minorder_pla pla = {77, 77, {{0, 0}}, {{0, 0}}};
+    minorder_fault fault = {99, 99};
+    uint64_t table = 55;
+    uint32_t status = read_text(text, &pla, &table, 1, &fault);
+    return status == MINORDER_BAD_PLA && fault.line == line && strcmp(minorder_fault_text(fault.kind), kind) == 0 && pla.inputs == 77 && table == 55;
+}
+
+static void pla_files(void) {
+    const char *named = "# a file\n.i 2\r\n.o 2\n.ob sum\tcarry # the outputs\n.ilb  a b\n11 01\n01|1~\n10 1 0\n.e\n.i 3\n";
+    minorder_pla pla;
+    minorder_fault fault = {99, 99};
+    uint64_t tables[3] = {55, 55, 55};
+    memset(&pla, 66, sizeof pla);
+    EXPECT(read_text(named, &pla, tables, 3, &fault) == MINORDER_DONE);
+    EXPECT(pla.inputs == 2 && pla.outputs == 2 && tables[0] == 6 && tables[1] == 8 && tables[2] == 55);
+    EXPECT(is_name(named, pla.input_names[0], "a") && is_name(named, pla.input_names[1], "b"));
+    EXPECT(is_name(named, pla.output_names[0], "sum") && is_name(named, pla.output_names[1], "carry"));
+    for (int i = 2; i < 16; i++)
+        EXPECT(pla.input_names[i].start == 0 && pla.input_names[i].length == 0 && pla.output_names[i].length == 0);
+
+    /* less room than is needed: all but the tables */
+    memset(&pla, 66, sizeof pla);
+    tables[0] = 55;
+    EXPECT(read_text(named, &pla, tables, 1, &fault) == MINORDER_SHORT_TEXT && tables[0] == 55);
+    EXPECT(pla.inputs == 2 && pla.outputs == 2 && is_name(named, pla.output_names[1], "carry"));
+    EXPECT(read_text(named, &pla, NULL, 0, &fault) == MINORDER_SHORT_TEXT && fault.line == 99);
+
+    /* no names */
+    EXPECT(read_text(".i 1\n.o 1\n", &pla, tables, 1, &fault) == MINORDER_DONE && tables[0] == 0);
+    EXPECT(pla.input_names[0].length == 0 && pla.output_names[0].length == 0);
+
+    EXPECT(minorder_read_pla(NULL, 0, &pla, tables, 1, &fault) == MINORDER_BAD_PLA && fault.line == 0 && fault.kind == 1);
+    EXPECT(is_fault(".i 1\n11\n", 2, "MissingHead") && is_fault(".i 1\n.i 1\n", 2, "RepeatedHead"));
+    EXPECT(is_fault(".i 17\n", 1, "InputCount") && is_fault("\n.o 0\n", 2, "OutputCount") && is_fault(".i a\n", 1, "BadNumber"));
+    EXPECT(is_fault(".i 1\n.ilb a b\n", 2, "NameCount") && is_fault(".i 1\n.ilb \177\n", 2, "BadName"));
+    EXPECT(is_fault(".x\n", 1, "UnknownDirective") && is_fault(".type fr\n", 1, "UnsupportedType"));
+    EXPECT(is_fault(".i 1\n.o 1\n1-\n", 3, "DontCare") && is_fault(".i 1\n.o 1\nx1\n", 3, "BadInputChar"));
+    EXPECT(is_fault(".i 1\n.o 1\n1x\n", 3, "BadOutputChar") && is_fault(".i 1\n.o 1\n1\n", 3, "ShortTerm"));
+    EXPECT(is_fault(".i 1\n.o 1\n111\n", 3, "LongTerm"));
+    enum { LIMIT = 16777216 };
+    char *long_text = malloc(LIMIT + 1);
+    memset(long_text, '\n', LIMIT + 1);
+    memcpy(long_text, ".i 1\n.o 1\n", 10);
+    EXPECT(minorder_read_pla(long_text, LIMIT, &pla, tables, 1, &fault) == MINORDER_DONE);
+    EXPECT(minorder_read_pla(long_text, LIMIT + 1, &pla, tables, 1, &fault) == MINORDER_BAD_PLA);
+    EXPECT(fault.line == 0 && strcmp(minorder_fault_text(fault.kind), "TooLong") == 0);
+    free(long_text);
+
+    minorder_name names[16], other_names[16];
+    uint32_t inputs = 77, outputs = 77;
+    EXPECT(minorder_read_pla_with_lengths((const uint8_t *)named, 1, &inputs, &outputs, names, 15, other_names, 16, tables, 1, &fault) == MINORDER_BAD_SHAPE);
+    EXPECT(inputs == 77 && outputs == 77);
+    EXPECT(strcmp(minorder_fault_text(0), "no fault of this library") == 0 && strcmp(minorder_fault_text(16), "no fault of this library") == 0);
+    EXPECT(strcmp(minorder_status_text(MINORDER_BAD_PLA), "the text is no PLA file") == 0);
+}
+
 /* the library that is called is of the header's version */
 static void versions(void) {
     uint32_t number = minorder_version();
@@ -392,6 +459,15 @@ static uint32_t certify_call(void) {
     return minorder_certify(refused_tables, 3, 4, 3, NULL, 0, text, sizeof text, &length);
 }
 
+static uint32_t read_call(void) {
+    minorder_pla pla = {0, 0, {{0, 0}}, {{0, 0}}};
+    minorder_fault fault = {99, 99};
+    uint64_t table = 0;
+    uint32_t status = read_text(".i 2\n.o 1\n.ilb a b\n.ob f\n11 1\n00 1\n", &pla, &table, 1, &fault);
+    EXPECT(fault.line == 99 && (status == MINORDER_DONE) == (table == 9) && (status == MINORDER_DONE) == (pla.inputs == 2));
+    return status;
+}
+
 static void clear_answers(void) {
     memcpy(answered_order, given_order, sizeof given_order);
     memset(answered_levels, 0, sizeof answered_levels);
@@ -438,6 +514,7 @@ static void refusals(void) {
     refuse_each("minorder_certify", certify_call);
     refuse_each("minorder_exact_many", many_call);
     refuse_each("minorder_check_total", check_total_call);
+    refuse_each("minorder_read_pla", read_call);
 }
 
 /* ---- several threads, each with its own data */
@@ -511,6 +588,7 @@ int main(int count, char **words) {
     diagrams();
     certificates();
     written_certificates();
+    pla_files();
     versions();
     no_pairs();
     bad_arguments();

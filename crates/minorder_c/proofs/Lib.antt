@@ -1,4 +1,5 @@
 mod Counts
+mod NamePlaces
 mod Parts
 mod Places
 mod Refusals

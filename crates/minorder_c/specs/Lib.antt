@@ -3,6 +3,7 @@ pub mod Statuses
 pub mod Judged
 pub mod Rooms
 pub mod Diagrams
+pub mod Read
 pub mod Certified
 pub mod Many
 pub mod Stated

@@ -10,6 +10,7 @@ mod exact;
 mod judging;
 mod levels;
 mod many;
+mod reading;
 mod rooms;
 mod sift;
 mod sifting_from;

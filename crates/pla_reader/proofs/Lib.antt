@@ -7,3 +7,4 @@ pub mod RowLemmas
 pub mod LineLemmas
 pub mod ReadLemmas
 pub mod WellFormed
+pub mod PlaceLemmas

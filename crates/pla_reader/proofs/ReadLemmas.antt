@@ -78,11 +78,11 @@ description_open (b ∷ before) rest all = by (goes_on b) refl (description_open
   by true e more = rw e (rw (one_more (prefix_len goes_on (before ++ rest))) (ap (λ ls. b ∷ ls) (more (rw e at all))))
   by false e more = absurd cc
 
-description_cons : (line : Line) (rest : List Line) → is_end line ≡ false → description (line ∷ rest) ≡ line ∷ description rest
+pub description_cons : (line : Line) (rest : List Line) → is_end line ≡ false → description (line ∷ rest) ≡ line ∷ description rest
 unfolding description
 description_cons line rest e = rw e (rw (one_more (prefix_len goes_on rest)) refl)
 
-description_end : (rest : List Line) → description (End ∷ rest) ≡ []
+pub description_end : (rest : List Line) → description (End ∷ rest) ≡ []
 unfolding description
 description_end rest = refl
 
@@ -154,7 +154,7 @@ pub ends_at_end : (lines rest : List Line) (number : ℕ) (s : State) (line : Li
     line ≡ End → Ends lines (number + 1) s
 ends_at_end lines rest number s line here is = grind (arith, length-append, description_open, description_end, append-nil)
 
-description_none : description [] ≡ []
+pub description_none : description [] ≡ []
 unfolding description
 description_none = refl
 

@@ -1,7 +1,8 @@
 -- How lines and words begin.
-use Rattle.std.proofs.Common.{◌≡◌, ℕ, ◌+◌, ◌<◌, suc, get_or, refl, sym, ◌∙◌, ap, Bool, true, false, ◌==◌, List, [], ◌∷◌, length, take, drop, ◌-◌, Option, Some, None, unwrap_or, arith}
+use Rattle.std.proofs.Common.{◌≡◌, ℕ, ◌+◌, ◌<◌, suc, get_or, refl, sym, ◌∙◌, ap, Bool, true, false, ◌==◌, List, [], ◌∷◌, ◌++◌, length, take, drop, append_assoc, ◌-◌, Option, Some, None, unwrap_or, arith}
 use Rattle.std.specs.List.{slice_index_or, position_or_len, onto_first, slice_split, filter}
 use Rattle.std.proofs.lemmas.Bool.{false_from_ne_true}
+use Rattle.std.proofs.lemmas.List.{take-append-drop}
 use Rattle.std.proofs.lemmas.List.Sums.{position_or_len_is}
 use Rattle.memchr.specs.Find.{IsFirstByte}
 use Rattle.pla_reader.specs.Text.{is_filled, lines_of, is_blank, words}
@@ -100,3 +101,23 @@ len_before_first p q same xs None h =
     sym (position_or_len_is p xs (length xs) 0 (omega arith)
     (λ k lt. false_from_ne_true (p (get_or xs k 0)) (λ t. h k (omega arith) lt (same (get_or xs k 0) ∙ t))) (λ lt. absurd (omega arith)))
 len_before_first p q same xs (Some i) h = grind (arith, position_or_len_is, false_from_ne_true)
+
+-- a text ends with another
+abbrev pub EndsIn : List ℕ → List ℕ → Type 0
+EndsIn text tail = (front : List ℕ) × (text ≡ front ++ tail)
+
+-- the parts of a text whose rest has a first byte
+pub first_apart : (text front rest : List ℕ) → text ≡ front ++ rest → text ≡ front ++ take 1 rest ++ take (length rest - 1) (drop 1 rest)
+first_apart text front rest e =
+    e ∙ ap (λ (xs : List ℕ). front ++ xs) (sym (take-append-drop 1 rest)) ∙ sym (append_assoc front (take 1 rest) (drop 1 rest))
+    ∙ ap (λ (xs : List ℕ). front ++ take 1 rest ++ xs) (sym (behind_first rest))
+
+-- those of a text that is split at a place
+pub split_parts : (text front back : List ℕ) (n : ℕ) → front ≡ take n text → back ≡ drop n text → text ≡ front ++ back
+split_parts text front back n f b = sym (take-append-drop n text) ∙ (λ i. sym f i ++ sym b i)
+
+-- those of a text whose rest is split at a place
+pub rest_parts : (text gone rest front back : List ℕ) (n : ℕ) → text ≡ gone ++ rest → front ≡ take n rest → back ≡ drop n rest →
+    text ≡ gone ++ front ++ back
+rest_parts text gone rest front back n e f b =
+    e ∙ ap (λ (xs : List ℕ). gone ++ xs) (split_parts rest front back n f b) ∙ sym (append_assoc gone front back)

@@ -8,3 +8,4 @@ pub mod Views
 pub mod Statements
 pub mod Progress
 pub mod Answering
+pub mod Places

@@ -6,6 +6,7 @@ mod errors;
 pub mod laws;
 mod lines;
 mod names;
+mod places;
 mod progress;
 mod reader;
 mod statements;
@@ -13,4 +14,5 @@ mod terms;
 
 pub use cover::Cover;
 pub use errors::{LineFault, PlaError};
-pub use reader::read_cover;
+pub use places::{Names, TextPlace, name_places};
+pub use reader::{MOST_BYTES, read_bytes, read_cover};

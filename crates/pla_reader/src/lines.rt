@@ -1,6 +1,6 @@
 //! Lines and their words.
 
-ghost use Rattle.std.specs.Prelude.{◌≡◌, ◌<◌, ◌≤◌, ◌==◌, ◌||◌, ◌∷◌, [], length, IfSome, IfNone, Some, None};
+ghost use Rattle.std.specs.Prelude.{◌≡◌, ◌<◌, ◌≤◌, ◌==◌, ◌||◌, ◌∷◌, ◌++◌, [], List, ℕ, length, IfSome, IfNone, Some, None};
 ghost use Rattle.std.specs.List.{position_or_len, list_all};
 ghost use Rattle.pla_reader.specs.Text.{lines_of, is_blank, bar, words, content as content_of, only_word as one_word, is_name};
 
@@ -42,6 +42,7 @@ pub(crate) fn first_line(text: &[u8]) -> (&[u8], &[u8])
     requires { 0 < length text.now }
     ensures line { lines_of text.now ≡ result.0.now ∷ lines_of result.1.now }
     ensures shorter { length result.1.now < length text.now }
+    ensures parts { (feed : List ℕ) × (text.now ≡ result.0.now ++ feed ++ result.1.now) }
 {
     let (line, rest) = text.split_at(len_until(text, b'\n'));
     match rest {
@@ -52,7 +53,8 @@ pub(crate) fn first_line(text: &[u8]) -> (&[u8], &[u8])
 
 /// A line up to its comment.
 pub(crate) fn content(line: &[u8]) -> &[u8]
-    ensures { result.now ≡ content_of line.now }
+    ensures value { result.now ≡ content_of line.now }
+    ensures front { (comment : List ℕ) × (line.now ≡ result.now ++ comment) }
 {
     let (front, _) = line.split_at(len_until(line, b'#'));
     front
@@ -64,6 +66,8 @@ pub(crate) fn next_word(text: &[u8]) -> Option<(&[u8], &[u8])>
     ensures none { IfNone result (words text.now ≡ []) }
     ensures some { IfSome result (λ found. words text.now ≡ found.0.now ∷ words found.1.now) }
     ensures shorter { IfSome result (λ found. length found.1.now < length text.now) }
+    ensures parts { IfSome result
+        (λ found. (blanks : List ℕ) × (text.now ≡ blanks ++ found.0.now ++ found.1.now)) }
 {
     let mut rest = text;
     while let [b, more @ ..] = rest {

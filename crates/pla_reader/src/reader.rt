@@ -13,8 +13,11 @@ use crate::statements::statement_of;
 use counted_io::{CountedRead, Refused, read_all};
 use std::alloc::Global;
 
+/// The most bytes that an input may have.
+pub const MOST_BYTES: usize = 16_777_216;
+
 /// The cover of the bytes of an input, or its first fault.
-fn read_bytes(alloc: Global, bytes: &[u8]) -> Result<Cover, PlaError>
+pub fn read_bytes(alloc: Global, bytes: &[u8]) -> Result<Cover, PlaError>
     ensures { Answers bytes.now result }
 {
     let mut progress = Progress::new(alloc);
@@ -46,7 +49,7 @@ pub fn read_cover<R: CountedRead>(alloc: Global, reader: &mut R) -> Result<Cover
     ensures end { OnOk result (IsAtEnd (R.remaining reader.new)) }
     ensures calls { R.failures reader.new ≡ failed_after result (R.failures reader.old) }
 {
-    match read_all(alloc, reader, 16_777_216) {
+    match read_all(alloc, reader, MOST_BYTES) {
         Ok(bytes) => read_bytes(alloc, &bytes),
         Err(Refused::TooLong) => Err(PlaError::TooLong),
         Err(Refused::Device) => Err(PlaError::Device),

@@ -4,13 +4,15 @@ ghost use Rattle.std.specs.Prelude.{◌≡◌, ◌+◌, ◌*◌, ◌^◌, ◌<�
 ghost use Rattle.std.specs.Int.{bit_at};
 ghost use Rattle.std.specs.List.{All};
 ghost use Rattle.definitions.specs.Functions.{table};
-ghost use Rattle.definitions.specs.Problems.{IsPacked, tables_of};
+ghost use Rattle.definitions.specs.Problems.{IsPacked, packed_tables, tables_of};
 ghost use Rattle.definitions.specs.Products.{product_functions, product_of};
 ghost use Rattle.pla_reader.specs.Masks.{Fits};
+ghost use Rattle.truth_table.specs.OfCovers.{AreTablesOf};
 ghost use Rattle.truth_table.specs.Terms.{AddsTerm, AreGroupWords, literal_at, literals_at};
 
 use order_model::packed::{lower_half, words_per_table};
 use order_model::{Term, VarIx, contains};
+use pla_reader::Cover;
 use rayon::prelude::*;
 use std::alloc::{AllocError, Global};
 use std::thread::Threads;
@@ -175,5 +177,42 @@ pub(crate) fn packed_words<R: Threads + Sync>(
         )
         .collect(rt, alloc)?;
     let words = lay_out(alloc, m, size, points_mask(n), &groups)?;
+    Ok(words)
+}
+
+/// The words of so many groups, made by the calling thread.
+fn groups_alone(
+    alloc: Global,
+    terms: &[Term],
+    count: usize,
+) -> Result<Vec<[[u64; 16]; 32]>, AllocError>
+    requires { count ≤ 32 }
+    ensures long { IfOk result (λ v. length v.items ≡ count) }
+    ensures words { IfOk result (λ v. (group : ℕ) → group < count →
+        AreGroupWords terms.now group (get_or v.items group [])) }
+{
+    let mut groups = Vec::with_capacity(alloc, count)?;
+    for group in 0..count {
+        groups.push(group_words(terms, group))?;
+    }
+    Ok(groups)
+}
+
+/// The packed truth tables of a cover's outputs, one table after the other, made by the calling
+/// thread.
+pub fn cover_words(alloc: Global, cover: &Cover) -> Result<Vec<u64>, AllocError>
+    ensures packed { IfOk result (λ v. IsPacked cover.now.inputs cover.now.outputs v.items) }
+    ensures tables { IfOk result (λ v. AreTablesOf cover.now
+        (packed_tables cover.now.inputs cover.now.outputs v.items)) }
+{
+    let size = words_per_table(cover.inputs());
+    let groups = groups_alone(alloc, cover.terms(), (size + 31) / 32)?;
+    let words = lay_out(
+        alloc,
+        cover.outputs(),
+        size,
+        points_mask(cover.inputs()),
+        &groups,
+    )?;
     Ok(words)
 }

@@ -10,6 +10,7 @@ mod merging;
 mod row;
 mod tables;
 
+pub use covering::cover_words;
 pub use diagrams::reduced_diagram;
 pub use row::Row;
 pub use tables::Tables;

@@ -1,0 +1,16 @@
+use Rattle.pla_reader.proofs.PlaceLemmas.{next_place, tail_of}
+use Rattle.pla_reader.proofs.places.word_places.Goals as goal
+
+pub loop-word-preserved : goal.loop-word-preserved
+loop-word-preserved c =
+    let h = c.loop-word.invariant in
+    let text = c.args.text.now in
+    let rest = c.loop-word.rest.now in
+    let word = c.in-Some.word.now in
+    let after = c.in-Some.after.now in
+    let parts = c.in-Some.ensures.parts in
+    record {
+      places = next_place c.args.start text rest word after h.tail.0 parts.0 c.loop-word.places.items c.push.new.self.items h.places h.tail.1 parts.1
+          c.in-Some.ensures.some c.in_ok-push.ensures.items;
+      tail = tail_of text rest word after h.tail.0 parts.0 h.tail.1 parts.1;
+    }

@@ -1,0 +1,87 @@
+//! Where names stand in the bytes of an input.
+
+ghost use Rattle.std.specs.Prelude.{◌≡◌, ◌+◌, ◌++◌, ◌<◌, ◌^◌, List, ℕ, length, map, is_some, IfOk};
+ghost use Rattle.pla_reader.specs.declared.places.Names.{Names};
+ghost use Rattle.pla_reader.specs.Lines.{line_said};
+ghost use Rattle.pla_reader.specs.Places.{AreNamesAt, Gives, bytes_at, naming_by};
+ghost use Rattle.pla_reader.specs.Statements.{line_of};
+ghost use Rattle.pla_reader.specs.Text.{words};
+
+use crate::lines::{content, first_line, next_word};
+use crate::statements::{Statement, statement_of};
+use std::alloc::{AllocError, Global};
+
+/// A part of a text: the place of its first byte, and how many bytes it has.
+#[repr(C)]
+#[derive(Clone, Copy, Debug, PartialEq, Eq)]
+pub struct TextPlace {
+    pub start: usize,
+    pub length: usize,
+}
+
+/// Whose names.
+#[derive(Clone, Copy, Debug, PartialEq, Eq)]
+pub enum Names {
+    Inputs,
+    Outputs,
+}
+
+/// Whether a line gives the names.
+fn gives(statement: &Statement<'_>, names: Names) -> bool
+    ensures { result ≡ is_some (naming_by names (line_of statement.now)) }
+{
+    match names {
+        Names::Inputs => matches!(statement, Statement::InputNames(_)),
+        Names::Outputs => matches!(statement, Statement::OutputNames(_)),
+    }
+}
+
+/// The places of the words of a text that begins at a place of another one.
+fn word_places(alloc: Global, text: &[u8], start: usize) -> Result<Vec<TextPlace>, AllocError>
+    requires { start + length text.now < 2 ^ 64 }
+    ensures { IfOk result (λ v. (front back : List ℕ) → length front ≡ start →
+        map (bytes_at (front ++ text.now ++ back)) v.items ≡ words text.now) }
+{
+    let mut places = Vec::new(alloc);
+    let mut rest = text;
+    while let Some((word, after)) = next_word(rest) {
+        places.push(TextPlace {
+            start: start + (text.len() - after.len() - word.len()),
+            length: word.len(),
+        })?;
+        rest = after;
+    }
+    Ok(places)
+}
+
+/// The places of the names that a line gives, which begins at a place of a text.
+fn given_places(alloc: Global, line: &[u8], start: usize) -> Result<Vec<TextPlace>, AllocError>
+    requires { start + length line.now < 2 ^ 64 }
+    ensures { IfOk result (λ v. (front back : List ℕ) (names : Names) → length front ≡ start →
+        Gives names (line_said line.now) (map (bytes_at (front ++ line.now ++ back)) v.items)) }
+{
+    let text = content(line);
+    match next_word(text) {
+        Some((_, given)) => word_places(alloc, given, start + (text.len() - given.len())),
+        None => Ok(Vec::new(alloc)),
+    }
+}
+
+/// The places of the names that a description gives; none if it gives none.
+pub fn name_places(alloc: Global, bytes: &[u8], names: Names) -> Result<Vec<TextPlace>, AllocError>
+    ensures { IfOk result (λ v. AreNamesAt names bytes.now v.items) }
+{
+    let mut rest = bytes;
+    while !rest.is_empty() {
+        let (line, after) = first_line(rest);
+        let statement = statement_of(line);
+        if gives(&statement, names) {
+            return given_places(alloc, line, bytes.len() - rest.len());
+        }
+        if statement.is_end() {
+            return Ok(Vec::new(alloc));
+        }
+        rest = after;
+    }
+    Ok(Vec::new(alloc))
+}
