@@ -21,6 +21,11 @@ PLA file; all know their number of variables:
     >>> minorder.exact(minorder.read_pla("examples/mux2.pla")).total
     3
 
+``diagram`` gives the diagram under an order as a value, which a notebook shows:
+
+    >>> minorder.diagram(s & b | ~s & a, (2, 0, 1)).nodes
+    (Node(variable=1, low=0, high=1), Node(variable=0, low=0, high=1), Node(variable=2, low=3, high=2))
+
 A list of values that isn't put into ``from_values`` is refused where it can be told from a list of tables: 2^n
 entries, each 0 or 1.
 
@@ -31,8 +36,10 @@ The calls are made by the shared library libminorder, without the interpreter's 
 the file that the environment variable MINORDER_LIBRARY names, else one beside this module or in the lib/ of the checkout or
 prefix that it lies in, else what the loader finds.
 """
-from ._calls import Result, Verdict, certify, check, exact, levels, sift
-from ._errors import BadArgument, BadCertificate, BadOrder, BadPairs, BadPla, BadShape, BadText, MinorderError, NoLibrary
+from ._calls import Result, Verdict, certify, check, diagram, exact, levels, sift
+from ._diagrams import Diagram, Node
+from ._errors import (
+    BadArgument, BadCertificate, BadOrder, BadPairs, BadPath, BadPla, BadShape, BadText, MinorderError, NoGraphviz, NoLibrary)
 from ._many import exact_many
 from ._tables import Pla, Table, Tables, TruthTable, from_values, variables
 from .batch import FileReport, Report, Status, report_files
@@ -40,7 +47,9 @@ from .files import read_pla
 
 __version__ = "1.0.0"
 __all__ = [
-    "BadArgument", "BadCertificate", "BadOrder", "BadPairs", "BadPla", "BadShape", "BadText", "MinorderError", "NoLibrary",
-    "FileReport", "Pla", "Report", "Result", "Status", "Table", "Tables", "TruthTable", "Verdict",
-    "certify", "check", "exact", "exact_many", "from_values", "levels", "read_pla", "report_files", "sift", "variables",
+    "BadArgument", "BadCertificate", "BadOrder", "BadPairs", "BadPath", "BadPla", "BadShape", "BadText", "MinorderError",
+    "NoGraphviz", "NoLibrary",
+    "Diagram", "FileReport", "Node", "Pla", "Report", "Result", "Status", "Table", "Tables", "TruthTable", "Verdict",
+    "certify", "check", "diagram", "exact", "exact_many", "from_values", "levels", "read_pla", "report_files", "sift",
+    "variables",
 ]

@@ -1,11 +1,14 @@
 """The calls, each one call of the library."""
 from ctypes import Array, byref, c_size_t, c_uint8, c_uint32, c_uint64
+from functools import cached_property
+from struct import iter_unpack
 from typing import Iterable, Mapping, NamedTuple, Optional, Sequence, Tuple, Type, Union
 
 from ._certificates import check_text, inputs_of
+from ._diagrams import Diagram, Node
 from ._errors import BadArgument, BadOrder, BadPairs, BadShape, MinorderError
-from ._library import Judged, Pair, library
-from ._tables import Table, Tables, checked_inputs, inputs_said, listed, shown, whole, words_of
+from ._library import Judged, NodeRow, Pair, library
+from ._tables import Pla, Tables, checked_inputs, inputs_said, listed, named_x_and_f, shown, whole, words_of
 from ._threads import aside
 
 NO_CERTIFICATE = 3
@@ -22,11 +25,42 @@ REFUSALS: Mapping[int, Tuple[Type[Exception], str]] = {
 REASONS = ("Valid", "Shape", "Order", "Pairs", "Levels", "Total", "Start", "CellTooBig", "Edge")
 
 
-class Result(NamedTuple):
-    """An order, top first, its level counts, top first, and its size, which is their sum."""
+Given = Tuple["Array[c_uint64]", int, int, int]
+
+
+class Functions(NamedTuple):
+    """Tables in the words that the library reads, how many variables and tables they are, and their names if they have some."""
+    words: bytes
+    inputs: int
+    outputs: int
+    names: Optional[Tuple[Tuple[str, ...], Tuple[str, ...]]]
+
+    def given(self) -> Given:
+        """The first arguments of each call."""
+        words = len(self.words) // 8
+        return (c_uint64 * words).from_buffer_copy(self.words), words, self.inputs, self.outputs
+
+
+class _Sized(NamedTuple):
     order: Tuple[int, ...]
     levels: Tuple[int, ...]
     total: int
+
+
+class Result(_Sized):
+    """An order, top first, its level counts, top first, and its size, which is their sum. A notebook shows the diagram of a
+    result that knows its tables, as those of ``exact`` and ``sift`` do."""
+    _functions: Optional[Functions] = None
+
+    @cached_property
+    def _diagram(self) -> Optional[Diagram]:
+        return None if self._functions is None else _diagram_of(self._functions, self.order)
+
+    def _repr_svg_(self) -> Optional[str]:
+        return None if self._diagram is None else self._diagram._repr_svg_()
+
+    def _repr_html_(self) -> Optional[str]:
+        return None if self._diagram is None else self._diagram._repr_html_()
 
 
 class Verdict(NamedTuple):
@@ -50,14 +84,20 @@ def done(status: int) -> None:
         raise error(text)
 
 
-Given = Tuple["Array[c_uint64]", int, int, int]
+def _functions_of(tables: Tables, inputs: Optional[int]) -> Functions:
+    """The functions that are given, of so many variables; of as many as they say themselves if that is left out."""
+    each = listed(tables)
+    if inputs is None and (inputs := inputs_said(each)) is None:
+        raise BadArgument("inputs: it is left out, and the tables don't say how many variables they have")
+    inputs = checked_inputs(inputs)
+    names = (tables.inputs, tables.outputs) if isinstance(tables, Pla) else None
+    return Functions(words_of(each, inputs), inputs, len(each), names)
 
 
-def _given(tables: Sequence[Table], inputs: int) -> Given:
-    """The first arguments of each call."""
-    data = words_of(tables, inputs)
-    words = len(data) // 8
-    return (c_uint64 * words).from_buffer_copy(data), words, inputs, len(tables)
+def _result_of(functions: Functions, order: Iterable[int], levels: Iterable[int], total: int) -> Result:
+    found = Result(tuple(order), tuple(levels), total)
+    found._functions = functions
+    return found
 
 
 def _items(value: object, named: str, said: str) -> Sequence[object]:
@@ -92,14 +132,6 @@ def _pairs_of(above: Iterable[Tuple[int, int]], inputs: int) -> "Array[Pair]":
     return (Pair * len(pairs))(*pairs)
 
 
-def _tables_and_inputs(tables: Tables, inputs: Optional[int]) -> Tuple[Sequence[Table], int]:
-    """The tables one by one, and the number of their variables, which they may say themselves."""
-    each = listed(tables)
-    if inputs is None and (inputs := inputs_said(each)) is None:
-        raise BadArgument("inputs: it is left out, and the tables don't say how many variables they have")
-    return each, checked_inputs(inputs)
-
-
 def exact(tables: Tables, inputs: Optional[int] = None, above: Iterable[Tuple[int, int]] = ()) -> Result:
     """The first order under which the tables' shared diagram has the fewest nodes.
 
@@ -107,29 +139,30 @@ def exact(tables: Tables, inputs: Optional[int] = None, above: Iterable[Tuple[in
     ``read_pla``. ``above`` are pairs of variables; then it is the first such among the orders that have the first
     variable of each pair above the second. Raises BadArgument, BadShape, BadPairs, MemoryError.
     """
-    each, inputs = _tables_and_inputs(tables, inputs)
+    functions = _functions_of(tables, inputs)
+    given, inputs = functions.given(), functions.inputs
     pairs = _pairs_of(above, inputs)
     order, levels, total = (c_uint8 * inputs)(), (c_uint32 * inputs)(), c_uint32()
-    given, places = _given(each, inputs), (order, inputs, levels, inputs, byref(total))
+    places = order, inputs, levels, inputs, byref(total)
     if len(pairs):
         done(aside(inputs, library().minorder_exact_above_with_lengths, *given, pairs, len(pairs), *places))
     else:
         done(aside(inputs, library().minorder_exact_with_lengths, *given, *places))
-    return Result(tuple(order), tuple(levels), total.value)
+    return _result_of(functions, order, levels, total.value)
 
 
 def certify(tables: Tables, inputs: Optional[int] = None, above: Iterable[Tuple[int, int]] = ()) -> str:
     """The text of the certificate of the first order of the fewest nodes, as ``minorder --cert`` writes it and ``check`` and
     ``ordercheck`` accept it. The arguments are those of ``exact``, and so is what it raises; it takes longer.
     """
-    each, inputs = _tables_and_inputs(tables, inputs)
-    pairs = _pairs_of(above, inputs)
-    given = *_given(each, inputs), pairs if len(pairs) else (Pair * 1)(), len(pairs)
+    functions = _functions_of(tables, inputs)
+    pairs = _pairs_of(above, functions.inputs)
+    given = *functions.given(), pairs if len(pairs) else (Pair * 1)(), len(pairs)
     # room for most certificates; where it isn't enough, the call says how long the text is
     room, length = 1 << 16, c_size_t()
     while True:
         text = (c_uint8 * room)()
-        status = aside(inputs, library().minorder_certify_with_pairs, *given, text, room, byref(length))
+        status = aside(functions.inputs, library().minorder_certify_with_pairs, *given, text, room, byref(length))
         if status != SHORT_TEXT:
             done(status)
             return bytes(text[:length.value]).decode("ascii")
@@ -140,7 +173,7 @@ def levels(tables: Tables, order: Sequence[int]) -> Tuple[int, ...]:
     """The level counts of the tables' shared diagram under an order. Raises BadArgument, BadShape, BadOrder, MemoryError."""
     variables = _order_of(order)
     inputs = len(variables)
-    counts, given = (c_uint32 * inputs)(), _given(listed(tables), inputs)
+    counts, given = (c_uint32 * inputs)(), _functions_of(tables, inputs).given()
     done(library().minorder_levels_with_lengths(*given, (c_uint8 * inputs)(*variables), inputs, counts, inputs))
     return tuple(counts)
 
@@ -150,9 +183,37 @@ def sift(tables: Tables, order: Sequence[int]) -> Result:
     variables = _order_of(order)
     inputs = len(variables)
     sifted, counts, total = (c_uint8 * inputs)(*variables), (c_uint32 * inputs)(), c_uint32()
-    given = _given(listed(tables), inputs)
-    done(library().minorder_sift_with_lengths(*given, sifted, inputs, counts, inputs, byref(total)))
-    return Result(tuple(sifted), tuple(counts), total.value)
+    functions = _functions_of(tables, inputs)
+    done(library().minorder_sift_with_lengths(*functions.given(), sifted, inputs, counts, inputs, byref(total)))
+    return _result_of(functions, sifted, counts, total.value)
+
+
+def diagram(tables: Tables, order: Sequence[int]) -> Diagram:
+    """The tables' reduced shared diagram under an order, with the names of ``read_pla``, else x0, x1, .. and f0, f1, ..
+    Raises BadArgument, BadShape, BadOrder, MemoryError."""
+    variables = _order_of(order)
+    return _diagram_of(_functions_of(tables, len(variables)), variables)
+
+
+def _diagram_of(functions: Functions, order: Tuple[int, ...]) -> Diagram:
+    inputs, outputs = functions.inputs, functions.outputs
+    names = functions.names or named_x_and_f(inputs, outputs)
+    named = len(names[0]), len(names[1])
+    if named != (inputs, outputs):
+        raise BadShape(f"tables: names of {named[0]} inputs and {named[1]} outputs where there are {inputs} and {outputs}")
+    room = _most_nodes(inputs, outputs)
+    nodes, roots, count = (NodeRow * room)(), (c_uint32 * outputs)(), c_size_t()
+    places = nodes, room, roots, outputs, byref(count)
+    done(library().minorder_diagram_with_lengths(*functions.given(), (c_uint8 * inputs)(*order), inputs, *places))
+    rows = iter_unpack("=III", bytes(memoryview(nodes)[:count.value]))
+    return Diagram(order, tuple(map(Node._make, rows)), tuple(roots), *names)
+
+
+def _most_nodes(inputs: int, outputs: int) -> int:
+    """No diagram has more: on a level at most a node for each assignment of the variables above and each output, and one for
+    each function of the variables from the level on that depends on the first of them."""
+    levels = ((outputs << level, 1 << (1 << (inputs - level)), 1 << (1 << (inputs - level - 1))) for level in range(inputs))
+    return sum(min(assigned, functions - without) for assigned, functions, without in levels)
 
 
 def check(tables: Tables, certificate: Union[str, bytes], inputs: Optional[int] = None) -> Verdict:
@@ -165,15 +226,14 @@ def check(tables: Tables, certificate: Union[str, bytes], inputs: Optional[int] 
     if not isinstance(certificate, (str, bytes, bytearray, memoryview)):
         raise BadArgument(f"certificate: {shown(certificate)} is no text")
     text = certificate.encode("utf-8", "surrogateescape") if isinstance(certificate, str) else bytes(certificate)
-    each = listed(tables)
-    if inputs is None and (inputs := inputs_said(each)) is None:
+    if inputs is None and inputs_said(listed(tables)) is None:
         inputs = inputs_of(text)
+    functions = _functions_of(tables, inputs)
     judged, total, pairs, count = Judged(), c_uint32(), (Pair * MOST_PAIRS)(), c_size_t()
-    given = _given(each, checked_inputs(inputs))
     # an empty text also is given an address
     spelled = (c_uint8 * max(1, len(text))).from_buffer_copy(text or b"\0")
     status = aside(
-        checked_inputs(inputs), library().minorder_check_total_with_pairs, *given, spelled, len(text), byref(judged),
+        functions.inputs, library().minorder_check_total_with_pairs, *functions.given(), spelled, len(text), byref(judged),
         byref(total), pairs, MOST_PAIRS, byref(count))
     if status == NO_CERTIFICATE:
         check_text(text)

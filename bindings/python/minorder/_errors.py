@@ -27,6 +27,14 @@ class BadPairs(MinorderError, ValueError):
     """A pair has another variable, or the pairs lead from a variable back to itself."""
 
 
+class BadPath(MinorderError, ValueError):
+    """The suffix of a file's name is none that a diagram is written to, or the diagram is too large for a picture."""
+
+
+class NoGraphviz(MinorderError, OSError):
+    """Graphviz, which makes pictures, isn't there or fails."""
+
+
 class BadText(MinorderError, ValueError):
     """A text isn't of its format: ``kind`` is the word that the programs print, ``line`` the number of the faulty
     line, None if the kind has none, as ``TooLong``."""

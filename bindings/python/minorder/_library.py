@@ -17,6 +17,11 @@ class Pair(Structure):
     _fields_ = [("above", c_uint8), ("below", c_uint8)]
 
 
+class NodeRow(Structure):
+    """minorder_node."""
+    _fields_ = [("variable", c_uint32), ("low", c_uint32), ("high", c_uint32)]
+
+
 class Judged(Structure):
     """minorder_verdict."""
     _fields_ = [("reason", c_uint32), ("mask", c_uint32), ("variable", c_uint32)]
@@ -32,6 +37,8 @@ CALLS = {
     "minorder_certify_with_pairs": [*TABLES, POINTER(Pair), c_size_t, POINTER(c_uint8), c_size_t, POINTER(c_size_t)],
     "minorder_levels_with_lengths": [*TABLES, *ORDER, *LEVELS],
     "minorder_sift_with_lengths": [*TABLES, *ORDER, *LEVELS, *TOTAL],
+    "minorder_diagram_with_lengths": [
+        *TABLES, *ORDER, POINTER(NodeRow), c_size_t, POINTER(c_uint32), c_size_t, POINTER(c_size_t)],
     "minorder_exact_many_with_lengths": [*TABLES, *ORDER, *LEVELS, *LEVELS],
     "minorder_check_total_with_pairs": [
         *TABLES, POINTER(c_uint8), c_size_t, POINTER(Judged), *TOTAL, POINTER(Pair), c_size_t, POINTER(c_size_t)],

@@ -80,6 +80,11 @@ class Pla(NamedTuple):
     outputs: Tuple[str, ...]
 
 
+def named_x_and_f(inputs: int, outputs: int) -> Tuple[Tuple[str, ...], Tuple[str, ...]]:
+    """The names of inputs and outputs that have none."""
+    return tuple(f"x{i}" for i in range(inputs)), tuple(f"f{j}" for j in range(outputs))
+
+
 def shown(value: object) -> str:
     """A value as a message has it."""
     try:

@@ -4,7 +4,7 @@ from itertools import groupby
 from typing import Dict, Iterator, List, NamedTuple, NoReturn, Optional, Sequence, Tuple, Union
 
 from ._errors import BadArgument, BadPla
-from ._tables import MOST, Pla, TruthTable, shown
+from ._tables import MOST, Pla, TruthTable, named_x_and_f, shown
 
 LIMIT = 16_777_216
 BLANKS = b" \t\r"
@@ -51,9 +51,8 @@ def read_pla(path: Union[str, "os.PathLike[str]"]) -> Pla:
 def pla_of(content: bytes) -> Pla:
     """The same of a file's content."""
     cover = cover_of(content)
-    inputs = cover.input_names or tuple(f"x{i}" for i in range(cover.inputs))
-    outputs = cover.output_names or tuple(f"f{j}" for j in range(cover.outputs))
-    return Pla(tables_of(cover), inputs, outputs)
+    inputs, outputs = named_x_and_f(cover.inputs, cover.outputs)
+    return Pla(tables_of(cover), cover.input_names or inputs, cover.output_names or outputs)
 
 
 def parts_of(report: str) -> Dict[str, str]:

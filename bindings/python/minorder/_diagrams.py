@@ -1,0 +1,199 @@
+"""Diagrams as values: what they are evaluated at, folded into and written as."""
+from __future__ import annotations
+
+import json
+import os
+from collections import Counter
+from dataclasses import dataclass
+from functools import cached_property
+from typing import Callable, Iterator, NamedTuple, Optional, Tuple, TypeVar, Union
+
+from . import _drawings
+from ._errors import BadArgument, BadPath, BadShape, NoGraphviz
+from ._tables import TruthTable, shown, whole
+from ._writing import write_file
+
+T = TypeVar("T")
+# a notebook shows larger ones as bars
+MOST_SHOWN = 300
+
+
+class Node(NamedTuple):
+    """A decision node: its variable, and its children where that is 0 and where it is 1. The children 0 and 1 are the
+    constants, and i + 2 is node i of the diagram."""
+    variable: int
+    low: int
+    high: int
+
+
+@dataclass(frozen=True, repr=False)
+class Diagram:
+    """The reduced shared diagram of functions under an order, top first, as ``diagram`` makes it.
+
+    ``nodes`` stand level by level from below, children before parents. ``roots`` has the root of each function, numbered as
+    children are. ``inputs`` and ``outputs`` are the names of the variables and of the functions. Its length is the number of
+    nodes.
+    """
+    order: Tuple[int, ...]
+    nodes: Tuple[Node, ...]
+    roots: Tuple[int, ...]
+    inputs: Tuple[str, ...]
+    outputs: Tuple[str, ...]
+
+    def __len__(self) -> int:
+        return len(self.nodes)
+
+    def __repr__(self) -> str:
+        return f"<Diagram of {len(self)} nodes, order={self.order}, levels={self.levels}>"
+
+    @property
+    def levels(self) -> Tuple[int, ...]:
+        """The level counts, top first."""
+        counts = Counter(node.variable for node in self.nodes)
+        return tuple(counts[variable] for variable in self.order)
+
+    def evaluate(self, point: int) -> Tuple[bool, ...]:
+        """The value of each function at a point, whose bit i is the value of variable i. Raises BadArgument, BadShape."""
+        number, points = whole(point, "point"), 1 << len(self.order)
+        if not 0 <= number < points:
+            raise BadShape(f"point: {shown(number)}: the points of {len(self.order)} variables are 0 to {points - 1}")
+
+        def value(at: int) -> bool:
+            while at > 1:
+                node = self.nodes[at - 2]
+                at = node.high if number >> node.variable & 1 else node.low
+            return at == 1
+
+        return tuple(map(value, self.roots))
+
+    def fold(self, zero: T, one: T, node: Callable[[int, T, T], T]) -> Tuple[T, ...]:
+        """What ``node(variable, low, high)`` makes of each root, called once for each node, from below: ``low`` and ``high``
+        are what its children became, the constants being ``zero`` and ``one``."""
+        made = [zero, one]
+        for variable, low, high in self.nodes:
+            made.append(node(variable, made[low], made[high]))
+        return tuple(made[root] for root in self.roots)
+
+    def tables(self) -> Tuple[TruthTable, ...]:
+        """The truth table of each function."""
+        inputs = len(self.order)
+        height = {variable: inputs - 1 - level for level, variable in enumerate(self.order)}
+
+        # a table of the lowest variables of the order, and how many they are
+        def node(variable: int, low: Tuple[int, int], high: Tuple[int, int]) -> Tuple[int, int]:
+            below = height[variable]
+            return _widened(low, below) | _widened(high, below) << (1 << below), below + 1
+
+        places = [0]
+        for variable in self.order[::-1]:
+            places += [place | 1 << variable for place in places]
+        found = (_widened(table, inputs) for table in self.fold((0, 0), (1, 0), node))
+        return tuple(TruthTable(_permuted(table, places), inputs) for table in found)
+
+    # ---- as texts and pictures
+
+    def to_dot(self) -> str:
+        """The diagram in Graphviz's language."""
+        return _drawings.dot_of([("", self)], self._title)
+
+    def to_json(self) -> str:
+        """The diagram as an object of JSON: inputs, outputs, order, levels, nodes (each variable, low, high), roots."""
+        fields = ("inputs", "outputs", "order", "levels", "nodes", "roots")
+        return json.dumps({name: getattr(self, name) for name in fields}) + "\n"
+
+    def save(self, path: Union[str, "os.PathLike[str]"]) -> None:
+        """Writes a file whose suffix says what: .dot; .svg, .png or .pdf, by Graphviz; .json; .bdd, what BuDDy's ``bdd_save``
+        writes, of each function behind the one before. Raises BadArgument, BadPath, NoGraphviz, and OSError if the file can't
+        be written."""
+        if not isinstance(path, (str, os.PathLike)) or "\0" in os.fspath(path):
+            raise BadArgument(f"path: {shown(path)} is no path")
+        write_diagrams(os.fspath(path), [("", self)], self._title)
+
+    @property
+    def _title(self) -> str:
+        return f"Decision diagram of {', '.join(self.outputs)}"
+
+    @cached_property
+    def _svg(self) -> Optional[str]:
+        if len(self) > MOST_SHOWN:
+            return None
+        try:
+            return _drawings.picture_of([("", self)], self._title, ".svg").decode()
+        except NoGraphviz:
+            return None
+
+    def _repr_svg_(self) -> Optional[str]:
+        return self._svg
+
+    def _repr_html_(self) -> Optional[str]:
+        return _drawings.bars_of(self) if self._svg is None else None
+
+
+def _widened(table: Tuple[int, int], variables: int) -> int:
+    """A table of so many variables that doesn't depend on those above its own."""
+    bits, own = table
+    for above in range(own, variables):
+        bits |= bits << (1 << above)
+    return bits
+
+
+def _permuted(table: int, places: list[int]) -> int:
+    """The table with bit p at the place places[p]."""
+    digits = f"{table:0{len(places)}b}"
+    found = [""] * len(places)
+    for place, digit in zip(places, reversed(digits)):
+        found[~place] = digit
+    return int("".join(found), 2)
+
+
+# ---- files
+
+def _reached(diagram: Diagram, root: int) -> list[int]:
+    """The numbers of the nodes below a root and its own, children before parents."""
+    reached = {root}
+    for number in range(root, 1, -1):
+        if number in reached:
+            _, *children = diagram.nodes[number - 2]
+            reached.update(children)
+    return sorted(reached - {0, 1})
+
+
+def _buddy_lines(diagram: Diagram) -> Iterator[str]:
+    """What BuDDy's ``bdd_save`` writes, of each function in turn."""
+    places = " ".join(str(diagram.order.index(variable)) for variable in range(len(diagram.order)))
+    for root in diagram.roots:
+        if root < 2:
+            yield f"0 0 {root}\n"
+            continue
+        numbers = _reached(diagram, root)
+        yield f"{len(numbers)} {len(diagram.order)}\n{places}\n"
+        for number in numbers:
+            yield "{} {} {} {}\n".format(number, *diagram.nodes[number - 2])
+
+
+TEXTS: dict[str, Callable[[Diagram], str]] = {".bdd": lambda it: "".join(_buddy_lines(it)), ".json": Diagram.to_json}
+SUFFIXES = (*TEXTS, ".dot", *_drawings.PICTURES)
+
+
+def suffix_of(path: str) -> str:
+    """What the name of a diagram's file ends in. Raises BadPath."""
+    suffix = os.path.splitext(path)[1].lower()
+    if suffix not in SUFFIXES:
+        ends = f"{', '.join(SUFFIXES[:-1])} or {SUFFIXES[-1]}"
+        raise BadPath(f"{path or repr(path)}: the name of a diagram's file ends in {ends}")
+    return suffix
+
+
+def write_diagrams(path: str, parts: _drawings.Parts, title: str) -> None:
+    """Writes diagrams side by side, or the first one's text, as the suffix says, as a whole or not at all."""
+    suffix = suffix_of(path)
+    if suffix in TEXTS:
+        content = TEXTS[suffix](parts[0][1]).encode("ascii")
+    elif suffix == ".dot":
+        content = _drawings.encoded(_drawings.dot_of(parts, title))
+    else:
+        most = max(len(it) for _, it in parts)
+        if most > _drawings.MOST:
+            raise BadPath(f"{path}: the diagram has {most} nodes, and Graphviz draws {_drawings.MOST} in a few seconds")
+        content = _drawings.picture_of(parts, title, suffix)
+    write_file(path, content)
