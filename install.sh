@@ -86,7 +86,6 @@ documents() {
     install -d "$made/tree/$folder"/{scripts,bindings} "$made/tree/share/minorder/bindings"
     ln -s ../python "$made/tree/share/minorder/bindings/python"
     ln -s ../../minorder/optima "$made/tree/$folder/optima"
-    ln -s ../../../minorder/draw.py "$made/tree/$folder/scripts/draw.py"
     ln -s ../../../minorder/check.py "$made/tree/$folder/scripts/check.py"
     ln -s ../../../minorder/python "$made/tree/$folder/bindings/python"
 }
@@ -110,7 +109,7 @@ tree() {
     package_file
     manual
     documents
-    put 755 share/minorder "$top/scripts/draw.py" "$top/scripts/check.py"
+    put 755 share/minorder "$top/scripts/check.py"
     put 644 share/minorder/python "$top/bindings/python/pyproject.toml"
     put 644 share/minorder/python/backend "$top"/bindings/python/backend/*.py
     put 644 share/minorder/python/minorder "$top"/bindings/python/minorder/{*.py,py.typed}

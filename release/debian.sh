@@ -118,4 +118,5 @@ package python3-minorder all python "exact minimum BDD variable orders, for Pyth
  $said
  .
  This is the package that calls the shared library, with the commands
- minorder-batch, minorder-functions, minorder-levels and minorder-score." "Depends: python3, libminorder1 (>= $version)" "Recommends: python3-tqdm"
+ minorder-batch, minorder-diagram, minorder-functions, minorder-levels and
+ minorder-score." "Depends: python3, libminorder1 (>= $version)" "Recommends: python3-tqdm" "Suggests: graphviz"

@@ -50,10 +50,10 @@ python() {
     for file in "$tree"/share/doc/minorder/examples/*.cert; do
         [ "$("$tree/share/minorder/check.py" "${file%.cert}.pla" "$file")" = "$(run ordercheck "${file%.cert}.pla" "$file")" ] ||
             fail "$file: check.py has another verdict"
-        "$tree/share/minorder/draw.py" "${file%.cert}.pla" < "${file%.cert}.report" > "$made/dot" || fail "$file: it isn't drawn"
     done
-    echo "the shared library from Python, check.py and draw.py: as they are to be"
+    echo "the shared library from Python and check.py: as they are to be"
     batch
+    diagrams
 }
 
 # A method of one's own on a family, by the commands on the path.
@@ -90,6 +90,18 @@ for line in sys.stdin:
     [ "$(tail -2 "$made/batch")" = "a refused.pla line 3: DontCare"$'\n'"none.pla Device" ] || fail "minorder-batch has other faults"
     [ "$(wc -l < "$made/batch")" = $(($(find "$examples/" -name '*.pla' | wc -l) + 2)) ] || fail "minorder-batch leaves files out"
     echo "minorder-batch: the reports of the examples, and the faults of others"
+}
+
+# minorder-diagram on the examples, with the order of each report
+diagrams() {
+    local file
+    for file in "$tree"/share/doc/minorder/examples/*.pla; do
+        MINORDER_LIBRARY=$libraries/libminorder.so.1 PYTHONDONTWRITEBYTECODE=1 PYTHONPATH=$modules "$tree/bin/minorder-diagram" \
+            --out "$made/it.json" "$file" < "${file%.pla}.report" || fail "$file: minorder-diagram refuses its report"
+        python3 -c 'import json, sys; it = json.load(open(sys.argv[1])); assert len(it["nodes"]) == sum(it["levels"])' "$made/it.json" ||
+            fail "$file: another diagram"
+    done
+    echo "minorder-diagram: the examples under the orders of their reports"
 }
 
 # The platform in the wheel's name, beside what objdump reads off the library.
@@ -129,6 +141,7 @@ for file in sys.argv[1:]:
     for command in "$environment"/bin/minorder-*; do alone "$command" --help > /dev/null || fail "$command doesn't run"; done
     [[ $(alone minorder-batch "$examples/mux2.pla") == *'"nodes": 3,'* ]] || fail "the wheel's minorder-batch reports something else"
     [[ $(alone minorder-levels "$examples/adder4.pla" 3,7,2,6,1,5,0,4) == *"nodes: 29" ]] || fail "the wheel's minorder-levels counts something else"
+    [[ $(alone minorder-diagram "$examples/mux2.pla" s,a,b) == *"another order: 3 nodes"* ]] || fail "the wheel's minorder-diagram draws something else"
     alone minorder-functions own "hidden weighted bit" > /dev/null
     {
         echo name,order

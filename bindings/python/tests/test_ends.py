@@ -22,6 +22,7 @@ MULTIPLEXER = os.path.abspath(f"{PACKAGE}/../../examples/mux2.pla")
 # by command its module, and words for a short run in a folder with results
 COMMANDS = {
     "minorder-batch": ("_batch_command", [MULTIPLEXER]),
+    "minorder-diagram": ("diagram_command", [MULTIPLEXER, "2,0,1"]),
     "minorder-functions": ("functions", ["bench", "hwb4", "hwb5"]),
     "minorder-levels": ("levels_command", [MULTIPLEXER, "2,0,1"]),
     "minorder-score": ("score", ["results.csv"]),

@@ -1,0 +1,111 @@
+"""Tests of minorder-diagram: python3 -m unittest discover -s bindings/python/tests"""
+import json
+import os
+import shutil
+import subprocess
+import sys
+import tempfile
+import unittest
+
+PACKAGE = os.path.dirname(os.path.dirname(os.path.abspath(__file__)))
+sys.path.insert(0, PACKAGE)
+import minorder  # noqa: E402
+
+EXAMPLES = os.path.abspath(f"{PACKAGE}/../../examples")
+MULTIPLEXER = f"{EXAMPLES}/mux2.pla"
+with open(f"{EXAMPLES}/mux2.report") as opened:
+    REPORT = opened.read()
+NO_REPORT = "standard input holds no report of minorder: name an ORDER, or add < /dev/null for the file's own"
+
+
+class Command(unittest.TestCase):
+    def setUp(self):
+        made = tempfile.TemporaryDirectory()
+        self.addCleanup(made.cleanup)
+        self.folder = made.name
+
+    def ran(self, *words, given=None, **environment):
+        """The status, standard output and standard error; standard input is a device unless something is given."""
+        command = [sys.executable, "-m", "minorder.diagram_command", *words]
+        environment = {**os.environ, "PYTHONPATH": PACKAGE, "PYTHONDONTWRITEBYTECODE": "1", **environment}
+        source = {"stdin": subprocess.DEVNULL} if given is None else {"input": given}
+        found = subprocess.run(command, env=environment, cwd=self.folder, capture_output=True, text=True, **source)
+        return found.returncode, found.stdout, found.stderr
+
+    def order_of(self, *words, given=None):
+        """The order of the diagram that is written, by names."""
+        self.assertEqual(self.ran("-o", "it.json", MULTIPLEXER, *words, given=given), (0, "", ""))
+        with open(f"{self.folder}/it.json") as file:
+            it = json.load(file)
+        return "".join(it["inputs"][x] for x in it["order"])
+
+    def test_an_order_is_that_of_words_of_a_report_or_the_file(self):
+        for words in (["2", "0", "1"], ["s,a,b"], ["s a b"], ["s,", "a,", "b"]):
+            self.assertEqual(self.order_of(*words, given="no report"), "sab")
+        self.assertEqual(self.order_of(given=REPORT), "sab")
+        self.assertEqual(self.order_of(), "abs")
+
+    def test_drawings(self):
+        status, text, errors = self.ran(MULTIPLEXER, "s,a,b")
+        self.assertEqual((status, errors), (0, ""))
+        self.assertIn('label="another order: 3 nodes"', text)
+        self.assertIn('label="the best order: 3 nodes"', self.ran(MULTIPLEXER, given=REPORT)[1])
+        both = self.ran("--both", MULTIPLEXER, given=REPORT)[1]
+        self.assertLess(both.index('label="the file\'s order: 5 nodes"'), both.index('label="the best order: 3 nodes"'))
+        self.assertEqual(self.ran("--out", "it.dot", "--both", MULTIPLEXER, given=REPORT), (0, "", ""))
+        with open(f"{self.folder}/it.dot") as file:
+            self.assertEqual(file.read(), both)
+
+    @unittest.skipUnless(shutil.which("dot"), "no dot here")
+    def test_the_picture_of_the_readme(self):
+        with open(f"{EXAMPLES}/products3.report") as file:
+            report = file.read()
+        self.assertEqual(self.ran("--both", "-o", "it.svg", f"{EXAMPLES}/products3.pla", given=report), (0, "", ""))
+        with open(f"{self.folder}/it.svg") as file:
+            text = file.read()
+        self.assertEqual(text.count("<ellipse"), 14 + 6)
+        self.assertIn("<title>Decision diagram of products3.pla</title>", text)
+
+    def test_texts(self):
+        found = minorder.diagram(minorder.read_pla(MULTIPLEXER), (2, 0, 1))
+        self.assertEqual(self.ran("-o", "it.bdd", MULTIPLEXER, "s,a,b"), (0, "", ""))
+        found.save(f"{self.folder}/other.bdd")
+        with open(f"{self.folder}/it.bdd") as file, open(f"{self.folder}/other.bdd") as other:
+            self.assertEqual(file.read(), other.read())
+
+    def test_refusals_are_a_line_and_leave_no_file(self):
+        with open(f"{self.folder}/hello.pla", "w") as file:
+            file.write("hello\n")
+        wrong = REPORT.replace("levels: 1 1 1\nnodes: 3", "levels: 1 1 2\nnodes: 4")
+        ends = "the name of a diagram's file ends in .bdd, .json, .dot, .pdf, .png or .svg"
+        for words, given, status, message in (
+                (("no.pla",), None, 5, "no.pla: No such file or directory"),
+                (("hello.pla",), None, 3, "hello.pla: line 1: MissingHead"),
+                ((MULTIPLEXER, "2", "0"), None, 2, "2 0: 1 is missing"),
+                ((MULTIPLEXER, "s,a"), None, 2, "s a: b is missing"),
+                ((MULTIPLEXER, ""), None, 2, "an order is empty"),
+                ((MULTIPLEXER, "2,0,1", "0,1,2"), None, 2, "2 0 1 0 1 2: 0 is repeated"),
+                ((MULTIPLEXER,), "", 3, NO_REPORT),
+                ((MULTIPLEXER,), "order: 2 0 1\nlevels: 1 1 1\nnodes: 4\n", 3, NO_REPORT),
+                ((MULTIPLEXER,), REPORT.replace("2 0 1", "2 0 0"), 3, "the report's order 2 0 0: 0 is repeated"),
+                ((MULTIPLEXER,), wrong, 3, "the report has the level counts 1 1 2, and the diagram 1 1 1"),
+                (("-o", "it.gif", MULTIPLEXER), None, 2, f"it.gif: {ends}"),
+                (("-o", "", MULTIPLEXER), None, 2, f"'': {ends}"),
+                (("-o", "it.bdd", "--both", MULTIPLEXER), None, 2, "it.bdd: a .bdd file has one diagram, and --both draws two"),
+                (("-o", "no/it.dot", MULTIPLEXER), None, 5, "no/it.dot: No such file or directory")):
+            self.assertEqual(self.ran(*words, given=given), (status, "", f"minorder-diagram: {message}\n"), words)
+        self.assertEqual(os.listdir(self.folder), ["hello.pla"])
+
+    def test_without_graphviz_and_without_the_library(self):
+        status, output, errors = self.ran("-o", "it.png", MULTIPLEXER, PATH=self.folder)
+        self.assertEqual((status, output, errors.count("\n")), (1, "", 1))
+        self.assertIn("apt-get install graphviz", errors)
+        self.assertEqual(self.ran("-o", "it.dot", MULTIPLEXER, PATH=self.folder), (0, "", ""))
+        status, output, errors = self.ran(MULTIPLEXER, MINORDER_LIBRARY="/there/is/none.so")
+        self.assertEqual((status, output, errors.count("\n")), (1, "", 1))
+        self.assertIn("MINORDER_LIBRARY", errors)
+        self.assertEqual((self.ran()[0], self.ran("--help")[0]), (2, 0))
+
+
+if __name__ == "__main__":
+    unittest.main()
