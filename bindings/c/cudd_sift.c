@@ -1,4 +1,7 @@
-/* How far CUDD's sifting ends from the optimum, for the hidden weighted bit functions (Bryant 1991). bench/peers.sh builds CUDD. */
+/* How far CUDD's sifting ends from the optimum, for the hidden weighted bit functions (Bryant 1991).
+   With CUDD as `bench/peers.sh PEERS` builds it:
+   cc -O2 -w -DLIN64 -DSIZEOF_VOID_P=8 -DSIZEOF_LONG=8 -DSIZEOF_INT=4 -I include -I PEERS/abc/src \
+       -I PEERS/abc/src/bdd/cudd bindings/c/cudd_sift.c lib/libminorder.a PEERS/libcudd.a -lm -lpthread */
 #include <stdio.h>
 #include <string.h>
 
