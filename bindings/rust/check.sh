@@ -15,18 +15,10 @@ export CARGO_TARGET_DIR=$made/target CARGO_TERM_COLOR=never
 # with FOLDER COMMAND..: a command with the libraries of a folder, whose words are shown if it fails
 with() { MINORDER_LIB_DIR=$1 LD_LIBRARY_PATH=$1 "${@:2}" > "$made/log" 2>&1 || { cat "$made/log" >&2; fail "${*:2} fails"; }; }
 
-skipped=()
-if ! grep -q minorder_diagram_with_lengths "$prefix/lib/libminorder.so.1"; then
-    echo "left out: the crate's diagrams, which this library doesn't make"
-    skipped=(--skip diagram)
-    export RUSTFLAGS=-Clink-arg=-Wl,--defsym=minorder_diagram_with_lengths=0
-    export RUSTDOCFLAGS=$RUSTFLAGS
-fi
-
 tests() {
     local kind
     for kind in "" static; do
-        with "$prefix/lib" cargo test --offline --quiet --features "$kind" -- "${skipped[@]}"
+        with "$prefix/lib" cargo test --offline --quiet --features "$kind"
     done
     echo "the crate's tests, with the shared library and the archive: passed"
 }
