@@ -1,79 +1,36 @@
--- The costs of the sets without one member, and the widths of all members, for the first variables.
---     AreRowsBelow t mask below widths k      the entries of the members below k
---     rows_start, rows_member, rows_other      none; one variable more
---     rows_all      those of all members give the cell
+-- The cell of a set, from the sums of costs and widths of its members.
+--     IsBestBelow      the cell of the least sum over the members below a variable, if any cost is within the bound
+--     best_skipped, best_taken, best_all      one variable more, and all
 --     cost_at      the cost of a smaller set is in the list of cells
-use Rattle.std.proofs.Common.{◌≡◌, ℕ, ◌+◌, ◌-◌, ◌^◌, ◌<◌, ◌≤◌, Bool, if◌then◌else◌, nat_eq, inl, inr, true, false, eq-eqb, ne_eqb, List, [], length, get_or, set, slice_index, sym, ap, ◌∙◌, arith}
-use Rattle.std.proofs.lemmas.Bool.{cases_eq, false≢true}
-use Rattle.std.proofs.lemmas.List.{length-set}
-use Rattle.definitions.specs.Orders.{has, members, without}
+use Rattle.std.proofs.Common.{◌≡◌, ℕ, ◌+◌, ◌<◌, ◌≤◌, Option, Some, None, IfSome, if◌then◌else◌, inl, inr, eq-eqb, ne_eqb, List, get_or, sym, ap, ◌∙◌, arith}
+use Rattle.std.proofs.lemmas.Bool.{cases_eq, cases_lt}
 use Rattle.definitions.specs.Problems.{functions}
-use Rattle.definitions.specs.Widths.{width}
-use Rattle.definitions.specs.Cells.{AreForCell, asked, candidates, cell_cost}
-use Rattle.definitions.specs.declared.limits.BoundAbove.{BoundAbove}
-use Rattle.definitions.specs.declared.limits.BoundAbove.TheVariants.{Variables, Widths}
-use Rattle.definitions.proofs.Widths.Cells.{candidate_parts}
-use Rattle.definitions.proofs.Bits.Masks.{members_small}
+use Rattle.definitions.specs.Cells.{cell_cost}
+use Rattle.subset_layers.specs.Sums.{IsBest}
 use Rattle.subset_layers.specs.declared.costs.Cell.{Cell}
-use Rattle.subset_layers.proofs.Rows.{row_passed, row_written}
 use Rattle.layer_core.specs.Instances.{Instance, cell_for}
 use Rattle.solutions.specs.FlatCells.{no_cell}
 use Rattle.small_search.specs.FirstCells.{AreFirstCells}
 
--- whether a variable is a member
-abbrev pub IsMember : Instance → ℕ → ℕ → Type 0
-IsMember t mask y = has (members t.problem.inputs mask) y ≡ true
+module _ (S : ℕ → Type 0) (bound : ℕ) (costs widths : ℕ → ℕ) where
+  abbrev pub IsBestBelow : ℕ → Option Cell → Type 0
+  IsBestBelow k None = (y : ℕ) → y < k → S y → bound < costs y
+  IsBestBelow k (Some c) = IsBest (λ y. (y < k) × S y) bound costs widths c.cost c.variable
 
-abbrev pub cost_without : Instance → ℕ → ℕ → ℕ
-cost_without t mask y = cell_cost t.problem.inputs (functions t.problem) t.pairs.pairs t.bound_above t.bound (mask - 2 ^ y)
+  -- a variable that is no member, or whose cost is beyond the bound
+  pub best_skipped : (k : ℕ) (o : Option Cell) → IsBestBelow k o → (S k → bound < costs k) → IsBestBelow (k + 1) o
+  best_skipped k o h l = grind (arith, cases_lt)
 
-abbrev pub width_without : Instance → ℕ → ℕ → ℕ
-width_without t mask y = width t.problem.inputs (functions t.problem) (without y (members t.problem.inputs mask)) y
+  -- a member within the bound
+  pub best_taken : (k sum : ℕ) (o : Option Cell) (next r : Cell) → IsBestBelow k o → S k → costs k ≤ bound → sum ≡ costs k + widths k →
+      next ≡ record { cost = sum; variable = k } →
+      (o ≡ None → r ≡ next) → IfSome o (λ b. (b.cost ≤ next.cost → r ≡ b) × (next.cost < b.cost → r ≡ next)) → IsBestBelow (k + 1) (Some r)
+  best_taken k sum o next r h l m e p q s = grind (arith, cases_lt)
 
-pub record AreRowsBelow (t : Instance) (mask : ℕ) (below widths : List ℕ) (k : ℕ) : Type 0 where
-  pub below_long : length below ≡ 16
-  pub widths_long : length widths ≡ 16
-  pub costs_are : (y : ℕ) → y < k → IsMember t mask y → get_or below y 0 ≡ cost_without t mask y
-  pub widths_are : (y : ℕ) → y < k → IsMember t mask y → get_or widths y 0 ≡ width_without t mask y
-
-module _ (t : Instance) (mask : ℕ) where
-  pub rows_start : (below widths : List ℕ) → length below ≡ 16 → length widths ≡ 16 → AreRowsBelow t mask below widths 0
-  rows_start below widths b w = record { below_long = b; widths_long = w; costs_are = λ y l. absurd (omega arith); widths_are = λ y l. absurd (omega arith) }
-
-  pub rows_member : (below widths : List ℕ) (x c w : ℕ) → AreRowsBelow t mask below widths x → x < 16 → c ≡ cost_without t mask x →
-      (IsMember t mask x → w ≡ width_without t mask x) → IsMember t mask x → AreRowsBelow t mask (set below x c) (set widths x w) (x + 1)
-  rows_member below widths x c w r small e f m = record {
-    below_long = length-set below x c ∙ r.below_long;
-    widths_long = length-set widths x w ∙ r.widths_long;
-    costs_are = row_written (IsMember t mask) (cost_without t mask) below x r.costs_are c (let l = r.below_long in omega (arith, l)) e;
-    widths_are = row_written (IsMember t mask) (width_without t mask) widths x r.widths_are w (let l = r.widths_long in omega (arith, l)) (f m);
-  }
-
-  pub rows_other : (below widths : List ℕ) (x : ℕ) → AreRowsBelow t mask below widths x → (IsMember t mask x → ⊥) → AreRowsBelow t mask below widths (x + 1)
-  rows_other below widths x r none = record {
-    below_long = r.below_long;
-    widths_long = r.widths_long;
-    costs_are = row_passed (IsMember t mask) (cost_without t mask) below x r.costs_are none;
-    widths_are = row_passed (IsMember t mask) (width_without t mask) widths x r.widths_are none;
-  }
-
-  asked_member : (r : BoundAbove) (bound : ℕ) (costs : ℕ → ℕ) (y : ℕ) → has (asked t.problem.inputs r bound mask costs) y ≡ true → IsMember t mask y
-  unfolding asked
-  asked_member Variables bound costs y h = (candidate_parts t.problem.inputs bound mask costs y h).0
-  asked_member Widths bound costs y h = by (nat_eq (length (candidates t.problem.inputs bound mask costs)) 0) h
-    where
-      by : (b : Bool) → has (if b then [] else members t.problem.inputs mask) y ≡ true → IsMember t mask y
-      by true h = absurd (false≢true h)
-      by false h = h
-
-  pub rows_all : (below widths : List ℕ) (k : ℕ) → AreRowsBelow t mask below widths k → t.problem.inputs ≤ k →
-      AreForCell t.problem.inputs (functions t.problem) t.pairs.pairs t.bound_above t.bound mask (slice_index below) (slice_index widths)
-  rows_all below widths k r le = record {
-    are_costs = λ y m. r.costs_are y (let s = members_small t.problem.inputs mask y m in omega (arith, s, le)) m;
-    are_widths = λ l y a.
-        let m = asked_member t.bound_above t.bound (slice_index below) y a in
-        r.widths_are y (let s = members_small t.problem.inputs mask y m in omega (arith, s, le)) m;
-  }
+  -- all members
+  pub best_all : (k : ℕ) (c : Cell) → ((y : ℕ) → S y → y < k) → IsBest (λ y. (y < k) × S y) bound costs widths c.cost c.variable →
+      IsBest S bound costs widths c.cost c.variable
+  best_all k c low h = grind arith
 
 -- the cost of a smaller set
 pub cost_at : (t : Instance) (count : ℕ) (cells : List Cell) → AreFirstCells t count cells → (mask : ℕ) → mask < count →

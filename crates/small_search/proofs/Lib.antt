@@ -1,3 +1,11 @@
 pub mod CellRows
 pub mod LowestVariables
 pub mod PathSteps
+pub mod ValueLaws
+pub mod ValuePlaces
+pub mod ValueWidths
+pub mod ValueSets
+pub mod ValueSteps
+pub mod FourVariables
+pub mod MemberPlaces
+pub mod JoinedValues

@@ -1,10 +1,14 @@
-//! The search for problems whose truth tables are small: the class table and the cell of each set
-//! of variables, one after the other by the calling thread, with no bound that any cell reaches.
+//! The search for problems whose truth tables are small: the subfunctions over each set of
+//! variables and its cell, one set after the other by the calling thread, with no bound that any
+//! cell reaches. Over up to three variables a subfunction is its truth table, over more its class.
 //! All tables lie in memory that is taken once.
 #![tactic(auto)]
 
 mod cells;
+mod classes;
+mod counting;
 mod search;
 mod tables;
+mod values;
 
 pub use search::{find_optimum, is_small, solve};

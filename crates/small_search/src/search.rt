@@ -1,20 +1,27 @@
 //! The optimum of a small problem.
 
-ghost use Rattle.std.specs.Prelude.{◌≡◌, ◌*◌, ◌+◌, ◌-◌, ◌^◌, ◌<◌, ◌≤◌, ◌↔◌, IfOk, IsTrue, OnOk};
-ghost use Rattle.definitions.specs.Problems.{outputs_of};
+ghost use Rattle.std.specs.Prelude.{ℕ, true, count_ones, ◌≡◌, ◌*◌, ◌+◌, ◌-◌, ◌^◌, ◌<◌, ◌≤◌, ◌↔◌, IfOk, IsTrue, OnOk};
+ghost use Rattle.definitions.specs.Orders.{members};
+ghost use Rattle.definitions.specs.Pairs.{is_lawful};
+ghost use Rattle.definitions.specs.Problems.{TruthTables, outputs_of};
 ghost use Rattle.definitions.specs.declared.limits.BoundAbove.TheVariants.{Variables};
 ghost use Rattle.layer_core.specs.Pairing.{pair_of};
 ghost use Rattle.layer_core.specs.Instances.{cell_for};
-ghost use Rattle.small_search.specs.FirstCells.{AreFirstCells};
-ghost use Rattle.small_search.specs.Paths.{HoldPath};
+ghost use Rattle.small_search.specs.FirstCells.{AreFirstCells, IsPlainSearch};
+ghost use Rattle.small_search.specs.Occurrences.{AreOf};
+ghost use Rattle.small_search.specs.Paths.{HoldPath, HoldsTable};
+ghost use Rattle.subfunction_classes.specs.PairTables.{AllBelow};
+ghost use Rattle.subfunction_classes.specs.Table.{classes_of};
 ghost use Rattle.solutions.specs.Bounded.{IsBounded};
 ghost use Rattle.solutions.specs.FlatCells.{AreFlatCells};
 ghost use Rattle.solutions.specs.Solutions.{IsOptimumFor, IsSolution};
 
 use crate::cells::cell_of_set;
-use crate::tables::{add_lowest, first_tables};
+use crate::counting::Subfunctions;
+use crate::tables::{MOST_VALUE_VARIABLES, Table, add_lowest, first_tables};
+use crate::values::occurring;
 use order_model::{BoundAbove, Limit, Mask, Pairs, Problem, SizedOrder};
-use pair_chains::{Numbered, PairNumbers};
+use pair_chains::PairNumbers;
 use solutions::{AllCells, Instance, Solution, optimum_of, solution_of};
 use std::alloc::{AllocError, Global};
 use subset_layers::Cell;
@@ -37,14 +44,14 @@ pub fn is_small(problem: &Problem) -> bool
     inputs <= MOST_INPUTS && (problem.outputs() as usize) << inputs <= MOST_ENTRIES
 }
 
-/// What a search without a bound is for.
+/// The instance of a search with a bound that no order reaches.
 fn instance_of<'a>(problem: &'a Problem, pairs: &'a Pairs) -> Instance<'a>
     requires { pairs.now.inputs ≡ problem.now.inputs }
     ensures problem { result.problem ≡ problem.now }
     ensures pairs { result.pairs ≡ pairs.now }
     ensures bound_above { result.bound_above ≡ Variables }
     ensures bounded { IsBounded result }
-    ensures room { result.bound + 1 < 2 ^ 32 }
+    ensures bound { result.bound ≤ 2 ^ 20 }
 {
     prove!(problem.inputs() <= 16);
     prove!(problem.outputs() <= 16);
@@ -56,33 +63,66 @@ fn instance_of<'a>(problem: &'a Problem, pairs: &'a Pairs) -> Instance<'a>
     Instance::new(problem, pairs, limit)
 }
 
-/// The cell of the set after those that have cells; the tables on the way to it follow.
+/// The different subfunctions over a set.
+fn subfunctions_in<'a>(table: &'a Table, set: Mask) -> Subfunctions<'a>
+    requires { count_ones set ≤ 2 → AllBelow table.now.values.items 64 }
+    ensures { (p : TruthTables) → HoldsTable p set table.now → AreOf (classes_of p set) result }
+{
+    let size = set.count_ones();
+    if size <= MOST_VALUE_VARIABLES {
+        Subfunctions::Values(occurring(&table.values, size))
+    } else {
+        Subfunctions::Classes(&table.classes.masks)
+    }
+}
+
+/// True only if each set is lawful.
+fn all_are_lawful(instance: &Instance<'_>) -> bool
+    ensures { IsTrue result → (set : ℕ) →
+        is_lawful instance.now.pairs.pairs (members instance.now.problem.inputs set) ≡ true }
+{
+    for x in 0..instance.inputs() {
+        if !instance.pairs().lawful(1 << x) {
+            return false;
+        }
+    }
+    true
+}
+
+/// The cell of the set after those that have cells. It makes the tables on the way to that set.
 fn next_cell(
-    alloc: Global,
     instance: &Instance<'_>,
-    tables: &mut [Numbered],
+    tables: &mut [Table],
     seen: &mut PairNumbers,
     cells: &[Cell],
     set: Mask,
+    all_lawful: bool,
 ) -> Result<Cell, AllocError>
-    requires room { instance.now.bound + 1 < 2 ^ 32 }
+    requires search { IsPlainSearch instance.now }
     requires some { 0 < set }
     requires within { set < 2 ^ instance.now.problem.inputs }
     requires path { HoldPath instance.now.problem (set - 1) tables.old }
     requires cells { AreFirstCells instance.now set cells.now }
+    requires lawful { IsTrue all_lawful →
+        is_lawful instance.now.pairs.pairs (members instance.now.problem.inputs set) ≡ true }
     ensures path { OnOk result (HoldPath instance.now.problem set tables.new) }
     ensures cell { IfOk result (λ c. pair_of c ≡ cell_for instance.now set) }
 {
-    add_lowest(alloc, instance.problem(), tables, seen, set)?;
+    add_lowest(instance.problem(), tables, seen, set)?;
     let table = &tables[set.count_ones() as usize];
-    Ok(cell_of_set(instance, cells, &table.masks, set))
+    let lawful = all_lawful || instance.pairs().lawful(set);
+    let subfunctions = subfunctions_in(table, set);
+    Ok(cell_of_set(instance, cells, &subfunctions, set, lawful))
 }
 
 /// The cells of all sets, each at its set's mask.
 fn all_cells(alloc: Global, instance: &Instance<'_>) -> Result<Vec<Cell>, AllocError>
-    requires { instance.now.bound + 1 < 2 ^ 32 }
+    requires bound { instance.now.bound ≤ 2 ^ 20 }
+    requires bounded { IsBounded instance.now }
+    requires bound_above { instance.now.bound_above ≡ Variables }
     ensures { IfOk result (λ v. AreFlatCells instance.now v.items) }
 {
+    let all_lawful = all_are_lawful(instance);
     let mut tables = first_tables(alloc, instance.problem())?;
     let mut seen = PairNumbers::new(alloc)?;
     let sets = 1u32 << instance.inputs();
@@ -93,14 +133,14 @@ fn all_cells(alloc: Global, instance: &Instance<'_>) -> Result<Vec<Cell>, AllocE
     })?;
     for number in 1..sets {
         let set = number as Mask;
-        let cell = next_cell(alloc, instance, &mut tables, &mut seen, &cells, set)?;
+        let cell = next_cell(instance, &mut tables, &mut seen, &cells, set, all_lawful)?;
         cells.push(cell)?;
     }
     Ok(cells)
 }
 
 /// The first order of the fewest nodes among those that keep the pairs. It takes a step for each
-/// entry of the class tables of all sets, so it is for small problems.
+/// entry of the tables of all sets, so it is for small problems.
 pub fn find_optimum(
     alloc: Global,
     problem: &Problem,

@@ -1,70 +1,80 @@
-use Rattle.std.proofs.Common.{◌≡◌, ℕ, ◌+◌, ◌-◌, ◌*◌, ◌%◌, ◌^◌, ◌<◌, List, get_or, set, slice_index, sym, ap, ◌∙◌, subst, arith}
-use Rattle.std.proofs.lemmas.Bool.{iff_false}
-use Rattle.std.proofs.lemmas.Nat.{one_shl, pow_pos}
-use Rattle.std.proofs.lemmas.Nat.Bits.{shr_and_one}
+use Rattle.std.proofs.Common.{◌≡◌, ℕ, ◌+◌, Bool, true, false, refl, sym, ap, ◌∙◌, arith}
+use Rattle.std.proofs.lemmas.Bool.{true≢false}
+use Rattle.definitions.specs.BoundsAbove.{BoundsAboveOf, nodes_above}
+use Rattle.definitions.specs.Cells.{AreForCell, first_of}
 use Rattle.definitions.specs.Orders.{members}
 use Rattle.definitions.specs.Problems.{functions}
-use Rattle.definitions.specs.KeptPairs.{KeptPairs}
-use Rattle.definitions.specs.BoundsAbove.{BoundsAboveOf}
-use Rattle.definitions.specs.Cells.{AreForCell, cell_of}
+use Rattle.definitions.specs.declared.limits.BoundAbove.{BoundAbove}
+use Rattle.definitions.specs.declared.limits.BoundAbove.TheVariants.{Variables, Widths}
 use Rattle.definitions.specs.declared.limits.Limit.{Limit}
-use Rattle.subfunction_classes.proofs.CountedWidths.{width_is_dependent_classes}
-use Rattle.subset_layers.specs.Costs.{as_pair}
-use Rattle.subset_layers.proofs.CostLists.{bit_from_member, member_from_bit}
-use Rattle.solutions.specs.FlatCells.{no_cell}
-use Rattle.small_search.proofs.CellRows.{AreRowsBelow, IsMember, cost_at, cost_without, rows_all, rows_member, rows_other, width_without}
+use Rattle.layer_core.specs.Instances.{Instance}
+use Rattle.subset_layers.proofs.CellSteps.{cell_clipped, cell_found, first_has_mask, first_member}
+use Rattle.small_search.specs.FirstCells.{cost_without, width_without}
 use Rattle.small_search.proofs.cells.cell_of_set.Goals as goal
-use Rattle.small_search.proofs.cells.cell_of_set.Goals.{then-contains, else-contains}
+use Rattle.small_search.proofs.cells.cell_of_set.Goals.{then-lawful+in-Some+else-from-above, then-lawful+in_default, else-lawful}
 
-pub loop-x-preserved : goal.loop-x-preserved
-loop-x-preserved c =
+-- the sums are by the costs and widths that the cell takes
+for_cell : (t : Instance) (mask : ℕ) →
+    AreForCell t.problem.inputs (functions t.problem) t.pairs.pairs t.bound_above t.bound mask (cost_without t mask) (width_without t mask)
+for_cell t mask = record { are_costs = λ x m. refl; are_widths = λ l x a. refl }
+
+by_variables : BoundAbove → Bool
+by_variables Variables = true
+by_variables Widths = false
+
+-- the nodes above a set, counted by variables
+counted_above : {X : Type 0} → (t : Instance) (v : BoundsAboveOf) (mask result : ℕ) → v ≡ record { problem = t.problem; bound_above = t.bound_above } →
+    t.bound_above ≡ Variables →
+    ((v.bound_above ≡ Widths → X) →
+    result ≡ nodes_above v.problem.inputs (functions v.problem) v.bound_above (members v.problem.inputs mask)) →
+    result ≡ nodes_above t.problem.inputs (functions t.problem) t.bound_above (members t.problem.inputs mask)
+unfolding by_variables
+counted_above t v mask result e variables nodes =
+    nodes (λ w. absurd (true≢false (ap by_variables (sym variables ∙ sym (ap (λ (u : BoundsAboveOf). u.bound_above) e) ∙ w))))
+    ∙ ap (λ (u : BoundsAboveOf). nodes_above u.problem.inputs (functions u.problem) u.bound_above (members u.problem.inputs mask)) e
+
+pub returns-then-from-above : goal.returns-then-from-above
+returns-then-from-above c =
     let t = c.args.instance.now in
-    let n = t.problem.inputs in
     let mask = c.args.set in
-    let x = c.loop-x.x in
-    let e = c.inputs-x-end.ensures in
-    let below : x < n = omega (arith, e.value, c.loop-x-test.true) in
-    let shift = one_shl x 16 (omega (arith, e.few, e.value, below)) in
-    let p = pow_pos x in
-    let some = c.requires.some in
-    elim c.if-contains.branch [
-      | then-contains w ↦
-          let bit = shr_and_one mask x ∙ c.contains.ensures.0 w.if-contains.true in
-          let member : IsMember t mask x = member_from_bit n mask x below bit in
-          let at = cost_at t mask c.args.cells.now c.requires.cells (mask - 2 ^ x) (omega (arith, p, some)) in
-          let cost : (get_or c.args.cells.now (mask - 1 * 2 ^ x % 65536) no_cell).cost ≡ cost_without t mask x =
-          ap (λ k. (get_or c.args.cells.now (mask - k) no_cell).cost) shift ∙ at in
-          let width : w.count_with.result ≡ width_without t mask x =
-          w.count_with.ensures ∙ sym (width_is_dependent_classes n (functions t.problem) (members n mask) c.args.masks.now x below member c.requires.masks) in
-          subst (λ (us : List ℕ). AreRowsBelow t mask us c.if-contains.widths (x + 1)) (sym w.below-is)
-          (subst (λ (us : List ℕ). AreRowsBelow t mask (set c.loop-x.below x (get_or c.args.cells.now (mask - 1 * 2 ^ x % 65536) no_cell).cost) us (x + 1))
-          (sym w.widths-is)
-          (rows_member t mask c.loop-x.below c.loop-x.widths x _ w.count_with.result c.loop-x.invariant (omega (arith, e.few, e.value, below)) cost (λ m. width)
-          member))
-      | else-contains w ↦
-          subst (λ (us : List ℕ). AreRowsBelow t mask us c.if-contains.widths (x + 1)) (sym w.below-is)
-          (subst (λ (us : List ℕ). AreRowsBelow t mask c.loop-x.below us (x + 1)) (sym w.widths-is)
-          (rows_other t mask c.loop-x.below c.loop-x.widths x c.loop-x.invariant
-          (λ m. iff_false c.contains.ensures w.if-contains.false (sym (shr_and_one mask x) ∙ bit_from_member n mask x m))))
-    ]
+    let b = c.requires.search.bounded in
+    let is = counted_above t c.bounds_above.result.now mask c.above-above.result c.bounds_above.ensures c.requires.search.by_variables
+    c.above-above.ensures.nodes in
+    let best = c.in-Some.ensures.best in
+    let bound = ap (λ (l : Limit). l.bound) c.limit-bound.ensures in
+    let cost = c.from.ensures in
+    let limit = c.from-in-Some.ensures in
+    let room = c.if-from-above.true in
+    cell_found t.problem.inputs t.bound_above mask t.bound (cost_without t mask) (width_without t mask) (functions t.problem) t.pairs.pairs b.order b.is_order
+    b.keeps (for_cell t mask) c.above-above.result c.in-Some.best.cost c.in-Some.best.variable (sym c.requires.lawful ∙ c.if-lawful.true) is best
+    (omega (arith, bound, cost, limit, room))
 
 pub returns : goal.returns
 returns c =
     let t = c.args.instance.now in
     let mask = c.args.set in
-    let below = c.loop-x.below in
-    let widths = c.loop-x.widths in
-    let bound = c.limit.result.bound in
-    let cell = as_pair c.cell_from.result in
-    let own = subst (λ (v : BoundsAboveOf).
-    AreForCell v.problem.inputs (functions v.problem) c.pairs.result.now.pairs v.bound_above bound mask (slice_index below) (slice_index widths) →
-    cell ≡ cell_of v.problem.inputs (functions v.problem) c.pairs.result.now.pairs v.bound_above bound mask) c.bounds_above.ensures c.cell_from.ensures in
-    let kept = subst (λ (k : KeptPairs).
-    AreForCell t.problem.inputs (functions t.problem) k.pairs t.bound_above bound mask (slice_index below) (slice_index widths) →
-    cell ≡ cell_of t.problem.inputs (functions t.problem) k.pairs t.bound_above bound mask) c.pairs.ensures.value own in
-    let bounded = subst (λ (l : Limit).
-    AreForCell t.problem.inputs (functions t.problem) t.pairs.pairs t.bound_above l.bound mask (slice_index below) (slice_index widths) →
-    cell ≡ cell_of t.problem.inputs (functions t.problem) t.pairs.pairs t.bound_above l.bound mask) c.limit.ensures kept in
-    let v = c.inputs-x-end.ensures.value in
-    let f = c.loop-x-test.false in
-    bounded (rows_all t mask below widths c.loop-x.x c.loop-x.invariant (omega (arith, v, f)))
+    let n = t.problem.inputs in
+    let F = functions t.problem in
+    let P = t.pairs.pairs in
+    let b = c.requires.search.bounded in
+    let bound = ap (λ (l : Limit). l.bound) c.limit-bound.ensures in
+    let first = first_member n mask c.requires.some (omega arith) c.requires.within in
+    let m = first_has_mask n mask c.requires.some (omega arith) c.requires.within in
+    let clipped = cell_clipped n t.bound_above mask t.bound (cost_without t mask) (width_without t mask) F P b.order b.is_order b.keeps (for_cell t mask) in
+    (λ i. (bound i + 1, first i)) ∙ elim c.if-lawful.branch [
+      | then-lawful+in-Some+else-from-above w ↦
+          let is = counted_above t w.bounds_above.result.now mask w.above-above.result w.bounds_above.ensures c.requires.search.by_variables
+          w.above-above.ensures.nodes in
+          let best = w.in-Some.ensures.best in
+          let cost = w.from.ensures in
+          let limit = w.from-in-Some.ensures in
+          let over = w.if-from-above.false in
+          clipped w.above-above.result (first_of (members n mask)) m is
+          (λ low y h le. let l = best.least y h le in omega (arith, l, cost, limit, over, bound))
+      | then-lawful+in_default w ↦
+          clipped (nodes_above n F t.bound_above (members n mask)) (first_of (members n mask)) m refl
+          (λ low y h le. let f = w.in_default.ensures.none y h in omega (arith, f, le))
+      | else-lawful w ↦
+          clipped (nodes_above n F t.bound_above (members n mask)) (first_of (members n mask)) m refl
+          (λ low. absurd (true≢false (sym low ∙ sym c.requires.lawful ∙ w.if-lawful.false)))
+    ]

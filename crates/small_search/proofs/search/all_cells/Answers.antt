@@ -1,15 +1,15 @@
-use Rattle.std.proofs.Common.{◌≡◌, ℕ, ◌+◌, ◌-◌, ◌≤◌, inl, inr, List, [], ◌∷◌, ◌++◌, length, take, drop, refl, sym, ap, ◌∙◌, subst, arith}
-use Rattle.std.proofs.Math.Seq.{take-append_seam}
+use Rattle.std.proofs.Common.{◌≡◌, ℕ, ◌+◌, ◌-◌, ◌≤◌, inl, inr, List, [], ◌∷◌, ◌++◌, length, refl, sym, ap, ◌∙◌, subst, arith}
 use Rattle.std.proofs.lemmas.Bool.{cases_lt}
 use Rattle.std.proofs.lemmas.List.{length-append, get_or_append_left, get_or_push}
 use Rattle.definitions.specs.Problems.{TruthTables}
-use Rattle.pair_chains.specs.declared.numbering.Numbered.{Numbered}
 use Rattle.subset_layers.specs.declared.costs.Cell.{Cell}
 use Rattle.layer_core.specs.Pairing.{pair_of}
 use Rattle.layer_core.specs.Instances.{Instance, cell_for}
 use Rattle.solutions.specs.FlatCells.{no_cell}
 use Rattle.small_search.specs.FirstCells.{AreFirstCells}
 use Rattle.small_search.specs.Paths.{HoldPath}
+use Rattle.small_search.specs.declared.tables.Table.{Table}
+use Rattle.small_search.proofs.PathSteps.{lent}
 use Rattle.small_search.proofs.search.all_cells.Goals as goal
 
 -- the cell of the empty set
@@ -40,10 +40,6 @@ cells_more t number cells cell some h is = record {
       ];
 }
 
--- what was lent comes back
-lent : (len : ℕ) (new old : List Numbered) → length new ≡ length old → len ≡ length old → take len (new ++ drop (length new) old) ≡ new
-lent len new old a b = ap (λ k. take k (new ++ drop (length new) old)) (b ∙ sym a) ∙ take-append_seam new (drop (length new) old)
-
 pub loop-number-preserved : goal.loop-number-preserved
 loop-number-preserved c =
     let t = c.args.instance.now in
@@ -57,7 +53,7 @@ loop-number-preserved c =
     let same = lent c.loop-number.tables.len new old (omega (arith, before, after)) (sym d.len ∙ ap length d.value) in
     let more = cells_more t number c.loop-number.cells.items c.in_ok-cell.cell c.loop-number.auto.number c.loop-number.invariant.cells h.cell in
     record {
-      path = subst (λ (us : List Numbered). HoldPath t.problem (number + 1 - 1) us) (sym same)
+      path = subst (λ (us : List Table). HoldPath t.problem (number + 1 - 1) us) (sym same)
           (subst (λ (k : ℕ). HoldPath t.problem k new) (let e : number ≡ number + 1 - 1 = omega arith in e) h.path);
       cells = subst (λ (us : List Cell). AreFirstCells t (number + 1) us) (sym c.in_ok-push-2.ensures.items) more;
     }

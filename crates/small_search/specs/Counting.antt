@@ -1,0 +1,27 @@
+-- Sets of values over up to three variables, in four words: a bit for each of the 256.
+--     is_in words v      whether a value is in a set
+--     AreOccurring values words      a set has those values of a list that are below 256
+--     AreDependent place words      a set has the values over three variables that depend on the variable at a place
+--     is_dependent_in words place v, dependents_in words place      a value of a set depends on that variable; how many do
+use Rattle.std.specs.Prelude.{◌≡◌, ℕ, ◌/◌, ◌%◌, ◌<◌, ◌==◌, ◌&&◌, Bool, List, length, slice_index}
+use Rattle.std.specs.List.{filter, range_with_len}
+use Rattle.std.specs.Int.{bit_at}
+use Rattle.definitions.specs.Orders.{has}
+use Rattle.small_search.specs.Values.{places}
+
+abbrev pub is_in : List ℕ → ℕ → Bool
+is_in words v = bit_at (slice_index words (v / 64)) (v % 64) == 1
+
+pub record AreOccurring (values words : List ℕ) : Type 0 where
+  pub four : length words ≡ 4
+  pub each : (v : ℕ) → v < 256 → is_in words v ≡ has values v
+
+pub record AreDependent (place : ℕ) (words : List ℕ) : Type 0 where
+  pub four : length words ≡ 4
+  pub each : (v : ℕ) → v < 256 → is_in words v ≡ (bit_at (places 3 v) place == 1)
+
+abbrev pub is_dependent_in : List ℕ → ℕ → ℕ → Bool
+is_dependent_in words place v = is_in words v && (bit_at (places 3 v) place == 1)
+
+unfoldable pub dependents_in : List ℕ → ℕ → ℕ
+dependents_in words place = length (filter (is_dependent_in words place) (range_with_len 0 256))

@@ -1,0 +1,162 @@
+//! Class tables of sets of four variables, from the values over three of them.
+
+ghost use Rattle.std.specs.Prelude.{◌≡◌, ◌<◌, ◌+◌, ◌*◌, ◌/◌, ◌^◌, ◌≤◌, count_ones, get_or, if◌then◌else◌, ◌==◌, length, map, slice_index, ℕ, OnOk};
+ghost use Rattle.std.specs.Int.{bit_at};
+ghost use Rattle.definitions.specs.Orders.{members};
+ghost use Rattle.subfunction_classes.specs.PairTables.{AllBelow, IsPaired};
+ghost use Rattle.subfunction_classes.specs.Places as places_of_pairs;
+ghost use Rattle.small_search.specs.ClassesOfValues.{NumbersValues};
+ghost use Rattle.small_search.specs.Values.{mask_at, mask_over, places};
+
+use order_model::{Mask, VarIx};
+use pair_chains::{Numbered, PairNumbers};
+use std::alloc::AllocError;
+
+/// An odd number whose multiples spread over the words of 32 bits.
+const SPREAD: u32 = 2_654_435_761;
+
+/// There are at least so many buckets for each pair, so that most pairs are the first of theirs.
+const BUCKETS_EACH: usize = 8;
+
+/// The places of the variables that each value over three depends on, as a mask.
+const PLACES: [u8; 256] = [
+    0, 7, 7, 6, 7, 5, 7, 7, 7, 7, 5, 7, 6, 7, 7, 4, 7, 3, 7, 7, 7, 7, 7, 7, 7, 7, 7, 7, 7, 7, 7, 7,
+    7, 7, 3, 7, 7, 7, 7, 7, 7, 7, 7, 7, 7, 7, 7, 7, 6, 7, 7, 2, 7, 7, 7, 7, 7, 7, 7, 7, 6, 7, 7, 6,
+    7, 7, 7, 7, 3, 7, 7, 7, 7, 7, 7, 7, 7, 7, 7, 7, 5, 7, 7, 7, 7, 1, 7, 7, 7, 7, 5, 7, 7, 7, 7, 5,
+    7, 7, 7, 7, 7, 7, 3, 7, 7, 7, 7, 7, 7, 7, 7, 7, 7, 7, 7, 7, 7, 7, 7, 3, 7, 7, 7, 7, 7, 7, 7, 7,
+    7, 7, 7, 7, 7, 7, 7, 7, 3, 7, 7, 7, 7, 7, 7, 7, 7, 7, 7, 7, 7, 7, 7, 7, 7, 3, 7, 7, 7, 7, 7, 7,
+    5, 7, 7, 7, 7, 5, 7, 7, 7, 7, 1, 7, 7, 7, 7, 5, 7, 7, 7, 7, 7, 7, 7, 7, 7, 7, 7, 3, 7, 7, 7, 7,
+    6, 7, 7, 6, 7, 7, 7, 7, 7, 7, 7, 7, 2, 7, 7, 6, 7, 7, 7, 7, 7, 7, 7, 7, 7, 7, 7, 7, 7, 3, 7, 7,
+    7, 7, 7, 7, 7, 7, 7, 7, 7, 7, 7, 7, 7, 7, 3, 7, 4, 7, 7, 6, 7, 5, 7, 7, 7, 7, 5, 7, 6, 7, 7, 0,
+];
+
+/// The places of the variables that a value over three depends on.
+#[inline(always)]
+fn places_of(value: u32) -> u8
+    requires { value < 256 }
+    ensures places { result ≡ places 3 value }
+    ensures few { result < 8 }
+{
+    PLACES[value as usize]
+}
+
+/// The places of the variables that a joined value over four depends on.
+#[inline(always)]
+fn joined_places(pair: (u32, u32)) -> u8
+    requires lower { pair.0 < 256 }
+    requires upper { pair.1 < 256 }
+    ensures places { result ≡ places 4 (pair.0 + pair.1 * 256) }
+    ensures few { result < 16 }
+{
+    let halves = places_of(pair.0) | places_of(pair.1);
+    if pair.0 == pair.1 { halves } else { halves | 8 }
+}
+
+/// The variables of a set of four, the lowest first.
+fn variables_of(set: Mask) -> [VarIx; 4]
+    requires { count_ones set ≡ 4 }
+    ensures { result ≡ members 16 set }
+{
+    let mut variables = [0; 4];
+    let mut rest = set;
+    for i in 0..4 {
+        let x = rest.trailing_zeros() as VarIx;
+        variables[i] = x;
+        rest -= 1 << x;
+    }
+    variables
+}
+
+/// A variable as a mask, if the bit of its place is 1.
+#[inline(always)]
+fn variable_at(places: u8, place: u32, x: VarIx) -> Mask
+    requires place { place < 8 }
+    requires variable { x < 16 }
+    ensures { result ≡ (if bit_at places place == 1 then 2 ^ x else 0) }
+{
+    Mask::from((places >> place) & 1) << x
+}
+
+/// The variables at places, as a mask; the first variable has the highest place.
+#[inline(always)]
+fn mask_of_places(variables: &[VarIx; 4], places: u8) -> Mask
+    requires { AllBelow variables.now 16 }
+    ensures { result ≡ mask_at variables.now places }
+{
+    variable_at(places, 0, variables[3])
+        | variable_at(places, 1, variables[2])
+        | variable_at(places, 2, variables[1])
+        | variable_at(places, 3, variables[0])
+}
+
+/// The masks of all sets of places.
+fn masks_by_places(variables: &[VarIx; 4]) -> [Mask; 16]
+    requires { AllBelow variables.now 16 }
+    ensures { (q : ℕ) → q < 16 → slice_index result q ≡ mask_at variables.now q }
+{
+    let mut masks = [0; 16];
+    for places in 0..16u8 {
+        masks[places as usize] = mask_of_places(variables, places);
+    }
+    masks
+}
+
+/// Writes what the joined values of pairs depend on.
+fn write_masks(
+    pairs: &PairNumbers,
+    variables: &[VarIx; 4],
+    masks: &mut Vec<Mask>,
+) -> Result<(), AllocError>
+    requires variables { AllBelow variables.now 16 }
+    requires lower { (k : ℕ) → k < length pairs.now → (get_or pairs.now k (0, 0)).0 < 256 }
+    requires upper { (k : ℕ) → k < length pairs.now → (get_or pairs.now k (0, 0)).1 < 256 }
+    ensures { OnOk result (masks.new.items
+        ≡ map (λ p. mask_at variables.now (places 4 (p.0 + p.1 * 256))) pairs.now) }
+{
+    let by_places = masks_by_places(variables);
+    let count = pairs.len();
+    masks.resize(count, 0)?;
+    for k in 0..count {
+        masks[k] = by_places[joined_places(pairs.pair(k)) as usize];
+    }
+    Ok(())
+}
+
+/// Pair `j` of the values, which differ in x; the set has no variable below x.
+#[inline(always)]
+fn value_pair(values: &[u8], x: VarIx, j: usize) -> (u32, u32)
+    requires paired { IsPaired values.now x }
+    requires place { j < length values.now / 2 }
+    ensures { result ≡ places_of_pairs.pair_at values.now (2 ^ x) j }
+{
+    let step = 1usize << x;
+    let low = 2 * j - (j & (step - 1));
+    (u32::from(values[low]), u32::from(values[low + step]))
+}
+
+/// Writes the class table of a set of four variables, from the values of the set without its lowest
+/// one. `seen` is memory to work in.
+pub(crate) fn number_values(
+    values: &[u8],
+    x: VarIx,
+    set: Mask,
+    seen: &mut PairNumbers,
+    to: &mut Numbered,
+) -> Result<(), AllocError>
+    requires paired { IsPaired values.now x }
+    requires few { length values.now ≤ 2 ^ 20 }
+    requires below { AllBelow values.now 256 }
+    requires four { count_ones set ≡ 4 }
+    ensures { OnOk result
+        (NumbersValues (members 16 set) values.now x to.new.numbers.items to.new.masks.items) }
+{
+    let half = values.len() / 2;
+    seen.restart(SPREAD, (BUCKETS_EACH * half + 1).next_power_of_two())?;
+    to.numbers.resize(half, 0)?;
+    for j in 0..half {
+        let number = seen.insert(value_pair(values, x, j))?;
+        to.numbers[j] = number;
+    }
+    write_masks(seen, &variables_of(set), &mut to.masks)?;
+    Ok(())
+}

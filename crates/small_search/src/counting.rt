@@ -1,0 +1,85 @@
+//! The widths into a set, from its different subfunctions.
+
+ghost use Rattle.std.specs.Prelude.{◌≡◌, ◌^◌, ◌<◌, ◌≤◌};
+ghost use Rattle.definitions.specs.Orders.{without};
+ghost use Rattle.definitions.specs.Problems.{functions};
+ghost use Rattle.definitions.specs.Widths.{width};
+ghost use Rattle.subfunction_classes.specs.Table.{ClassesOf, set_of};
+ghost use Rattle.small_search.specs.Counting.{AreDependent, dependents_in};
+ghost use Rattle.small_search.specs.Occurrences.{AreOf, CanBeCounted, IsAtPlace};
+
+use order_model::{Mask, VarIx};
+use subfunction_classes::count_with;
+
+/// The different subfunctions over a set.
+#[derive(Drop)]
+pub(crate) enum Subfunctions<'a> {
+    /// Which values over up to three variables occur, a bit for each.
+    Values([u64; 4]),
+    /// What each class depends on.
+    Classes(&'a [Mask]),
+}
+
+/// Of the values over three variables those that depend on the variable at each place, a bit for
+/// each. A value over fewer variables depends on those at its own places as the same number does
+/// over three.
+const DEPENDENT: [[u64; 4]; 3] = [
+    [
+        0x6ff6ffffffff6ff6,
+        0xffffffffffffffff,
+        0xffffffffffffffff,
+        0x6ff6ffffffff6ff6,
+    ],
+    [
+        0xffffffffffff7bde,
+        0xffffffff7bdeffff,
+        0xffff7bdeffffffff,
+        0x7bdeffffffffffff,
+    ],
+    [
+        0xfff7fffbfffdfffe,
+        0xff7fffbfffdfffef,
+        0xf7fffbfffdfffeff,
+        0x7fffbfffdfffefff,
+    ],
+];
+
+/// The values that depend on the variable at a place.
+fn dependent_values(place: u32) -> [u64; 4]
+    requires { place < 3 }
+    ensures { AreDependent place result }
+{
+    DEPENDENT[place as usize]
+}
+
+/// How many of the values that occur depend on the variable at a place.
+#[inline(always)]
+pub(crate) fn count_dependent(occurring: &[u64; 4], place: u32) -> u32
+    requires { place < 3 }
+    ensures dependents { result ≡ dependents_in occurring.now place }
+    ensures few { result ≤ 256 }
+{
+    let dependent = dependent_values(place);
+    let mut count = 0;
+    for i in 0..4 {
+        count += (occurring[i] & dependent[i]).count_ones();
+    }
+    count
+}
+
+impl<'a> Subfunctions<'a> {
+    /// How many depend on a member of the set, whose place is the number of greater members.
+    #[inline(always)]
+    pub(crate) fn width(&self, x: VarIx, place: u32) -> u32
+        requires variable { x < 16 }
+        requires counted { CanBeCounted self.now place }
+        ensures width { (t : ClassesOf) → AreOf t self.now → IsAtPlace t x place →
+            result ≡ width t.problem.inputs (functions t.problem) (without x (set_of t)) x }
+        ensures few { result ≤ 2 ^ 20 }
+    {
+        match self {
+            Subfunctions::Values(occurring) => count_dependent(occurring, place),
+            Subfunctions::Classes(masks) => count_with(masks, x),
+        }
+    }
+}

@@ -1,0 +1,114 @@
+//! Values: the truth tables of subfunctions of up to three variables, a byte each. The lowest
+//! variable of the set stands for the highest bit of a point's number.
+
+ghost use Rattle.std.specs.Prelude.{◌≡◌, ◌*◌, ◌/◌, ◌^◌, ◌<◌, ◌≤◌, ◌++◌, map, length, IfOk, OnOk};
+ghost use Rattle.definitions.specs.Functions.{weight};
+ghost use Rattle.definitions.specs.Problems.{table_in, words_per_table};
+ghost use Rattle.subfunction_classes.specs.PairTables.{AllBelow, IsPaired};
+ghost use Rattle.subfunction_classes.specs.Values.{row, values_of};
+ghost use Rattle.small_search.specs.Joining.{AreJoined};
+ghost use Rattle.small_search.specs.Counting.{AreOccurring};
+
+use order_model::packed::bit_of;
+use order_model::{Problem, VarIx};
+use std::alloc::{AllocError, Global};
+
+/// Adds a function's values at all points, which stand packed in words of 64.
+fn push_values(values: &mut Vec<u8>, words: &[u64], inputs: u8) -> Result<(), AllocError>
+    requires few { inputs ≤ 16 }
+    requires long { length words.now ≡ words_per_table inputs }
+    ensures { OnOk result
+        (values.new.items ≡ values.old.items ++ map weight (row inputs (table_in inputs words.now))) }
+{
+    for point in 0..1usize << inputs {
+        values.push(u8::from(bit_of(words, point)))?;
+    }
+    Ok(())
+}
+
+/// The values of all functions at all points, function by function.
+pub(crate) fn point_values(alloc: Global, problem: &Problem) -> Result<Vec<u8>, AllocError>
+    ensures { IfOk result (λ v. v.items ≡ map weight (values_of problem.now)) }
+{
+    prove!(problem.inputs() <= 16);
+    prove!(problem.outputs() <= 16);
+    let entries = (problem.outputs() as usize) << problem.inputs();
+    let mut values = Vec::with_capacity(alloc, entries)?;
+    for output in 0..problem.outputs() {
+        push_values(&mut values, problem.words(output), problem.inputs())?;
+    }
+    Ok(values)
+}
+
+/// Joins the values of pairs, which stand in blocks of `step`. A value has `shift` bits.
+#[inline(always)]
+fn join_blocks(before: &[u8], x: VarIx, step: usize, shift: u32, values: &mut [u8])
+    requires paired { IsPaired before.now x }
+    requires step { step ≡ 2 ^ x }
+    requires shift { shift ≤ 4 }
+    requires below { AllBelow before.now (2 ^ shift) }
+    requires long { length values.old ≡ length before.now / 2 }
+    ensures { AreJoined before.now x (2 ^ shift) values.new }
+{
+    for block in 0..values.len() / step {
+        for i in 0..step {
+            let low = before[block * 2 * step + i];
+            let high = before[block * 2 * step + i + step];
+            values[block * step + i] = low + (high << shift);
+        }
+    }
+}
+
+/// Joins the values of pairs that differ in x, below which the set has no variable. A value has
+/// `shift` bits. Small steps have a loop each, which is faster.
+pub(crate) fn join_values(before: &[u8], x: VarIx, shift: u32, values: &mut [u8])
+    requires paired { IsPaired before.now x }
+    requires shift { shift ≤ 4 }
+    requires below { AllBelow before.now (2 ^ shift) }
+    requires long { length values.old ≡ length before.now / 2 }
+    ensures { AreJoined before.now x (2 ^ shift) values.new }
+{
+    match x {
+        0 => join_blocks(before, 0, 1, shift, values),
+        1 => join_blocks(before, 1, 2, shift, values),
+        2 => join_blocks(before, 2, 4, shift, values),
+        _ => join_blocks(before, x, 1usize << x, shift, values),
+    }
+}
+
+/// Which values occur, a bit for each. All are below 64.
+#[inline(always)]
+fn few_occurring(values: &[u8]) -> [u64; 4]
+    requires { AllBelow values.now 64 }
+    ensures { AreOccurring values.now result }
+{
+    let mut found = 0;
+    for value in values {
+        found |= 1u64 << (*value & 63);
+    }
+    [found, 0, 0, 0]
+}
+
+/// Which values occur, a bit for each.
+#[inline(always)]
+fn all_occurring(values: &[u8]) -> [u64; 4]
+    ensures { AreOccurring values.now result }
+{
+    let mut found = [0; 4];
+    for value in values {
+        found[(*value >> 6) as usize] |= 1u64 << (*value & 63);
+    }
+    found
+}
+
+/// Which values over `size` variables occur, a bit for each.
+pub(crate) fn occurring(values: &[u8], size: u32) -> [u64; 4]
+    requires { size ≤ 2 → AllBelow values.now 64 }
+    ensures { AreOccurring values.now result }
+{
+    if size <= 2 {
+        few_occurring(values)
+    } else {
+        all_occurring(values)
+    }
+}
