@@ -3,14 +3,16 @@
 
 So `minorder --count` tells that order's size.
 
-A file that minorder refuses and an ORDER that hasn't each input of the file once are refused, with status 2."""
+A file that minorder refuses and an ORDER that hasn't each input of the file once are refused, with status 2. minorder's library
+reads the file."""
 import os
 import signal
 import sys
 
 sys.path.insert(0, f"{os.path.dirname(os.path.abspath(__file__))}/../bindings/python")
+from minorder import BadPla, NoLibrary  # noqa: E402
 from minorder._orders import fault_of  # noqa: E402
-from minorder.files import BadPla, cover_of  # noqa: E402
+from minorder.files import pla_of  # noqa: E402
 
 
 def refuse(message):
@@ -18,15 +20,18 @@ def refuse(message):
     sys.exit(2)
 
 
-def permuted(content, cover, order):
-    """The file's content with the inputs of its names and terms in the order."""
+def permuted(content, order):
+    """A file's content, which minorder reads, with the inputs of its names and terms in the order."""
     lines = content.split(b"\n")
-    for term in cover.terms:
-        left, right = term.characters[:cover.inputs], term.characters[cover.inputs:]
-        lines[term.line - 1] = bytes(left[x] for x in order) + b" " + right
-    if cover.input_names:
-        at = next(i for i, line in enumerate(lines) if line.split(b"#")[0].split()[:1] == [b".ilb"])
-        lines[at] = " ".join([".ilb", *(cover.input_names[x] for x in order)]).encode()
+    for at, line in enumerate(lines):
+        words = line.partition(b"#")[0].split()
+        if words[:1] in ([b".e"], [b".end"]):
+            break
+        if words[:1] == [b".ilb"]:
+            lines[at] = b" ".join([b".ilb", *(words[1 + x] for x in order)])
+        elif words and not words[0].startswith(b"."):
+            term = b"".join(words).replace(b"|", b"")
+            lines[at] = bytes(term[x] for x in order) + b" " + term[len(order):]
     return b"\n".join(lines)
 
 
@@ -39,13 +44,15 @@ def main():
         refuse("which ORDER? --help says how it is written")
     content = sys.stdin.buffer.read()
     try:
-        cover = cover_of(content)
+        inputs = len(pla_of(content).inputs)
     except BadPla as fault:
         refuse(f"the file: {fault}")
-    fault = fault_of(words, cover.inputs)
+    except NoLibrary as fault:
+        refuse(fault)
+    fault = fault_of(words, inputs)
     if fault:
         refuse(fault)
-    sys.stdout.buffer.write(permuted(content, cover, [int(word) for word in words]))
+    sys.stdout.buffer.write(permuted(content, [int(word) for word in words]))
 
 
 if __name__ == "__main__":

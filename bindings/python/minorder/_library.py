@@ -1,6 +1,6 @@
 """The shared library and the types of its calls."""
 import os
-from ctypes import CDLL, POINTER, Structure, c_size_t, c_uint8, c_uint32, c_uint64
+from ctypes import CDLL, POINTER, Structure, c_char_p, c_size_t, c_uint8, c_uint32, c_uint64
 from ctypes.util import find_library
 from threading import Lock
 from typing import Iterator, Optional
@@ -27,6 +27,16 @@ class Judged(Structure):
     _fields_ = [("reason", c_uint32), ("mask", c_uint32), ("variable", c_uint32)]
 
 
+class Name(Structure):
+    """minorder_name."""
+    _fields_ = [("start", c_size_t), ("length", c_size_t)]
+
+
+class Fault(Structure):
+    """minorder_fault."""
+    _fields_ = [("line", c_size_t), ("kind", c_uint32)]
+
+
 TABLES = [POINTER(c_uint64), c_size_t, c_uint32, c_uint32]
 ORDER = [POINTER(c_uint8), c_size_t]
 LEVELS = [POINTER(c_uint32), c_size_t]
@@ -42,6 +52,10 @@ CALLS = {
     "minorder_exact_many_with_lengths": [*TABLES, *ORDER, *LEVELS, *LEVELS],
     "minorder_check_total_with_pairs": [
         *TABLES, POINTER(c_uint8), c_size_t, POINTER(Judged), *TOTAL, POINTER(Pair), c_size_t, POINTER(c_size_t)],
+    "minorder_read_pla_with_lengths": [
+        c_char_p, c_size_t, *TOTAL, *TOTAL, POINTER(Name), c_size_t, POINTER(Name), c_size_t, POINTER(c_uint64), c_size_t,
+        POINTER(Fault)],
+    "minorder_fault_text": [c_uint32],
 }
 
 _lock = Lock()
@@ -72,7 +86,7 @@ def _load() -> CDLL:
             loaded = CDLL(path)
             for name, arguments in CALLS.items():
                 call = getattr(loaded, name)
-                call.argtypes, call.restype = arguments, c_uint32
+                call.argtypes, call.restype = arguments, c_char_p if name.endswith("_text") else c_uint32
             return loaded
         except OSError as error:
             if any(words in str(error).lower() for words in NO_ROOM):

@@ -12,7 +12,7 @@ from typing import Optional, Sequence
 
 from . import _ends
 from ._calls import levels
-from ._errors import BadPla
+from ._errors import BadPla, NoLibrary
 from ._orders import fault_of, numbered, orders_of
 from ._tables import Pla
 from ._writing import named
@@ -26,6 +26,8 @@ def read(path: str) -> Pla:
         return read_pla(path)
     except BadPla as fault:
         raise _ends.Refused(_ends.REFUSED, fault) from None
+    except NoLibrary:
+        raise
     except OSError as error:
         raise named(error, path) from None
 

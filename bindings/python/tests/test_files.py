@@ -1,5 +1,4 @@
-"""The reader of PLA files and the faults of certificates beside random_tests/plain.py, reports, and values; none of it
-calls the library.
+"""The reader of PLA files and the faults of certificates beside random_tests/plain.py, reports, and values.
 
     python3 -m unittest discover -s bindings/python/tests -p test_files.py
 """
@@ -61,23 +60,12 @@ class Pla(unittest.TestCase):
         self.assertEqual((caught.exception.line, caught.exception.kind), (None, "TooLong"))
         self.assertEqual(str(pickle.loads(pickle.dumps(caught.exception))), "TooLong")
 
-    def test_wide_products(self):
-        rows = ["-" * 16 + " 01", "1" + "-" * 15 + " 10", "-" * 15 + "1 10", "0" * 16 + " 11", "2" * 9 + "1010101 10"]
-        (first, second), _, _ = files.pla_of(("\n".join([".i 16", ".o 2", *rows]) + "\n").encode())
-        wanted = sum(1 << p for p in range(1 << 16) if p & 1 or p >> 15 or not p or p >> 9 == 0b1010101)
-        self.assertEqual((first, second), (wanted, (1 << (1 << 16)) - 1))
-
-    def test_long_files(self):
-        head, terms = ".i 3\n.o 2\n", "".join(f"0-1 1~ \n\n\t1{i % 2}|0|01\r\n" for i in range(10_000))
-        tables, _, _ = files.pla_of((head + terms).encode())
-        self.assertEqual(tables, (0b1010000, 0b1010))
-        faults = {"0-1 1": "ShortTerm", "0-1 111": "LongTerm", "0x1 11": "BadInputChar", "0-1 1-": "DontCare", "|": "ShortTerm"}
-        for fault, kind in faults.items():
-            with self.assertRaises(minorder.BadPla) as caught:
-                files.pla_of((head + terms + fault + "\n" + terms).encode())
-            self.assertEqual((caught.exception.line, caught.exception.kind), (30_003, kind))
-        cover = files.cover_of((head + "# a comment\n" + terms).encode())
-        self.assertEqual([*cover.terms][-1], files.Term(30_003, b"11001"))
+    def test_the_most_inputs_and_outputs(self):
+        rows = ["-" * 16 + " " + "0" * 15 + "1", "1" + "-" * 15 + " 1" + "0" * 15, "-" * 15 + "1 1" + "0" * 15]
+        tables, inputs, outputs = files.pla_of(("\n".join([".i 16", ".o 16", *rows]) + "\n").encode())
+        first = sum(1 << p for p in range(1 << 16) if p & 1 or p >> 15)
+        self.assertEqual(tables, (first, *[0] * 14, (1 << (1 << 16)) - 1))
+        self.assertEqual((inputs[-1], outputs[-1]), ("x15", "f15"))
 
     def test_random_files_and_certificates(self):
         source = random_texts.Files(random.Random(5))
