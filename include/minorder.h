@@ -222,7 +222,8 @@ MINORDER_INLINE uint32_t minorder_check_total(const uint64_t *tables, size_t wor
                                            room == 0 ? &no_pair : pairs, room, count);
 }
 
-/* A name, as a part of a text: the place of its first byte, and how many bytes it has; 0 and 0 where there is no name. */
+/* A name, as a part of a text that spells it: the place of its first byte, and how many bytes it has; 0 and 0 where there is no
+   name. */
 typedef struct {
     size_t start, length;
 } minorder_name;
@@ -255,10 +256,10 @@ uint32_t minorder_read_pla_with_lengths(const uint8_t *text, size_t length, uint
                                         minorder_name *output_names, size_t output_places,
                                         uint64_t *tables, size_t room, minorder_fault *fault);
 
-/* Reads the text of a PLA file of so many bytes, as minorder does: writes its numbers of inputs and outputs, its names as parts of
-   the text, and the truth tables of its functions, `outputs` times minorder_words(inputs) words of the `room` in `tables`. If there
-   is less room, all but the tables is written and the call returns MINORDER_SHORT_TEXT. Of a text that is no PLA file only the first
-   fault is written, and the call returns MINORDER_BAD_PLA. Without bytes `text` may be null, and without room `tables`. */
+/* Reads the text of a PLA file of so many bytes, as minorder does: writes its numbers of inputs and outputs, parts of the text that
+   spell its names, and the truth tables of its functions, `outputs` times minorder_words(inputs) words of the `room` in `tables`. If
+   there is less room, all but the tables is written and the call returns MINORDER_SHORT_TEXT. Of a text that is no PLA file only the
+   first fault is written, and the call returns MINORDER_BAD_PLA. Without bytes `text` may be null, and without room `tables`. */
 MINORDER_INLINE uint32_t minorder_read_pla(const char *text, size_t length, minorder_pla *pla, uint64_t *tables, size_t room,
                                            minorder_fault *fault) {
     const uint8_t no_text = 0;

@@ -300,8 +300,9 @@ static uint32_t read_text(const char *text, minorder_pla *pla, uint64_t *tables,
     return minorder_read_pla(text, strlen(text), pla, tables, room, fault);
 }
 
-static int is_name(const char *text, minorder_name name, const char *wanted) {
-    return name.length == strlen(wanted) && memcmp(text + name.start, wanted, name.length) == 0;
+/* whether a name is the one that this part of the text begins with */
+static int is_name(const char *text, minorder_name name, const char *wanted, const char *part) {
+    return name.length == strlen(wanted) && memcmp(text + name.start, wanted, name.length) == 0 && text + name.start == strstr(text, part);
 }
 
 static int is_fault(const char *text, size_t line, const char *kind) {
@@ -320,8 +321,8 @@ static void pla_files(void) {
     memset(&pla, 66, sizeof pla);
     EXPECT(read_text(named, &pla, tables, 3, &fault) == MINORDER_DONE);
     EXPECT(pla.inputs == 2 && pla.outputs == 2 && tables[0] == 6 && tables[1] == 8 && tables[2] == 55);
-    EXPECT(is_name(named, pla.input_names[0], "a") && is_name(named, pla.input_names[1], "b"));
-    EXPECT(is_name(named, pla.output_names[0], "sum") && is_name(named, pla.output_names[1], "carry"));
+    EXPECT(is_name(named, pla.input_names[0], "a", "a b\n") && is_name(named, pla.input_names[1], "b", "b\n"));
+    EXPECT(is_name(named, pla.output_names[0], "sum", "sum") && is_name(named, pla.output_names[1], "carry", "carry"));
     for (int i = 2; i < 16; i++)
         EXPECT(pla.input_names[i].start == 0 && pla.input_names[i].length == 0 && pla.output_names[i].length == 0);
 
@@ -329,8 +330,14 @@ static void pla_files(void) {
     memset(&pla, 66, sizeof pla);
     tables[0] = 55;
     EXPECT(read_text(named, &pla, tables, 1, &fault) == MINORDER_SHORT_TEXT && tables[0] == 55);
-    EXPECT(pla.inputs == 2 && pla.outputs == 2 && is_name(named, pla.output_names[1], "carry"));
+    EXPECT(pla.inputs == 2 && pla.outputs == 2 && is_name(named, pla.output_names[1], "carry", "carry"));
     EXPECT(read_text(named, &pla, NULL, 0, &fault) == MINORDER_SHORT_TEXT && fault.line == 99);
+
+    /* a name at the text's end */
+    const char *cut = "# f g\n.i 1\n.o 2\n.ob f g";
+    EXPECT(read_text(cut, &pla, tables, 2, &fault) == MINORDER_DONE);
+    EXPECT(pla.output_names[0].start == strlen(cut) - 3 && pla.output_names[0].length == 1);
+    EXPECT(pla.output_names[1].start == strlen(cut) - 1 && pla.output_names[1].length == 1);
 
     /* no names */
     EXPECT(read_text(".i 1\n.o 1\n", &pla, tables, 1, &fault) == MINORDER_DONE && tables[0] == 0);

@@ -24,12 +24,12 @@ names_few Inputs text cover places reads formed at =
     let l : length (map (bytes_at text) places) ≤ 16 =
     few (numbered_names (codes "x") (inputs_of lines)) (filter_map input_naming lines) cover.input_names
     (map (bytes_at text) places) (ap (λ (c : NamedCover). c.input_names) reads.given)
-    (omega (arith, formed.input_names, formed.few_inputs)) at in
+    (omega (arith, formed.input_names, formed.few_inputs)) at.spell in
     omega (arith, l, length-map places (bytes_at text))
 names_few Outputs text cover places reads formed at =
     let lines = description (said text) in
     let l : length (map (bytes_at text) places) ≤ 16 =
     few (numbered_names (codes "y") (outputs_of lines)) (filter_map output_naming lines) cover.output_names
     (map (bytes_at text) places) (ap (λ (c : NamedCover). c.output_names) reads.given)
-    (omega (arith, formed.output_names, formed.few_outputs)) at in
+    (omega (arith, formed.output_names, formed.few_outputs)) at.spell in
     omega (arith, l, length-map places (bytes_at text))

@@ -1,5 +1,5 @@
 -- What minorder_read_pla answers.
---     AreNames kind text places      the places of the names that a text gives; 0 and 0 where there is none
+--     AreNames kind text places      parts of the text that spell the names that it gives; 0 and 0 where there is none
 --     IsReadWith text inputs outputs input_names output_names Tables      what a text is read as, with what is said of its truth tables
 --     IsRead, IsReadShort      with the tables at the front of a place; with more words than it has
 --     fault_kind fault, IsFaultOf text fault      why a text is no PLA file
@@ -29,7 +29,7 @@ use Rattle.minorder_c.specs.Statuses.{IsPlainStatus}
 abbrev pub no_name : TextPlace
 no_name = record { start = 0; length = 0 }
 
--- the places of the names that a text gives, and 0 and 0 where there is none
+-- parts of the text that spell the names that it gives, and 0 and 0 where there is none
 pub record AreNames (kind : Names) (text : List ℕ) (places : List TextPlace) : Type 0 where
   pub named : List TextPlace
   pub at : AreNamesAt kind text named
@@ -40,7 +40,7 @@ pub record AreWordsOf (cover : NamedCover) (words : List ℕ) : Type 0 where
   pub packed : IsPacked cover.inputs cover.outputs words
   pub tables : AreTablesOf cover (packed_tables cover.inputs cover.outputs words)
 
--- the text is read as a cover of so many inputs and outputs, whose names stand there, and so much is said of its truth tables
+-- the text is read as a cover of so many inputs and outputs, whose names these parts spell, and so much is said of its truth tables
 pub record IsReadWith (text : List ℕ) (inputs outputs : ℕ) (input_names output_names : List TextPlace)
     (Tables : (List ℕ → Type 0) → Type 0) : Type 0 where
   pub within : length text ≤ longest

@@ -145,9 +145,9 @@ fn pla_of(alloc: Global, text: &[u8]) -> Result<PlaForC, Unread>
     })
 }
 
-/// Reads the text of a PLA file, and writes its numbers of inputs and outputs, where its names
-/// stand, and the truth tables of its functions. If these take more words than there is room for,
-/// all else is written; of a text that is no PLA file its first fault is written alone.
+/// Reads the text of a PLA file, and writes its numbers of inputs and outputs, parts of the text
+/// that spell its names, and the truth tables of its functions. If these take more words than there
+/// is room for, all else is written; of a text that is no PLA file only its first fault is written.
 #[unsafe(no_mangle)]
 pub extern "C" fn minorder_read_pla_with_lengths(
     alloc: Global,

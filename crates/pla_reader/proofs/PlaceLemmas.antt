@@ -1,9 +1,14 @@
 -- Where words and names stand in a text.
---     word_at, next_place      the place of a word, and those of one word more
+--     from_both      what two facts of a result say together
+--     word_at, next_place, next_inside      the place of a word, and those of one word more; they lie inside the text
+--     inside_more, none_inside      places that lie inside a text lie inside a longer one, and so do none
+--     lines_more      one line more
 --     words_given, nothing_given, line_places      the names of a line, and their places
 --     names_of kind lines      the names that a description's lines give
 --     names_found, names_go_on, names_at_end, names_gone      at a line that gives some, behind one that doesn't, and at the end
-use Rattle.std.proofs.Common.{◌≡◌, ℕ, ◌+◌, ◌-◌, refl, sym, ◌∙◌, ap, subst, Bool, true, false, cond, List, [], ◌∷◌, ◌++◌, length, take, drop, map, Option, Some, None, is_some, filter_map, arith, length-append, append_assoc}
+use Rattle.std.proofs.Common.{◌≡◌, ℕ, ◌+◌, ◌-◌, ◌≤◌, refl, sym, ◌∙◌, ap, subst, Bool, true, false, cond, inr, List, [], ◌∷◌, ◌++◌, length, take, drop, map, Option, Some, None, is_some, Result, Ok, Err, IfOk, filter_map, arith, length-append, append_assoc}
+use Rattle.std.specs.List.{All}
+use Rattle.std.proofs.lemmas.List.Elements.{All-nil, All-push, All-weaker}
 use Rattle.std.proofs.lemmas.List.{drop_at, map-append, take_at}
 use Rattle.definitions.specs.Texts.{same}
 use Rattle.pla_reader.specs.declared.places.Names.{Names}
@@ -13,8 +18,13 @@ use Rattle.pla_reader.specs.Text.{words, content, lines_of, positions}
 use Rattle.pla_reader.specs.Lines.{Line, description, directive, is_end, line_said, meaning, said}
 use Rattle.pla_reader.specs.Lines.Line.{Empty, Inputs, Outputs, InputNames, OutputNames, Products, LogicalType, End, UnknownWord, Row}
 use Rattle.pla_reader.specs.Covers.{first_or}
-use Rattle.pla_reader.specs.Places.{AreNamesAt, Gives, bytes_at, naming_by}
+use Rattle.pla_reader.specs.Places.{AreNamesAt, Gives, LiesIn, bytes_at, naming_by}
 use Rattle.pla_reader.proofs.ReadLemmas.{description_cons, description_end, description_none, said_first}
+
+-- what two facts of a result say together
+pub from_both : {X Y : Type 0} (r : Result X Y) (P Q R : X → Type 0) → ((x : X) → P x → Q x → R x) → IfOk r P → IfOk r Q → IfOk r R
+from_both (Ok x) P Q R f p q = f x p q
+from_both (Err y) P Q R f p q = tt
 
 -- a part of a text
 part_at : (front part back : List ℕ) (start long : ℕ) → length front ≡ start → length part ≡ long → take long (drop start (front ++ (part ++ back))) ≡ part
@@ -50,6 +60,34 @@ next_place start text rest word after gone blanks places places' so_far t r w mo
     ∙ append_assoc (at places) (bytes_at (front ++ text ++ back) p ∷ []) (words after)
     ∙ ap (λ (v : List ℕ). at places ++ v ∷ words after) (word_at front text back gone rest blanks word after start f t r)
     ∙ ap (λ (ws : List (List ℕ)). at places ++ ws) (sym w) ∙ so_far front back f
+
+-- it lies inside the text
+pub next_inside : (start : ℕ) (text rest word after gone blanks : List ℕ) (places places' : List TextPlace) →
+    All (LiesIn start (start + length text)) places → text ≡ gone ++ rest → rest ≡ blanks ++ word ++ after →
+    places' ≡ places ++ record { start = start + (length text - length after - length word); length = length word } ∷ [] →
+    All (LiesIn start (start + length text)) places'
+next_inside start text rest word after gone blanks places places' so_far t r more =
+    let p : TextPlace = record { start = start + (length text - length after - length word); length = length word } in
+    let long = ap length t in
+    let long' = ap length r in
+    let lies : LiesIn start (start + length text) p = (omega arith, omega (arith, length-append {A = ℕ})) in
+    subst (All (LiesIn start (start + length text))) (sym more) (All-push (LiesIn start (start + length text)) places p so_far lies)
+
+-- places that lie in a part lie in a longer one
+pub inside_more : (start end start' end' : ℕ) (places : List TextPlace) → start' ≤ start → end ≤ end' → All (LiesIn start end) places →
+    All (LiesIn start' end') places
+inside_more start end start' end' places s e all =
+    All-weaker (LiesIn start end) (LiesIn start' end') (λ p h. (omega (arith, h.0, h.1), omega (arith, h.0, h.1))) places all
+
+-- there are none
+pub none_inside : (start end : ℕ) (places : List TextPlace) → places ≡ [] → All (LiesIn start end) places
+none_inside start end places none = subst (All (LiesIn start end)) (sym none) (All-nil (LiesIn start end))
+
+-- one line more
+pub lines_more : (bytes rest line after : List ℕ) (before : List (List ℕ)) → lines_of bytes ≡ before ++ lines_of rest →
+    lines_of rest ≡ line ∷ lines_of after → (before' : List (List ℕ)) × (lines_of bytes ≡ before' ++ lines_of after)
+lines_more bytes rest line after before ls l =
+    (before ++ line ∷ [], ls ∙ ap (λ (xs : List (List ℕ)). before ++ xs) l ∙ sym (append_assoc before (line ∷ []) (lines_of after)))
 
 pub tail_of : (text rest word after gone blanks : List ℕ) → text ≡ gone ++ rest → rest ≡ blanks ++ word ++ after →
     (x : List ℕ) × (text ≡ x ++ after)
@@ -145,13 +183,14 @@ names_past kind line rest goes none =
     ap (λ (ls : List Line). first_or [] (filter_map (naming_by kind) ls)) (description_cons line rest goes) ∙ rw none refl
 
 -- the names of a description are those of the first line that gives some
-pub names_found : (kind : Names) (bytes gone rest line feed after : List ℕ) (places : List TextPlace) →
-    names_of kind (said rest) ≡ names_of kind (said bytes) → bytes ≡ gone ++ rest → rest ≡ line ++ feed ++ after → lines_of rest ≡ line ∷ lines_of after →
+pub names_found : (kind : Names) (bytes gone rest line feed after : List ℕ) (before : List (List ℕ)) (places : List TextPlace) →
+    names_of kind (said rest) ≡ names_of kind (said bytes) → bytes ≡ gone ++ rest → lines_of bytes ≡ before ++ lines_of rest →
+    rest ≡ line ++ feed ++ after → lines_of rest ≡ line ∷ lines_of after →
     is_some (naming_by kind (line_said line)) ≡ true →
     ((front back : List ℕ) (names : Names) → length front ≡ length bytes - length rest →
     Gives names (line_said line) (map (bytes_at (front ++ line ++ back)) places)) →
-    AreNamesAt kind bytes places
-names_found kind bytes gone rest line feed after places same b r l some given = by (naming_by kind (line_said line)) refl some
+    All (LiesIn (length bytes - length rest) (length bytes - length rest + length line)) places → AreNamesAt kind bytes places
+names_found kind bytes gone rest line feed after before places same b ls r l some given within = by (naming_by kind (line_said line)) refl some
   where
     whole : bytes ≡ gone ++ line ++ (feed ++ after)
     whole = b ∙ ap (λ (xs : List ℕ). gone ++ xs) r ∙ simp append_assoc
@@ -160,9 +199,27 @@ names_found kind bytes gone rest line feed after places same b r l some given = 
     by None e f = absurd cc
     by (Some named) e f =
         let long = ap length b in
+        let long' = ap length r in
+        let start = length bytes - length rest in
         let here = given gone (feed ++ after) kind (omega (arith, length-append {A = ℕ})) in
-        ap (λ (xs : List ℕ). map (bytes_at xs) places) whole ∙ here.are named e ∙ sym (names_at_line kind (line_said line) (said after) named e)
-        ∙ ap (names_of kind) (sym (said_first rest after line l)) ∙ same
+        let spelled : map (bytes_at bytes) places ≡ named = ap (λ (xs : List ℕ). map (bytes_at xs) places) whole ∙ here.are named e in
+        record {
+          inside = inside_more start (start + length line) 0 (length bytes) places (omega arith) (omega (arith, length-append {A = ℕ})) within;
+          spell = spelled ∙ sym (names_at_line kind (line_said line) (said after) named e) ∙ ap (names_of kind) (sym (said_first rest after line l)) ∙ same;
+          stand = inr (record {
+            front = gone;
+            rest = rest;
+            bytes_are = b;
+            before = before;
+            lines_are = ls;
+            line = line;
+            others = lines_of after;
+            first_is = l;
+            given = e ∙ ap Some (sym spelled);
+            within = inside_more start (start + length line) (length gone) (length gone + length line) places
+                (omega (arith, length-append {A = ℕ})) (omega (arith, length-append {A = ℕ})) within;
+          });
+        }
 
 -- a line that gives none, and doesn't end the description, leaves them
 pub names_go_on : (kind : Names) (bytes rest line after : List ℕ) → names_of kind (said rest) ≡ names_of kind (said bytes) →

@@ -1,18 +1,26 @@
 -- Where names stand in the bytes of an input.
 --     bytes_at text place      the bytes at a place of a text
+--     LiesIn start end place      it begins at a start or behind, and ends by an end
 --     naming_by names line      the names that a line gives, of inputs or of outputs
 --     Gives names line given      if a line gives names, it is these
---     AreNamesAt names bytes places      the places of the names that a description gives
-use Rattle.std.specs.Prelude.{◌≡◌, ℕ, List, [], map, take, drop, filter_map, Option, Some}
+--     StandInLine names bytes places      they stand in a line of the text and are all the names that it gives
+--     AreNamesAt names bytes places      parts of the text that spell the names that its description gives
+use Rattle.std.specs.Prelude.{◌≡◌, ◌≤◌, ◌+◌, ◌⊎◌, ℕ, List, [], ◌∷◌, ◌++◌, length, map, take, drop, filter_map, Option, Some}
+use Rattle.std.specs.List.{All}
 use Rattle.pla_reader.specs.declared.places.TextPlace.{TextPlace}
 use Rattle.pla_reader.specs.declared.places.Names.{Names}
 use Rattle.pla_reader.specs.declared.places.Names.TheVariants as names
-use Rattle.pla_reader.specs.Lines.{Line, description, said}
+use Rattle.pla_reader.specs.Lines.{Line, description, line_said, said}
+use Rattle.pla_reader.specs.Text.{lines_of}
 use Rattle.pla_reader.specs.Covers.{first_or, input_naming, output_naming}
 
 -- the bytes at a place of a text
 abbrev pub bytes_at : List ℕ → TextPlace → List ℕ
 bytes_at text place = take place.length (drop place.start text)
+
+-- it begins at a start or behind, and ends by an end
+abbrev pub LiesIn : ℕ → ℕ → TextPlace → Type 0
+LiesIn start end place = (start ≤ place.start) × (place.start + place.length ≤ end)
 
 -- the names that a line gives, of inputs or of outputs
 abbrev pub naming_by : Names → Line → Option (List (List ℕ))
@@ -23,6 +31,21 @@ naming_by names.Outputs line = output_naming line
 pub record Gives (kind : Names) (line : Line) (given : List (List ℕ)) : Type 0 where
   pub are : (named : List (List ℕ)) → naming_by kind line ≡ Some named → given ≡ named
 
--- the places of the names that a description gives; none if it gives none
-abbrev pub AreNamesAt : Names → List ℕ → List TextPlace → Type 0
-AreNamesAt kind bytes places = map (bytes_at bytes) places ≡ first_or [] (filter_map (naming_by kind) (description (said bytes)))
+-- the text has a line with just these places as names: what precedes it are whole lines, and then comes the line
+pub record StandInLine (kind : Names) (bytes : List ℕ) (places : List TextPlace) : Type 0 where
+  pub front : List ℕ
+  pub rest : List ℕ
+  pub bytes_are : bytes ≡ front ++ rest
+  pub before : List (List ℕ)
+  pub lines_are : lines_of bytes ≡ before ++ lines_of rest
+  pub line : List ℕ
+  pub others : List (List ℕ)
+  pub first_is : lines_of rest ≡ line ∷ others
+  pub given : naming_by kind (line_said line) ≡ Some (map (bytes_at bytes) places)
+  pub within : All (LiesIn (length front) (length front + length line)) places
+
+-- parts of the text that spell the names that its description gives; none if it gives none
+pub record AreNamesAt (kind : Names) (bytes : List ℕ) (places : List TextPlace) : Type 0 where
+  pub inside : All (LiesIn 0 (length bytes)) places
+  pub spell : map (bytes_at bytes) places ≡ first_or [] (filter_map (naming_by kind) (description (said bytes)))
+  pub stand : (places ≡ []) ⊎ StandInLine kind bytes places

@@ -1,9 +1,10 @@
 //! Where names stand in the bytes of an input.
 
 ghost use Rattle.std.specs.Prelude.{◌≡◌, ◌+◌, ◌++◌, ◌<◌, ◌^◌, List, ℕ, length, map, is_some, IfOk};
+ghost use Rattle.std.specs.List.{All};
 ghost use Rattle.pla_reader.specs.declared.places.Names.{Names};
 ghost use Rattle.pla_reader.specs.Lines.{line_said};
-ghost use Rattle.pla_reader.specs.Places.{AreNamesAt, Gives, bytes_at, naming_by};
+ghost use Rattle.pla_reader.specs.Places.{AreNamesAt, Gives, LiesIn, bytes_at, naming_by};
 ghost use Rattle.pla_reader.specs.Statements.{line_of};
 ghost use Rattle.pla_reader.specs.Text.{words};
 
@@ -39,8 +40,9 @@ fn gives(statement: &Statement<'_>, names: Names) -> bool
 /// The places of the words of a text that begins at a place of another one.
 fn word_places(alloc: Global, text: &[u8], start: usize) -> Result<Vec<TextPlace>, AllocError>
     requires { start + length text.now < 2 ^ 64 }
-    ensures { IfOk result (λ v. (front back : List ℕ) → length front ≡ start →
+    ensures spell { IfOk result (λ v. (front back : List ℕ) → length front ≡ start →
         map (bytes_at (front ++ text.now ++ back)) v.items ≡ words text.now) }
+    ensures inside { IfOk result (λ v. All (LiesIn start (start + length text.now)) v.items) }
 {
     let mut places = Vec::new(alloc);
     let mut rest = text;
@@ -57,8 +59,9 @@ fn word_places(alloc: Global, text: &[u8], start: usize) -> Result<Vec<TextPlace
 /// The places of the names that a line gives, which begins at a place of a text.
 fn given_places(alloc: Global, line: &[u8], start: usize) -> Result<Vec<TextPlace>, AllocError>
     requires { start + length line.now < 2 ^ 64 }
-    ensures { IfOk result (λ v. (front back : List ℕ) (names : Names) → length front ≡ start →
+    ensures given { IfOk result (λ v. (front back : List ℕ) (names : Names) → length front ≡ start →
         Gives names (line_said line.now) (map (bytes_at (front ++ line.now ++ back)) v.items)) }
+    ensures inside { IfOk result (λ v. All (LiesIn start (start + length line.now)) v.items) }
 {
     let text = content(line);
     match next_word(text) {
@@ -67,7 +70,7 @@ fn given_places(alloc: Global, line: &[u8], start: usize) -> Result<Vec<TextPlac
     }
 }
 
-/// The places of the names that a description gives; none if it gives none.
+/// Parts of the text that spell the names that its description gives; none if it gives none.
 pub fn name_places(alloc: Global, bytes: &[u8], names: Names) -> Result<Vec<TextPlace>, AllocError>
     ensures { IfOk result (λ v. AreNamesAt names bytes.now v.items) }
 {

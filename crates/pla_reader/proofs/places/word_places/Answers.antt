@@ -1,4 +1,4 @@
-use Rattle.pla_reader.proofs.PlaceLemmas.{next_place, tail_of}
+use Rattle.pla_reader.proofs.PlaceLemmas.{next_inside, next_place, tail_of}
 use Rattle.pla_reader.proofs.places.word_places.Goals as goal
 
 pub loop-word-preserved : goal.loop-word-preserved
@@ -12,5 +12,7 @@ loop-word-preserved c =
     record {
       places = next_place c.args.start text rest word after h.tail.0 parts.0 c.loop-word.places.items c.push.new.self.items h.places h.tail.1 parts.1
           c.in-Some.ensures.some c.in_ok-push.ensures.items;
+      inside = next_inside c.args.start text rest word after h.tail.0 parts.0 c.loop-word.places.items c.push.new.self.items h.inside h.tail.1 parts.1
+          c.in_ok-push.ensures.items;
       tail = tail_of text rest word after h.tail.0 parts.0 h.tail.1 parts.1;
     }
