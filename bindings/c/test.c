@@ -220,6 +220,7 @@ static void diagrams(void) {
     count = 77;
     roots[0] = 66;
     EXPECT(minorder_diagram(tables, 3, 2, 3, falling, nodes, 2, roots, &count) == MINORDER_BAD_ORDER);
+    EXPECT(minorder_diagram(tables, 3, 2, 3, (const uint8_t[]){0, 0}, NULL, 0, roots, &count) == MINORDER_BAD_ORDER);
     EXPECT(minorder_diagram(tables, 3, 17, 3, rising, nodes, 2, roots, &count) == MINORDER_BAD_SHAPE);
     EXPECT(minorder_diagram(tables, 3, 2, 17, rising, nodes, 2, roots, &count) == MINORDER_BAD_SHAPE);
     EXPECT(minorder_diagram(tables, 2, 2, 3, rising, nodes, 2, roots, &count) == MINORDER_BAD_SHAPE);

@@ -46,9 +46,9 @@ RefusesPairs shape keepable _ = ⊥
 abbrev pub TellsShape : Type 0 → ℕ → Type 0
 TellsShape shape s = (s ≡ 2) ↔ (shape → ⊥)
 
--- 5 is the number of calls that are given no order, 0 of calls that are given one
+-- 5 is the number of calls that are given no order, 0 and 7 are those of calls that are given one
 abbrev pub TellsOrder : Type 0 → ℕ → Type 0
-TellsOrder order s = (s ≡ 5 → order → ⊥) × (s ≡ 0 → order)
+TellsOrder order s = (s ≡ 5 → order → ⊥) × ((s ≡ 0) ⊎ (s ≡ 7) → order)
 
 -- 8 is the number of calls with pairs that no order keeps, 0 and 7 are those of calls with pairs that some order keeps
 abbrev pub TellsPairs : Type 0 → ℕ → Type 0
