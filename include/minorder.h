@@ -36,8 +36,8 @@ extern "C" {
 /* The version of the library that is called: 10000 for 1.0.0, 10203 for 1.2.3. */
 uint32_t minorder_version(void);
 
-/* How a call ends. Where it isn't MINORDER_DONE the call has written nothing, but for how much there is at MINORDER_SHORT_TEXT, and
-   the fault at MINORDER_BAD_PLA. */
+/* How a call ends. Where it isn't MINORDER_DONE the call has written nothing, but what its own comment says at MINORDER_SHORT_TEXT,
+   and the fault at MINORDER_BAD_PLA. */
 enum {
     MINORDER_DONE = 0,
     /* inputs or outputs isn't 1 to 16, or a length isn't what these ask for */
@@ -78,8 +78,8 @@ typedef struct {
     uint8_t above, below;
 } minorder_pair;
 
-/* A node of a diagram: its variable, and its successors where that is 0 and where it is 1. 0 and 1 are the constants, i + 2 is
-   node i. */
+/* A node of a diagram: its variable, and its children where that is 0 and where it is 1. 0 and 1 are the terminals, k + 2 is
+   node k. */
 typedef struct {
     uint32_t variable, low, high;
 } minorder_node;
@@ -158,7 +158,7 @@ MINORDER_INLINE uint32_t minorder_levels(const uint64_t *tables, size_t words, u
 }
 
 /* Writes the reduced shared diagram under an order: its nodes, level by level from the bottom, so children before their parents; the
-   root of each output, 0, 1 or i + 2 for node i; and the number of nodes, the sum of the level counts. `order` has `inputs` entries,
+   root of each output, 0, 1 or k + 2 for node k; and the number of nodes, the sum of the level counts. `order` has `inputs` entries,
    `roots` has `outputs`, `nodes` has `room`. If there are more nodes, only their number is written and the call returns
    MINORDER_SHORT_TEXT. Without room `nodes` may be null. */
 MINORDER_INLINE uint32_t minorder_diagram(const uint64_t *tables, size_t words, uint32_t inputs, uint32_t outputs,
@@ -234,13 +234,13 @@ typedef struct {
     minorder_name input_names[16], output_names[16];
 } minorder_pla;
 
-/* What is wrong with a PLA file: its first faulty line, counted from 1, and how. */
+/* What is wrong with a PLA file: its first faulty line, counted from 1, and how. The line is 0 of an empty text, and of TooLong. */
 typedef struct {
     size_t line;
     uint32_t kind; /* 1 to 15, in the order of minorder_fault_text */
 } minorder_fault;
 
-/* The words of a fault's kind, as minorder prints it. Above 16,777,216 bytes it is TooLong, and the line is 0. */
+/* The words of a fault's kind, as minorder prints it. Above 16,777,216 bytes it is TooLong. */
 MINORDER_INLINE const char *minorder_fault_text(uint32_t kind) {
     static const char *const words[] = {
         "MissingHead", "RepeatedHead", "InputCount", "OutputCount", "BadNumber", "NameCount", "BadName", "UnknownDirective",
