@@ -34,11 +34,11 @@ struct DiagramForC {
 }
 
 /// The number of a ref to one of the first 2^20 nodes.
-fn number_of(node: Ref) -> u32
-    requires { IsBefore (2 ^ 20) node }
-    ensures { ref_named result ≡ node }
+fn number_of(r: Ref) -> u32
+    requires { IsBefore (2 ^ 20) r }
+    ensures { ref_named result ≡ r }
 {
-    match node {
+    match r {
         Ref::Terminal(false) => 0,
         Ref::Terminal(true) => 1,
         Ref::Place(place) => place as u32 + 2,
@@ -80,7 +80,7 @@ fn roots_of(alloc: Global, diagram: &Diagram) -> Result<Vec<u32>, AllocError>
     Ok(made)
 }
 
-/// The reduced diagram under an order, for so many roots.
+/// The reduced diagram under an order. It is refused if `roots` isn't the number of outputs.
 fn diagram_of(
     alloc: Global,
     given: &GivenTables,

@@ -19,6 +19,9 @@ use truth_table::cover_words;
 /// The status of a text that is no PLA file.
 const BAD_PLA: u32 = 9;
 
+/// The number of the fault of a text that is too long.
+const TOO_LONG: u32 = 15;
+
 /// How many places there are for names of inputs, and for those of outputs.
 const NAME_PLACES: usize = 16;
 
@@ -88,7 +91,10 @@ fn cover_of(alloc: Global, text: &[u8]) -> Result<Cover, Unread>
     ensures refused { IfErr result (IsUnread text.now) }
 {
     if text.len() > MOST_BYTES {
-        return Err(Unread::Fault(PlaFault { line: 0, kind: 15 }));
+        return Err(Unread::Fault(PlaFault {
+            line: 0,
+            kind: TOO_LONG,
+        }));
     }
     match read_bytes(alloc, text) {
         Ok(cover) => Ok(cover),
@@ -100,7 +106,7 @@ fn cover_of(alloc: Global, text: &[u8]) -> Result<Cover, Unread>
     }
 }
 
-/// The places of the names that a text gives, which is read as a cover.
+/// The 16 places of the names of a text that reads as `cover`.
 fn names_of(
     alloc: Global,
     text: &[u8],
@@ -123,7 +129,7 @@ fn names_of(
     Ok(places)
 }
 
-/// What a text is read as.
+/// The numbers, names and words of a PLA text.
 fn pla_of(alloc: Global, text: &[u8]) -> Result<PlaForC, Unread>
     ensures read { IfOk result (λ p. IsReadWith text.now p.inputs p.outputs p.input_names.items
         p.output_names.items (λ Is. Is p.words.items)) }

@@ -180,7 +180,7 @@ pub(crate) fn packed_words<R: Threads + Sync>(
     Ok(words)
 }
 
-/// The words of so many groups, made by the calling thread.
+/// The words of the first `count` groups, made by the calling thread.
 fn groups_alone(
     alloc: Global,
     terms: &[Term],
