@@ -9,7 +9,8 @@ from functools import cached_property
 from typing import Callable, Iterator, NamedTuple, Optional, Tuple, TypeVar, Union
 
 from . import _drawings
-from ._errors import BadArgument, BadPath, BadShape, NoGraphviz
+from ._drawings import counted
+from ._errors import BadArgument, BadPath, BadShape
 from ._tables import TruthTable, shown, whole
 from ._writing import write_file
 
@@ -44,7 +45,7 @@ class Diagram:
         return len(self.nodes)
 
     def __repr__(self) -> str:
-        return f"<Diagram of {len(self)} nodes, order={self.order}, levels={self.levels}>"
+        return f"<Diagram of {counted(len(self))}, order={self.order}, levels={self.levels}>"
 
     @property
     def levels(self) -> Tuple[int, ...]:
@@ -119,7 +120,7 @@ class Diagram:
             return None
         try:
             return _drawings.picture_of([("", self)], self._title, ".svg").decode()
-        except NoGraphviz:
+        except OSError:
             return None
 
     def _repr_svg_(self) -> Optional[str]:
@@ -178,6 +179,8 @@ SUFFIXES = (*TEXTS, ".dot", *_drawings.PICTURES)
 def suffix_of(path: str) -> str:
     """What the name of a diagram's file ends in. Raises BadPath."""
     suffix = os.path.splitext(path)[1].lower()
+    if os.path.basename(path).lower() in SUFFIXES:
+        raise BadPath(f"{path}: a diagram's file has a name in front of its suffix")
     if suffix not in SUFFIXES:
         ends = f"{', '.join(SUFFIXES[:-1])} or {SUFFIXES[-1]}"
         raise BadPath(f"{path or repr(path)}: the name of a diagram's file ends in {ends}")
@@ -190,10 +193,11 @@ def write_diagrams(path: str, parts: _drawings.Parts, title: str) -> None:
     if suffix in TEXTS:
         content = TEXTS[suffix](parts[0][1]).encode("ascii")
     elif suffix == ".dot":
-        content = _drawings.encoded(_drawings.dot_of(parts, title))
+        content = _drawings.dot_of(parts, title).encode()
     else:
-        most = max(len(it) for _, it in parts)
-        if most > _drawings.MOST:
-            raise BadPath(f"{path}: the diagram has {most} nodes, and Graphviz draws {_drawings.MOST} in a few seconds")
+        nodes = sum(len(it) for _, it in parts)
+        if nodes > _drawings.MOST:
+            drawn = "the diagram has" if len(parts) == 1 else "the diagrams have"
+            raise BadPath(f"{path}: {drawn} {nodes} nodes, and Graphviz draws {_drawings.MOST} in a few seconds")
         content = _drawings.picture_of(parts, title, suffix)
     write_file(path, content)

@@ -1,12 +1,15 @@
 """Drawings of diagrams: in Graphviz's language, as its pictures, and level counts as bars."""
 from __future__ import annotations
 
+import errno
+import re
 import subprocess
 import tempfile
 from html import escape
-from typing import TYPE_CHECKING, Iterator, Sequence, Tuple
+from typing import IO, TYPE_CHECKING, Iterator, Sequence, Tuple
 
 from ._errors import NoGraphviz
+from ._writing import named
 
 if TYPE_CHECKING:
     from ._diagrams import Diagram
@@ -20,6 +23,8 @@ LINE, MUTED, RIM, FILL, TEXT = "#808080", "#7a7a7a", "#4a7ba6", "#dbe9f6", "#102
 FONT = "Helvetica,Arial,sans-serif"
 # in inches: a node, and what a character takes
 NODE, CHARACTER = 0.36, 0.09
+# what no drawing shows: controls, halves of characters, and what XML hasn't
+HIDDEN = re.compile("[^\x20-\x7e\xa0-\ud7ff\ue000-\ufffd\U00010000-\U0010ffff]")
 
 # diagrams that stand side by side, each with what its caption begins with
 Parts = Sequence[Tuple[str, "Diagram"]]
@@ -35,9 +40,9 @@ def dot_of(parts: Parts, title: str) -> str:
         f'fontcolor="{TEXT}", fontname="{FONT}"];',
         f'  edge [color="{LINE}", arrowsize=0.4];']
     for (caption, diagram), mark in zip(parts, "ab"):
-        said = f"{len(diagram)} node{'s' * (len(diagram) != 1)}"
+        said = f"{caption}: {counted(len(diagram))}" if caption else counted(len(diagram))
         lines.append(f"  subgraph cluster_{mark} {{")
-        lines += ["    " + line for line in _cluster(diagram, f"{caption}: {said}" if caption else said, mark)]
+        lines += ["    " + line for line in _cluster(diagram, said, mark)]
         lines.append("  }")
     return "\n".join([*lines, "}", ""])
 
@@ -98,29 +103,64 @@ def _shape(diagram: Diagram) -> str:
 
 def _quoted(text: str) -> str:
     """A text as a label that shows just it."""
-    return '"' + text.replace("\\", "\\\\").replace('"', '\\"').replace("&", "&amp;") + '"'
+    return '"' + visible(text).replace("\\", "\\\\").replace('"', '\\"').replace("&", "&amp;") + '"'
 
 
-def encoded(text: str) -> bytes:
-    return text.encode("utf-8", "replace")
+def visible(text: str) -> str:
+    """A text with a mark in the place of what can't be shown."""
+    return HIDDEN.sub("?", text)
+
+
+def counted(nodes: int) -> str:
+    return f"{nodes} node{'s' * (nodes != 1)}"
 
 
 # ---- pictures
 
-def picture_of(parts: Parts, title: str, suffix: str) -> bytes:
-    """A picture by Graphviz. Raises NoGraphviz."""
+def _temporary(content: bytes) -> IO[bytes]:
+    """A temporary file that holds this, to be read. Raises OSError with a name."""
+    said = "a temporary file"
     try:
-        # a pipe that dot doesn't read would end a command
-        with tempfile.TemporaryFile() as file:
-            file.write(encoded(dot_of(parts, title)))
-            file.seek(0)
-            made = subprocess.run(["dot", f"-T{suffix[1:]}"], stdin=file, capture_output=True, check=True).stdout
-    except (FileNotFoundError, PermissionError):
-        raise NoGraphviz("Graphviz's dot isn't here, which makes pictures (Debian: apt-get install graphviz)") from None
-    except subprocess.CalledProcessError as error:
-        said = error.stderr.decode(errors="replace").splitlines() or [f"status {error.returncode}"]
-        raise NoGraphviz(f"Graphviz's dot makes no picture: {said[0]}") from None
-    return made.replace(b"<g id=", b"<title>%s</title>\n<g id=" % encoded(escape(title)), 1) if suffix == ".svg" else made
+        said += f" in {tempfile.gettempdir()}"
+        # a buffer would be written once more as the file is closed
+        file = tempfile.TemporaryFile(buffering=0)
+        while content:
+            content = content[file.write(content):]
+        file.seek(0)
+    except OSError as error:
+        raise named(error, said) from None
+    return file
+
+
+def _said_by(ended: subprocess.CompletedProcess[bytes]) -> str:
+    """The line that tells why dot made nothing."""
+    lines = [line.strip() for line in ended.stderr.decode(errors="replace").splitlines() if line.strip()]
+    errors = [line for line in lines if line.startswith("Error")]
+    status = f"status {ended.returncode}" if ended.returncode else "it writes nothing"
+    return visible([*errors, *lines, status][0])
+
+
+def _drawn(text: str, suffix: str) -> bytes:
+    """What Graphviz makes of a text in its language. Raises NoGraphviz, and OSError with a name."""
+    # a pipe that dot doesn't read would end a command
+    with _temporary(text.encode()) as file:
+        try:
+            ended = subprocess.run(["dot", f"-T{suffix[1:]}"], stdin=file, capture_output=True)
+        except (FileNotFoundError, PermissionError):
+            raise NoGraphviz("Graphviz's dot isn't here, which makes pictures (Debian: apt-get install graphviz)") from None
+        except OSError as error:
+            # without a name it says that memory or processes are out
+            raise error if error.errno in (errno.EAGAIN, errno.ENOMEM) else named(error, "dot") from None
+    if ended.returncode or not ended.stdout:
+        raise NoGraphviz(f"Graphviz's dot makes no picture: {_said_by(ended)}")
+    return ended.stdout
+
+
+def picture_of(parts: Parts, title: str, suffix: str) -> bytes:
+    """A picture by Graphviz. Raises NoGraphviz, and OSError with a name."""
+    made = _drawn(dot_of(parts, title), suffix)
+    named_so = f"<title>{escape(visible(title))}</title>\n<g id=".encode()
+    return made.replace(b"<g id=", named_so, 1) if suffix == ".svg" else made
 
 
 def bars_of(diagram: Diagram) -> str:
@@ -129,6 +169,7 @@ def bars_of(diagram: Diagram) -> str:
     cell, rows = "padding:0 .5em;border:0;background:none;text-align:left", ""
     for variable, count in zip(diagram.order, diagram.levels):
         bar = f"background:{RIM};height:.8em;width:{20 * count / most:.2f}em"
-        rows += (f'<tr style="background:none"><th style="{cell}">{escape(diagram.inputs[variable])}</th>'
+        rows += (f'<tr style="background:none"><th style="{cell}">{escape(visible(diagram.inputs[variable]))}</th>'
                  f'<td style="{cell}"><div style="{bar}"></div></td><td style="{cell}">{count}</td></tr>')
-    return f'<table style="border:0;color:inherit"><caption style="text-align:left">{len(diagram)} nodes</caption>{rows}</table>'
+    caption = f'<caption style="text-align:left">{counted(len(diagram))}</caption>'
+    return f'<table style="border:0;color:inherit">{caption}{rows}</table>'

@@ -3,6 +3,11 @@ from __future__ import annotations
 
 from typing import Optional, Sequence
 
+from ._tables import shortened
+
+# longer ones are no inputs, and Python makes no number of very long ones
+MOST_DIGITS = 20
+
 
 def fault_of(words: Sequence[str], inputs: int, names: Optional[Sequence[str]] = None) -> Optional[str]:
     """Why the words aren't an order of so many inputs, by number; None if they are one. It calls an input by its name if
@@ -13,9 +18,9 @@ def fault_of(words: Sequence[str], inputs: int, names: Optional[Sequence[str]] =
     called = names or [str(x) for x in range(inputs)]
     for word in words:
         if not word.isascii() or not word.isdigit():
-            return f"{word} is no input of the file"
-        if int(word) >= inputs:
-            return f"{word} is out of range: the file's inputs are 0 to {inputs - 1}"
+            return f"{shortened(word)} is no input of the file"
+        if len(word) > MOST_DIGITS or int(word) >= inputs:
+            return f"{shortened(word)} is out of range: the file's inputs are 0 to {inputs - 1}"
         if int(word) in seen:
             return f"{called[int(word)]} is repeated"
         seen.add(int(word))
@@ -32,9 +37,13 @@ def numbered(words: Sequence[str], names: Sequence[str]) -> list[str]:
     return [left[word].pop(0) if left.get(word) else word for word in words]
 
 
-def orders_of(words: Sequence[str], inputs: int) -> list[list[str]]:
-    """The orders that arguments spell: one each, its words parted by commas or spaces; several arguments of one word
-    each are one order."""
-    orders = [word.replace(",", " ").split() for word in words]
-    is_alone = inputs > 1 and all(len(order) == 1 for order in orders)
+def words_of(text: str, names: Sequence[str]) -> list[str]:
+    """The words of an order, parted by commas or spaces; a name is one word, whatever commas it has."""
+    return [part for word in text.split() for part in ([word] if word in names else word.replace(",", " ").split())]
+
+
+def orders_of(texts: Sequence[str], names: Sequence[str]) -> list[list[str]]:
+    """The orders that arguments spell: one each; several arguments of one word each are one order."""
+    orders = [words_of(text, names) for text in texts]
+    is_alone = len(names) > 1 and all(len(order) == 1 for order in orders)
     return [[word for order in orders for word in order]] if is_alone else orders

@@ -85,13 +85,17 @@ def named_x_and_f(inputs: int, outputs: int) -> Tuple[Tuple[str, ...], Tuple[str
     return tuple(f"x{i}" for i in range(inputs)), tuple(f"f{j}" for j in range(outputs))
 
 
+def shortened(text: str) -> str:
+    """A text as a message has it."""
+    return text if len(text) <= 60 else text[:57] + "..."
+
+
 def shown(value: object) -> str:
     """A value as a message has it."""
     try:
-        text = repr(value)
+        return shortened(repr(value))
     except Exception:  # such as that of a number with too many digits
-        text = f"a value of type {type(value).__name__}"
-    return text if len(text) <= 60 else text[:57] + "..."
+        return f"a value of type {type(value).__name__}"
 
 
 def whole(value: object, named: str) -> int:

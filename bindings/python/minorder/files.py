@@ -12,6 +12,7 @@ LIMIT = 16_777_216
 NO_PLA = 9
 # the truth tables of a file take no more words
 MOST_WORDS = 16_384
+REPORT_LINES = ("order", "names", "levels", "nodes", "sifted order", "sifted nodes", "file order nodes")
 
 
 def read_pla(path: Union[str, "os.PathLike[str]"]) -> Pla:

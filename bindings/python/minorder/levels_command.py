@@ -14,7 +14,7 @@ from . import _ends
 from ._calls import levels
 from ._errors import BadPla, NoLibrary
 from ._orders import fault_of, numbered, orders_of
-from ._tables import Pla
+from ._tables import Pla, shortened
 from ._writing import named
 from .files import read_pla
 
@@ -37,7 +37,7 @@ def checked(words: Sequence[str], names: Sequence[str]) -> list[str]:
     order = numbered(words, names)
     fault = fault_of(order, len(names), names if order != words else None)
     if fault:
-        raise _ends.Refused(_ends.BAD_WORDS, f"{' '.join(words)}: {fault}" if words else fault)
+        raise _ends.Refused(_ends.BAD_WORDS, f"{' '.join(map(shortened, words))}: {fault}" if words else fault)
     return order
 
 
@@ -53,7 +53,7 @@ def show(file: Pla, orders: Sequence[Sequence[str]]) -> None:
 
 def command(given: argparse.Namespace) -> int:
     file = read(given.file)
-    show(file, [checked(words, file.inputs) for words in orders_of(given.orders, len(file.inputs))])
+    show(file, [checked(words, file.inputs) for words in orders_of(given.orders, file.inputs)])
     return 0
 
 

@@ -1,11 +1,13 @@
 """Tests of minorder-diagram: python3 -m unittest discover -s bindings/python/tests"""
 import json
 import os
+import re
 import shutil
 import subprocess
 import sys
 import tempfile
 import unittest
+from xml.etree import ElementTree
 
 PACKAGE = os.path.dirname(os.path.dirname(os.path.abspath(__file__)))
 sys.path.insert(0, PACKAGE)
@@ -15,6 +17,7 @@ EXAMPLES = os.path.abspath(f"{PACKAGE}/../../examples")
 MULTIPLEXER = f"{EXAMPLES}/mux2.pla"
 with open(f"{EXAMPLES}/mux2.report") as opened:
     REPORT = opened.read()
+LONG = "9" * 57 + "..."
 NO_REPORT = "standard input holds no report of minorder: name an ORDER, or add < /dev/null for the file's own"
 
 
@@ -49,12 +52,32 @@ class Command(unittest.TestCase):
         status, text, errors = self.ran(MULTIPLEXER, "s,a,b")
         self.assertEqual((status, errors), (0, ""))
         self.assertIn('label="another order: 3 nodes"', text)
-        self.assertIn('label="the best order: 3 nodes"', self.ran(MULTIPLEXER, given=REPORT)[1])
+        self.assertIn('label="the report\'s order: 3 nodes"', self.ran(MULTIPLEXER, given=REPORT)[1])
         both = self.ran("--both", MULTIPLEXER, given=REPORT)[1]
-        self.assertLess(both.index('label="the file\'s order: 5 nodes"'), both.index('label="the best order: 3 nodes"'))
+        self.assertLess(both.index('label="the file\'s order: 5 nodes"'), both.index('label="the report\'s order: 3 nodes"'))
         self.assertEqual(self.ran("--out", "it.dot", "--both", MULTIPLEXER, given=REPORT), (0, "", ""))
         with open(f"{self.folder}/it.dot") as file:
             self.assertEqual(file.read(), both)
+
+    def test_the_file_order_is_called_so_and_drawn_once(self):
+        own = self.ran(MULTIPLEXER)
+        self.assertIn('label="the file\'s order: 5 nodes"', own[1])
+        for words in (["0,1,2"], ["--both", "0", "1", "2"]):
+            self.assertEqual(self.ran(MULTIPLEXER, *words), own)
+
+    def test_names_with_commas_and_names_that_cannot_be_shown(self):
+        name = "a\x01\n\udcff&<.pla"
+        with open(f"{self.folder}/{name}", "w") as file:
+            file.write(".i 3\n.o 1\n.ilb a,b c s,t\n111 1\n")
+        for words in (["c", "a,b", "s,t"], ["c a,b s,t"]):
+            status, text, errors = self.ran(name, *words)
+            self.assertEqual((status, errors), (0, ""))
+            self.assertTrue(text.startswith('digraph "Decision diagram of a???&amp;<.pla" {'))
+            self.assertEqual(re.findall('av[0-9] .*label="(.*)"', text), ["c", "a,b", "s,t"])
+        if shutil.which("dot"):
+            self.assertEqual(self.ran("-o", "it.svg", name), (0, "", ""))
+            title = ElementTree.parse(f"{self.folder}/it.svg").getroot().find("{http://www.w3.org/2000/svg}title")
+            self.assertEqual(title.text, "Decision diagram of a???&<.pla")
 
     @unittest.skipUnless(shutil.which("dot"), "no dot here")
     def test_the_picture_of_the_readme(self):
@@ -86,15 +109,35 @@ class Command(unittest.TestCase):
                 ((MULTIPLEXER, ""), None, 2, "an order is empty"),
                 ((MULTIPLEXER, "2,0,1", "0,1,2"), None, 2, "2 0 1 0 1 2: 0 is repeated"),
                 ((MULTIPLEXER,), "", 3, NO_REPORT),
-                ((MULTIPLEXER,), "order: 2 0 1\nlevels: 1 1 1\nnodes: 4\n", 3, NO_REPORT),
-                ((MULTIPLEXER,), REPORT.replace("2 0 1", "2 0 0"), 3, "the report's order 2 0 0: 0 is repeated"),
+                ((MULTIPLEXER, "9" * 5000), None, 2, f"{LONG}: {LONG} is out of range: the file's inputs are 0 to 2"),
+                (("--both", MULTIPLEXER), None, 2, "--both wants an ORDER, or a report of minorder on standard input"),
+                ((MULTIPLEXER,), "".join(REPORT.splitlines(True)[:4]), 3, NO_REPORT),
+                ((MULTIPLEXER,), REPORT + REPORT, 3, NO_REPORT),
+                ((MULTIPLEXER,), REPORT.replace("nodes: 3", "nodes: 4", 1), 3, NO_REPORT),
+                ((MULTIPLEXER,), REPORT.replace("nodes: 3", "nodes", 1), 3, NO_REPORT),
+                ((MULTIPLEXER,), REPORT.replace("levels: 1", "levels: " + "9" * 5000), 3, NO_REPORT),
+                ((MULTIPLEXER,), REPORT.replace("order: 2 0 1", "order: " + "9" * 5000, 1), 3,
+                 f"the report's order {LONG}: {LONG} is out of range: the file's inputs are 0 to 2"),
+                ((MULTIPLEXER,), REPORT.replace("2 0 1", "2 0 0", 1), 3, "the report's order 2 0 0: 0 is repeated"),
                 ((MULTIPLEXER,), wrong, 3, "the report has the level counts 1 1 2, and the diagram 1 1 1"),
                 (("-o", "it.gif", MULTIPLEXER), None, 2, f"it.gif: {ends}"),
                 (("-o", "", MULTIPLEXER), None, 2, f"'': {ends}"),
+                (("-o", "no/.SVG", MULTIPLEXER), None, 2, "no/.SVG: a diagram's file has a name in front of its suffix"),
                 (("-o", "it.bdd", "--both", MULTIPLEXER), None, 2, "it.bdd: a .bdd file has one diagram, and --both draws two"),
                 (("-o", "no/it.dot", MULTIPLEXER), None, 5, "no/it.dot: No such file or directory")):
             self.assertEqual(self.ran(*words, given=given), (status, "", f"minorder-diagram: {message}\n"), words)
         self.assertEqual(os.listdir(self.folder), ["hello.pla"])
+
+    def test_a_temporary_file_that_is_not_written(self):
+        limit = "import resource; resource.setrlimit(resource.RLIMIT_FSIZE, (1024, 1024)); "
+        code = limit + "import sys; from minorder.diagram_command import main; sys.exit(main(sys.argv[1:]))"
+        command = [sys.executable, "-c", code, "-o", "it.svg", f"{EXAMPLES}/hwb8.pla"]
+        environment = {**os.environ, "PYTHONPATH": PACKAGE, "PYTHONDONTWRITEBYTECODE": "1", "TMPDIR": self.folder}
+        found = subprocess.run(
+            command, env=environment, cwd=self.folder, stdin=subprocess.DEVNULL, capture_output=True, text=True)
+        said = f"minorder-diagram: a temporary file in {self.folder}: File too large\n"
+        self.assertEqual((found.returncode, found.stdout, found.stderr), (5, "", said))
+        self.assertEqual(os.listdir(self.folder), [])
 
     def test_without_graphviz_and_without_the_library(self):
         status, output, errors = self.ran("-o", "it.png", MULTIPLEXER, PATH=self.folder)

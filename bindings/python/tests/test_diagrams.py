@@ -1,6 +1,7 @@
 """Diagrams as values, in notebooks and in files: python3 -m unittest discover -s bindings/python/tests -p test_diagrams.py"""
 import dataclasses
 import doctest
+import errno
 import glob
 import json
 import os
@@ -11,13 +12,14 @@ import sys
 import tempfile
 import unittest
 import unittest.mock
+from dataclasses import replace
 from xml.etree import ElementTree
 
 PACKAGE = os.path.dirname(os.path.dirname(os.path.abspath(__file__)))
 TOP = os.path.abspath(f"{PACKAGE}/../..")
 sys.path.insert(0, PACKAGE)
 import minorder  # noqa: E402
-from minorder import Node  # noqa: E402
+from minorder import Node, _diagrams, _drawings  # noqa: E402
 
 WORKED = sorted({*glob.glob(f"{TOP}/examples/*.pla"), *glob.glob(f"{TOP}/crates/worked_cases/data/**/*.pla", recursive=True)})
 MULTIPLEXER = minorder.read_pla(f"{TOP}/examples/mux2.pla")
@@ -185,6 +187,9 @@ class Files(unittest.TestCase):
         if shutil.which("dot"):
             texts = [it.text for it in ElementTree.fromstring(found._repr_svg_()).iter("{http://www.w3.org/2000/svg}text")]
             self.assertEqual({*names, 'f"', "0", "1", "7 nodes"}, set(texts))
+            odd = replace(found, inputs=("\0", "\ud800", "\uffff", "\x9f"), outputs=("\x1b",))
+            self.assertIn("<title>Decision diagram of ?</title>", odd._repr_svg_())
+            ElementTree.fromstring(odd._repr_svg_())
 
     @unittest.skipUnless(shutil.which("dot"), "no dot here")
     def test_pictures(self):
@@ -200,22 +205,48 @@ class Files(unittest.TestCase):
 
     def test_refusals_leave_no_file(self):
         found = best(MULTIPLEXER)
+        alone = "a diagram's file has a name in front of its suffix"
+        self.assertEqual(self.refused(found, ".svg", minorder.BadPath), f"{self.folder}/.svg: {alone}")
         ends = "the name of a diagram's file ends in .bdd, .json, .dot, .pdf, .png or .svg"
-        for name in ("it.gif", "it", ".svg"):
+        for name in ("it.gif", "it", ".gif"):
             self.assertEqual(self.refused(found, name, minorder.BadPath), f"{self.folder}/{name}: {ends}")
         self.assertIn("no/it.json", self.refused(found, "no/it.json", OSError))
         with unittest.mock.patch.dict(os.environ, PATH=self.folder):
             self.assertIn("apt-get install graphviz", self.refused(found, "it.svg", minorder.NoGraphviz))
-        with open(f"{self.folder}/dot", "w") as file:
-            file.write("#!/bin/sh\necho it fails >&2; echo twice >&2; exit 1\n")
-        with unittest.mock.patch.dict(os.environ, PATH=self.folder):
-            self.assertIn("dot isn't here", self.refused(found, "it.svg", minorder.NoGraphviz))
-        with unittest.mock.patch.dict(os.environ, PATH=f"{self.folder}:{os.environ['PATH']}"):
-            os.chmod(f"{self.folder}/dot", 0o755)
-            self.assertEqual(self.refused(found, "it.png", minorder.NoGraphviz), "Graphviz's dot makes no picture: it fails")
         large = minorder.diagram(random.Random(1).getrandbits(1 << 14), range(14))
         self.assertIn(f"the diagram has {len(large)} nodes", self.refused(large, "it.svg", minorder.BadPath))
         self.content(large, "it.dot")
+        # what is drawn side by side is counted together
+        middle = minorder.diagram(random.Random(1).getrandbits(1 << 13), range(13))
+        self.assertTrue(_drawings.MOST < 2 * len(middle) < 2 * _drawings.MOST)
+        with self.assertRaisesRegex(minorder.BadPath, f"it.svg: the diagrams have {2 * len(middle)} nodes, and"):
+            _diagrams.write_diagrams("it.svg", [("", middle), ("", middle)], "two")
+
+    def test_a_dot_that_fails(self):
+        found, dot = best(MULTIPLEXER), f"{self.folder}/dot"
+        open(dot, "w").close()
+        with unittest.mock.patch.dict(os.environ, PATH=self.folder):
+            self.assertIn("dot isn't here", self.refused(found, "it.svg", minorder.NoGraphviz))
+        os.chmod(dot, 0o755)
+        for lines, said in (
+                ("echo >&2; echo it fails >&2; echo twice >&2; exit 1", "it fails"),
+                ("echo Warning: it >&2; echo Error: it fails >&2; exit 1", "Error: it fails"),
+                ("exit 3", "status 3"), ("exit 0", "it writes nothing")):
+            with open(dot, "w") as file:
+                file.write(f"#!/bin/sh\n{lines}\n")
+            with unittest.mock.patch.dict(os.environ, PATH=f"{self.folder}:{os.environ['PATH']}"):
+                self.assertEqual(self.refused(found, "it.png", minorder.NoGraphviz), f"Graphviz's dot makes no picture: {said}")
+
+    def test_a_temporary_file_that_is_not_made(self):
+        found = best(MULTIPLEXER)
+        with unittest.mock.patch("tempfile.tempdir", "/there/is/none"):
+            said = self.refused(found, "it.svg", OSError)
+            self.assertIn("No such file or directory: 'a temporary file in /there/is/none'", said)
+            # a notebook then shows bars
+            self.assertIsNone(found._repr_svg_())
+        none = FileNotFoundError(errno.ENOENT, "No usable temporary directory found in ['/tmp']")
+        with unittest.mock.patch("tempfile.gettempdir", side_effect=none):
+            self.assertIn("['/tmp']: 'a temporary file'", self.refused(found, "it.svg", OSError))
 
 
 class Notebooks(unittest.TestCase):
@@ -234,6 +265,9 @@ class Notebooks(unittest.TestCase):
             rows = ElementTree.fromstring(found._repr_html_()).findall("tr")
             self.assertEqual([row.find("th").text for row in rows], "x1 x7 x8 x2 x6 x3 x4 x5".split())
             self.assertEqual([int(row.findall("td")[1].text) for row in rows], list(found.levels))
+            self.assertIn(">1 node<", minorder.diagram(2, [0])._repr_html_())
+            odd = replace(found, inputs=["\0", *found.inputs[1:]])
+            self.assertEqual(ElementTree.fromstring(odd._repr_html_()).find("tr/th").text, "?")
         large = minorder.diagram(minorder.read_pla(f"{TOP}/examples/products8.pla"), range(16))
         self.assertEqual((len(large), self.shown(large)), (510, ["html"]))
         self.assertEqual(self.shown(minorder.diagram(0, [0])), ["svg"] if shutil.which("dot") else ["html"])

@@ -10,6 +10,7 @@ sys.path.insert(0, PACKAGE)
 from minorder._orders import fault_of, numbered, orders_of  # noqa: E402
 
 MULTIPLEXER = f"{PACKAGE}/../../examples/mux2.pla"
+LONG = "9" * 57 + "..."
 
 
 def ran(*words, **environment):
@@ -21,9 +22,16 @@ def ran(*words, **environment):
 class Orders(unittest.TestCase):
     def test_they_are_spelled_as_in_reports_and_with_commas(self):
         for words in (["2", "0", "1"], ["2 0 1"], ["2,0,1"], ["2,", "0,", "1"]):
-            self.assertEqual(orders_of(words, 3), [["2", "0", "1"]])
-        self.assertEqual(orders_of(["2,0,1", "0 1 2"], 3), [["2", "0", "1"], ["0", "1", "2"]])
-        self.assertEqual(orders_of(["0", "0"], 1), [["0"], ["0"]])
+            self.assertEqual(orders_of(words, "abs"), [["2", "0", "1"]])
+        self.assertEqual(orders_of(["2,0,1", "0 1 2"], "abs"), [["2", "0", "1"], ["0", "1", "2"]])
+        self.assertEqual(orders_of(["0", "0"], "a"), [["0"], ["0"]])
+
+    def test_a_name_is_one_word_whatever_commas_it_has(self):
+        names = ["a,b", "c", "s,t"]
+        for words in (["c", "a,b", "s,t"], ["c a,b s,t"]):
+            self.assertEqual(orders_of(words, names), [["c", "a,b", "s,t"]])
+        self.assertEqual(orders_of(["2,1,0", "c a,b s,t"], names), [["2", "1", "0"], ["c", "a,b", "s,t"]])
+        self.assertEqual(orders_of(["a,b"], names), [["a,b"]])
 
     def test_names_become_numbers(self):
         self.assertEqual(numbered(["s", "a", "b"], ["a", "b", "s"]), ["2", "0", "1"])
@@ -40,6 +48,9 @@ class Orders(unittest.TestCase):
         self.assertEqual(fault_of([], 3), "an order is empty")
         self.assertEqual(fault_of(["2", "0"], 3, ["a", "b", "s"]), "b is missing")
         self.assertEqual(fault_of(["2", "2"], 3, ["a", "b", "s"]), "s is repeated")
+        # Python makes no number of so many digits
+        for digit in "09":
+            self.assertEqual(fault_of([digit * 5000], 3), f"{digit * 57}... is out of range: the file's inputs are 0 to 2")
 
 
 class Command(unittest.TestCase):
@@ -60,6 +71,7 @@ class Command(unittest.TestCase):
                     ((MULTIPLEXER, "2", "0"), 2, "2 0: 1 is missing"),
                     ((MULTIPLEXER, "s,a"), 2, "s a: b is missing"),
                     ((MULTIPLEXER, ""), 2, "an order is empty"),
+                    ((MULTIPLEXER, "9" * 5000), 2, f"{LONG}: {LONG} is out of range: the file's inputs are 0 to 2"),
                     ((MULTIPLEXER, "2,0,1", "0,1,3"), 2, "0 1 3: 3 is out of range: the file's inputs are 0 to 2")):
                 self.assertEqual(ran(*words), (status, "", f"minorder-levels: {message}\n"))
         status, output, errors = ran(MULTIPLEXER, "2", "0", "1", MINORDER_LIBRARY="/there/is/none.so")
