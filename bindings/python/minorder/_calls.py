@@ -8,7 +8,8 @@ from ._certificates import check_text, inputs_of
 from ._diagrams import Diagram, Node
 from ._errors import BadArgument, BadOrder, BadPairs, BadShape, MinorderError
 from ._library import Judged, NodeRow, Pair, library
-from ._tables import Pla, Tables, checked_inputs, inputs_said, listed, named_x_and_f, shown, whole, words_of
+from ._tables import (
+    Pla, Tables, checked_inputs, inputs_said, items_of, listed, named_x_and_f, order_of, shown, whole, words_of)
 from ._threads import aside
 
 NO_CERTIFICATE = 3
@@ -100,30 +101,12 @@ def _result_of(functions: Functions, order: Iterable[int], levels: Iterable[int]
     return found
 
 
-def _items(value: object, named: str, said: str) -> Sequence[object]:
-    """The items of an argument whose order counts or not; a text or a mapping has none that are meant."""
-    if isinstance(value, (str, bytes, bytearray, Mapping)) or not isinstance(value, Iterable):
-        raise BadArgument(f"{named}: {shown(value)} is no {said}")
-    return list(value)
-
-
-def _order_of(order: Sequence[int]) -> Tuple[int, ...]:
-    if isinstance(order, (set, frozenset)):
-        raise BadArgument(f"order: {shown(order)} has no first variable")
-    variables = tuple(whole(variable, "order") for variable in _items(order, "order", "sequence of variables"))
-    if not 1 <= len(variables) <= 16:
-        raise BadShape(f"order: {len(variables)} variables: there are 1 to 16")
-    if sorted(variables) != list(range(len(variables))):
-        raise BadOrder(f"order: {shown(variables)}: an order has each of 0 to {len(variables) - 1} once")
-    return variables
-
-
 def _pairs_of(above: Iterable[Tuple[int, int]], inputs: int) -> "Array[Pair]":
     pairs = []
-    for pair in _items(above, "above", "sequence of pairs of variables"):
+    for pair in items_of(above, "above", "sequence of pairs of variables"):
         if isinstance(pair, (set, frozenset)):
             raise BadArgument(f"above: {shown(pair)} is no pair of variables: it has no first one")
-        both = [whole(variable, "above") for variable in _items(pair, "above", "pair of variables")]
+        both = [whole(variable, "above") for variable in items_of(pair, "above", "pair of variables")]
         if len(both) != 2:
             raise BadPairs(f"above: {shown(pair)} is no pair of variables")
         if not all(0 <= variable < inputs for variable in both):
@@ -171,7 +154,7 @@ def certify(tables: Tables, inputs: Optional[int] = None, above: Iterable[Tuple[
 
 def levels(tables: Tables, order: Sequence[int]) -> Tuple[int, ...]:
     """The level counts of the tables' shared diagram under an order. Raises BadArgument, BadShape, BadOrder, MemoryError."""
-    variables = _order_of(order)
+    variables = order_of(order)
     inputs = len(variables)
     counts, given = (c_uint32 * inputs)(), _functions_of(tables, inputs).given()
     done(library().minorder_levels_with_lengths(*given, (c_uint8 * inputs)(*variables), inputs, counts, inputs))
@@ -180,7 +163,7 @@ def levels(tables: Tables, order: Sequence[int]) -> Tuple[int, ...]:
 
 def sift(tables: Tables, order: Sequence[int]) -> Result:
     """What one pass of Rudell's sifting makes of an order. Raises BadArgument, BadShape, BadOrder, MemoryError."""
-    variables = _order_of(order)
+    variables = order_of(order)
     inputs = len(variables)
     sifted, counts, total = (c_uint8 * inputs)(*variables), (c_uint32 * inputs)(), c_uint32()
     functions = _functions_of(tables, inputs)
@@ -191,16 +174,13 @@ def sift(tables: Tables, order: Sequence[int]) -> Result:
 def diagram(tables: Tables, order: Sequence[int]) -> Diagram:
     """The tables' reduced shared diagram under an order, with the names of ``read_pla``, else x0, x1, .. and f0, f1, ..
     Raises BadArgument, BadShape, BadOrder, MemoryError."""
-    variables = _order_of(order)
+    variables = order_of(order)
     return _diagram_of(_functions_of(tables, len(variables)), variables)
 
 
 def _diagram_of(functions: Functions, order: Tuple[int, ...]) -> Diagram:
     inputs, outputs = functions.inputs, functions.outputs
     names = functions.names or named_x_and_f(inputs, outputs)
-    named = len(names[0]), len(names[1])
-    if named != (inputs, outputs):
-        raise BadShape(f"tables: names of {named[0]} inputs and {named[1]} outputs where there are {inputs} and {outputs}")
     room = _most_nodes(inputs, outputs)
     nodes, roots, count = (NodeRow * room)(), (c_uint32 * outputs)(), c_size_t()
     places = nodes, room, roots, outputs, byref(count)

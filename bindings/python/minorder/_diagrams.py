@@ -4,15 +4,15 @@ from __future__ import annotations
 import json
 import os
 from collections import Counter
-from dataclasses import dataclass
+from dataclasses import dataclass, fields
 from functools import cached_property
-from typing import Callable, Iterator, NamedTuple, Optional, Tuple, TypeVar, Union
+from typing import Callable, Iterator, NamedTuple, Optional, Sequence, Tuple, TypeVar, Union, cast
 
 from . import _drawings
 from ._drawings import counted
-from ._errors import BadArgument, BadPath, BadShape
-from ._tables import TruthTable, shown, whole
-from ._writing import write_file
+from ._errors import BadPath, BadShape
+from ._tables import TruthTable, in_turn, names_of, order_of, shown, whole
+from ._writing import path_of, write_file
 
 T = TypeVar("T")
 # a notebook shows larger ones as bars
@@ -33,13 +33,24 @@ class Diagram:
 
     ``nodes`` stand level by level from below, children before parents. ``roots`` has the root of each function, numbered as
     children are. ``inputs`` and ``outputs`` are the names of the variables and of the functions. Its length is the number of
-    nodes.
+    nodes. Raises BadArgument, BadShape, BadOrder.
     """
     order: Tuple[int, ...]
     nodes: Tuple[Node, ...]
     roots: Tuple[int, ...]
     inputs: Tuple[str, ...]
     outputs: Tuple[str, ...]
+
+    def __post_init__(self) -> None:
+        order = order_of(self.order)
+        nodes = _nodes_of(self.nodes, len(order))
+        roots = tuple(whole(root, "roots") for root in in_turn(self.roots, "roots", "sequence of roots"))
+        for root in roots:
+            if not 0 <= root < len(nodes) + 2:
+                raise BadShape(f"roots: {shown(root)}: there are {counted(len(nodes))} and the constants")
+        names = names_of(self.inputs, "inputs", len(order)), names_of(self.outputs, "outputs", len(roots))
+        for field, value in zip(fields(self), (order, nodes, roots, *names)):
+            object.__setattr__(self, field.name, value)
 
     def __len__(self) -> int:
         return len(self.nodes)
@@ -99,16 +110,14 @@ class Diagram:
 
     def to_json(self) -> str:
         """The diagram as an object of JSON: inputs, outputs, order, levels, nodes (each variable, low, high), roots."""
-        fields = ("inputs", "outputs", "order", "levels", "nodes", "roots")
-        return json.dumps({name: getattr(self, name) for name in fields}) + "\n"
+        keys = ("inputs", "outputs", "order", "levels", "nodes", "roots")
+        return json.dumps({key: getattr(self, key) for key in keys}) + "\n"
 
     def save(self, path: Union[str, "os.PathLike[str]"]) -> None:
         """Writes a file whose suffix says what: .dot; .svg, .png or .pdf, by Graphviz; .json; .bdd, what BuDDy's ``bdd_save``
         writes, of each function behind the one before. Raises BadArgument, BadPath, NoGraphviz, and OSError if the file can't
         be written."""
-        if not isinstance(path, (str, os.PathLike)) or "\0" in os.fspath(path):
-            raise BadArgument(f"path: {shown(path)} is no path")
-        write_diagrams(os.fspath(path), [("", self)], self._title)
+        write_diagrams(path_of(path), [("", self)], self._title)
 
     @property
     def _title(self) -> str:
@@ -128,6 +137,26 @@ class Diagram:
 
     def _repr_html_(self) -> Optional[str]:
         return _drawings.bars_of(self) if self._svg is None else None
+
+
+def _nodes_of(nodes: object, variables: int) -> Tuple[Node, ...]:
+    """Nodes of so many variables that stand from below. Raises BadArgument, BadShape."""
+    given = in_turn(nodes, "nodes", "sequence of nodes")
+    # the library's are of these types, and many
+    are_plain = {*map(type, given)} <= {Node} and {type(it) for node in given for it in cast(Node, node)} <= {int}
+    found = tuple(cast(Sequence[Node], given) if are_plain else map(_node_of, given))
+    for number, (variable, low, high) in enumerate(found, 2):
+        if not (0 <= variable < variables and 0 <= low < number and 0 <= high < number):
+            allowed = f"its variable is 0 to {variables - 1}, a child 0 to {number - 1}"
+            raise BadShape(f"nodes: {shown(found[number - 2])}: {allowed}")
+    return found
+
+
+def _node_of(it: object) -> Node:
+    numbers = [whole(number, "nodes") for number in in_turn(it, "nodes", "node")]
+    if len(numbers) != 3:
+        raise BadShape(f"nodes: {shown(it)} is no node: that has a variable and two children")
+    return Node(*numbers)
 
 
 def _widened(table: Tuple[int, int], variables: int) -> int:

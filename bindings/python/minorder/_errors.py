@@ -16,7 +16,8 @@ class BadArgument(MinorderError, TypeError):
 
 
 class BadShape(MinorderError, ValueError):
-    """There aren't 1 to 16 variables and 1 to 16 tables, or a table has values for other points than theirs."""
+    """There aren't 1 to 16 variables and 1 to 16 tables, or a table has values for other points than theirs, or there are
+    other numbers of names, or a node or a root leads to none of a diagram's nodes."""
 
 
 class BadOrder(MinorderError, ValueError):

@@ -2,9 +2,9 @@
 from array import array
 from itertools import product
 from operator import index
-from typing import Callable, Iterable, List, Mapping, NamedTuple, Optional, Sequence, SupportsIndex, Tuple, Union, overload
+from typing import Any, Callable, Iterable, List, Mapping, NamedTuple, Optional, Sequence, SupportsIndex, Tuple, Union, overload
 
-from ._errors import BadArgument, BadShape
+from ._errors import BadArgument, BadOrder, BadShape
 
 Table = Union[SupportsIndex, bytes, bytearray, memoryview, "array[int]", Callable[..., object]]
 Tables = Union[Table, Sequence[Table], "Pla"]
@@ -72,12 +72,44 @@ class TruthTable(int):
         return TruthTable(int(self) ^ ((1 << (1 << self.inputs)) - 1), self.inputs)
 
 
-class Pla(NamedTuple):
-    """A PLA file: the truth tables of its outputs, and the names of its inputs and outputs, x0, x1, .. and f0, f1, ..
-    if it has none."""
+class _Named(NamedTuple):
     tables: Tuple[TruthTable, ...]
     inputs: Tuple[str, ...]
     outputs: Tuple[str, ...]
+
+
+class Pla(_Named):
+    """A PLA file: the truth tables of its outputs, and the names of its inputs and outputs, x0, x1, .. and f0, f1, ..
+    if it has none. Raises BadArgument, BadShape."""
+
+    def __new__(cls, tables: Iterable[TruthTable], inputs: Iterable[str], outputs: Iterable[str]) -> "Pla":
+        each: List[TruthTable] = []
+        for table in in_turn(tables, "tables", "sequence of tables"):
+            if not isinstance(table, TruthTable):
+                raise BadArgument(f"tables: {shown(table)} is no TruthTable")
+            each.append(table)
+            if table.inputs != each[0].inputs:
+                raise BadShape(f"tables: a table of {table.inputs} variables beside one of {each[0].inputs}")
+        if not 1 <= len(each) <= MOST:
+            raise BadShape(f"tables: {len(each)} tables: there are 1 to {MOST}")
+        return super().__new__(
+            cls, tuple(each), names_of(inputs, "inputs", each[0].inputs), names_of(outputs, "outputs", len(each)))
+
+    @classmethod
+    def _make(cls, iterable: Iterable[Any]) -> "Pla":  # type: ignore[override]
+        return cls(*iterable)
+
+
+def names_of(names: object, named: str, count: int) -> Tuple[str, ...]:
+    """So many names. Raises BadArgument, BadShape."""
+    found = []
+    for name in in_turn(names, named, "sequence of names"):
+        if not isinstance(name, str):
+            raise BadArgument(f"{named}: {shown(name)} is no name")
+        found.append(name)
+    if len(found) != count:
+        raise BadShape(f"{named}: {len(found)} names where there are {count}")
+    return tuple(found)
 
 
 def named_x_and_f(inputs: int, outputs: int) -> Tuple[Tuple[str, ...], Tuple[str, ...]]:
@@ -106,6 +138,30 @@ def whole(value: object, named: str) -> int:
         except TypeError:
             pass
     raise BadArgument(f"{named}: {shown(value)} is no whole number")
+
+
+def items_of(value: object, named: str, said: str) -> Sequence[object]:
+    """The items of an argument whose order counts or not; a text or a mapping has none that are meant."""
+    if isinstance(value, (str, bytes, bytearray, Mapping)) or not isinstance(value, Iterable):
+        raise BadArgument(f"{named}: {shown(value)} is no {said}")
+    return list(value)
+
+
+def in_turn(value: object, named: str, said: str) -> Sequence[object]:
+    """The items of an argument whose order counts."""
+    if isinstance(value, (set, frozenset)):
+        raise BadArgument(f"{named}: {shown(value)} is no {said}: it has no first item")
+    return items_of(value, named, said)
+
+
+def order_of(order: Sequence[int]) -> Tuple[int, ...]:
+    """An order, top first. Raises BadArgument, BadShape, BadOrder."""
+    variables = tuple(whole(variable, "order") for variable in in_turn(order, "order", "sequence of variables"))
+    if not 1 <= len(variables) <= 16:
+        raise BadShape(f"order: {len(variables)} variables: there are 1 to 16")
+    if sorted(variables) != list(range(len(variables))):
+        raise BadOrder(f"order: {shown(variables)}: an order has each of 0 to {len(variables) - 1} once")
+    return variables
 
 
 def checked_inputs(inputs: object) -> int:

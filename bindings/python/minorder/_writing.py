@@ -11,7 +11,21 @@ from threading import current_thread, main_thread
 from types import FrameType
 from typing import Callable, Iterator, Mapping, Optional
 
+from ._errors import BadArgument
+from ._tables import shown
+
 SIGNALS = (signal.SIGINT, signal.SIGTERM, signal.SIGHUP)
+
+
+def path_of(path: object) -> str:
+    """A path as a text. Raises BadArgument."""
+    try:
+        text = os.fspath(path) if isinstance(path, (str, os.PathLike)) else None
+    except TypeError:
+        text = None
+    if not isinstance(text, str) or "\0" in text:
+        raise BadArgument(f"path: {shown(path)} is no path")
+    return text
 
 
 def named(error: OSError, path: str) -> OSError:

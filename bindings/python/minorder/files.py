@@ -4,9 +4,10 @@ from ctypes import Array, byref, c_uint32, c_uint64
 from typing import Dict, Iterable, Tuple, Union
 
 from ._calls import done
-from ._errors import BadArgument, BadPla
+from ._errors import BadPla
 from ._library import Fault, Name, library
-from ._tables import MOST, Pla, TruthTable, named_x_and_f, shown
+from ._tables import MOST, Pla, TruthTable, named_x_and_f
+from ._writing import path_of
 
 LIMIT = 16_777_216
 NO_PLA = 9
@@ -17,15 +18,14 @@ REPORT_LINES = ("order", "names", "levels", "nodes", "sifted order", "sifted nod
 
 def read_pla(path: Union[str, "os.PathLike[str]"]) -> Pla:
     """The truth tables and the names of a PLA file of type f, which is refused where ``minorder`` refuses it, with
-    the same line and word. Raises BadPla, MemoryError, and OSError if the file can't be read."""
-    if not isinstance(path, (str, os.PathLike)) or "\0" in os.fspath(path):
-        raise BadArgument(f"path: {shown(path)} is no path")
-    with open(path, "rb") as file:
+    the same line and word. Raises BadArgument, BadPla, MemoryError, and OSError if the file can't be read."""
+    name = path_of(path)
+    with open(name, "rb") as file:
         content = file.read(LIMIT + 1)
     try:
         return pla_of(content)
     except BadPla as fault:
-        raise BadPla(fault.line, fault.kind, os.fspath(path)) from None
+        raise BadPla(fault.line, fault.kind, name) from None
 
 
 def pla_of(content: bytes) -> Pla:

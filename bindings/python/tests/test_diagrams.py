@@ -61,6 +61,8 @@ class Values(unittest.TestCase):
             found.order = (0, 1, 2)
         self.assertEqual({found, best(MULTIPLEXER), pickle.loads(pickle.dumps(found))}, {found})
         self.assertNotEqual(found, minorder.diagram(MULTIPLEXER, range(3)))
+        of_lists = minorder.Diagram([2, 0, 1], [[1, 0, 1], (0, 0, 1), Node(2, 3, 2)], [4], ["a", "b", "s"], list(found.outputs))
+        self.assertEqual(({found, of_lists}, of_lists.nodes[0].high), ({found}, 1))
 
     def test_names_that_no_file_gives(self):
         found = minorder.diagram([0b0110, 0], [1, 0])
@@ -103,17 +105,27 @@ class Values(unittest.TestCase):
         self.assertEqual(met, set(range(2, len(found) + 2)))
 
     def test_refusals_name_the_argument(self):
-        two_names = MULTIPLEXER._replace(inputs=("a", "b"))
+        found = best(MULTIPLEXER)
         for refused, error, text in (
                 (lambda: minorder.diagram(6, [0, 0]), minorder.BadOrder, "order: (0, 0)"),
                 (lambda: minorder.diagram(6, range(17)), minorder.BadShape, "order: 17 variables"),
                 (lambda: minorder.diagram(6, "01"), minorder.BadArgument, "order: '01'"),
                 (lambda: minorder.diagram(99, [0, 1]), minorder.BadShape, "tables: "),
                 (lambda: minorder.diagram(MULTIPLEXER, [0, 1]), minorder.BadShape, "tables: "),
-                (lambda: minorder.diagram(two_names, range(3)), minorder.BadShape, "tables: names of 2"),
-                (lambda: best(MULTIPLEXER).evaluate(8), minorder.BadShape, "point: 8: the points of 3 variables are 0 to 7"),
-                (lambda: best(MULTIPLEXER).evaluate((0, 1, 1)), minorder.BadArgument, "point: (0, 1, 1)"),
-                (lambda: best(MULTIPLEXER).save(7), minorder.BadArgument, "path: 7")):
+                (lambda: found.evaluate(8), minorder.BadShape, "point: 8: the points of 3 variables are 0 to 7"),
+                (lambda: found.evaluate((0, 1, 1)), minorder.BadArgument, "point: (0, 1, 1)"),
+                (lambda: found.save(7), minorder.BadArgument, "path: 7"),
+                (lambda: found.save(unittest.mock.Mock(__fspath__=lambda _: b"it.json")), minorder.BadArgument, "path: "),
+                (lambda: replace(found, order=(2, 0, 0)), minorder.BadOrder, "order: (2, 0, 0)"),
+                (lambda: replace(found, order={0, 1, 2}), minorder.BadArgument, "order: {0, 1, 2} is no sequence"),
+                (lambda: replace(found, inputs="abs"), minorder.BadArgument, "inputs: 'abs' is no sequence of names"),
+                (lambda: replace(found, inputs=["a", "b", 3]), minorder.BadArgument, "inputs: 3 is no name"),
+                (lambda: replace(found, outputs=["f", "g"]), minorder.BadShape, "outputs: 2 names where there are 1"),
+                (lambda: replace(found, nodes=3), minorder.BadArgument, "nodes: 3 is no sequence of nodes"),
+                (lambda: replace(found, nodes=[(0, 1)]), minorder.BadShape, "nodes: (0, 1) is no node"),
+                (lambda: replace(found, nodes=[Node("a", 0, 1)]), minorder.BadArgument, "nodes: 'a' is no whole number"),
+                (lambda: replace(found, nodes=[Node(0, 0, 2)]), minorder.BadShape, "nodes: Node(variable=0, low=0, high=2)"),
+                (lambda: replace(found, roots=[5]), minorder.BadShape, "roots: 5: there are 3 nodes and the constants")):
             with self.assertRaises(error) as raised:
                 refused()
             self.assertTrue(str(raised.exception).startswith(text), raised.exception)

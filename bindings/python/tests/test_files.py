@@ -12,6 +12,7 @@ import re
 import sys
 import tempfile
 import unittest
+import unittest.mock
 
 HERE = os.path.dirname(os.path.abspath(__file__))
 TOP = os.path.dirname(os.path.dirname(os.path.dirname(HERE)))
@@ -53,12 +54,30 @@ class Pla(unittest.TestCase):
             self.assertEqual(str(caught.exception), f"{path}: line 3: DontCare")
             self.assertRaises(FileNotFoundError, minorder.read_pla, f"{folder}/none.pla")
         self.assertEqual(minorder.read_pla(pathlib.Path(TOP, "examples", "mux2.pla")).outputs, ("f",))
-        for path in (None, 3, "\0", ["it.pla"]):
+        of_bytes = unittest.mock.Mock(__fspath__=lambda _: os.fsencode(f"{TOP}/examples/mux2.pla"))
+        for path in (None, 3, "\0", ["it.pla"], of_bytes):
             self.assertRaises(minorder.BadArgument, minorder.read_pla, path)
         with self.assertRaises(minorder.BadPla) as caught:
             files.pla_of(b"#" * (files.LIMIT + 1))
         self.assertEqual((caught.exception.line, caught.exception.kind), (None, "TooLong"))
         self.assertEqual(str(pickle.loads(pickle.dumps(caught.exception))), "TooLong")
+
+    def test_it_is_a_value_of_tuples(self):
+        found = minorder.read_pla(f"{TOP}/examples/mux2.pla")
+        of_lists = minorder.Pla(*map(list, found))
+        self.assertEqual({found, of_lists, pickle.loads(pickle.dumps(found)), copy.copy(found)}, {found})
+        self.assertEqual(repr(of_lists), "Pla(tables=(TruthTable(0xca, inputs=3),), inputs=('a', 'b', 's'), outputs=('f',))")
+        for refused, error, text in (
+                (lambda: minorder.Pla(found.tables, ["a", "b"], ["f"]), minorder.BadShape, "inputs: 2 names where there are 3"),
+                (lambda: found._replace(outputs=()), minorder.BadShape, "outputs: 0 names where there are 1"),
+                (lambda: found._replace(inputs="abs"), minorder.BadArgument, "inputs: 'abs' is no sequence of names"),
+                (lambda: found._replace(inputs={"a", "b", "s"}), minorder.BadArgument, "inputs: {"),
+                (lambda: found._replace(tables=[0xca]), minorder.BadArgument, "tables: 202 is no TruthTable"),
+                (lambda: found._replace(tables=[]), minorder.BadShape, "tables: 0 tables"),
+                (lambda: found._replace(tables=found.tables + minorder.variables(2)), minorder.BadShape, "tables: a table of 2")):
+            with self.assertRaises(error) as raised:
+                refused()
+            self.assertTrue(str(raised.exception).startswith(text), raised.exception)
 
     def test_the_most_inputs_and_outputs(self):
         rows = ["-" * 16 + " " + "0" * 15 + "1", "1" + "-" * 15 + " 1" + "0" * 15, "-" * 15 + "1 1" + "0" * 15]
