@@ -18,6 +18,8 @@ pub struct Node {
 /// The reduced shared diagram of functions under an order.
 #[derive(Debug, Clone, PartialEq, Eq)]
 pub struct Diagram {
+    /// How many variables the functions have.
+    pub inputs: usize,
     /// The nodes, level by level from below: children stand before parents.
     pub nodes: Vec<Node>,
     /// The root of each output: 0, 1, or i + 2 for node i.
@@ -28,8 +30,10 @@ impl Diagram {
     /// The value of an output at a point.
     ///
     /// # Panics
-    /// If there is no such output.
+    /// If there is no such output, or the functions have no such point.
     pub fn value(&self, point: usize, output: usize) -> bool {
+        assert!(point < 1 << self.inputs, "point: {point}: there are {}", 1 << self.inputs);
+        assert!(output < self.roots.len(), "output: {output}: there are {}", self.roots.len());
         let mut at = self.roots[output];
         while at > 1 {
             let node = self.nodes[at as usize - 2];
@@ -62,7 +66,7 @@ pub fn diagram(tables: &Tables, order: &[u8]) -> Result<Diagram, Error> {
     done(library::diagram(tables, order, &mut nodes, &mut roots, &mut count))?;
     nodes.truncate(count);
     nodes.shrink_to_fit();
-    Ok(Diagram { nodes, roots })
+    Ok(Diagram { inputs: tables.inputs(), nodes, roots })
 }
 
 /// As many nodes as a diagram of such functions has at most: on each level one for each output

@@ -204,7 +204,20 @@ fn diagrams_have_their_functions_and_level_counts() {
     let best = exact(&adder()).unwrap().order;
     see(&adder(), &best, &diagram(&adder(), &best).unwrap());
     let constants = Tables::from_fn(2, 2, |_, output| output == 1).unwrap();
-    assert_eq!(diagram(&constants, &[0, 1]).unwrap(), Diagram { nodes: vec![], roots: vec![0, 1] });
+    let plain = Diagram { inputs: 2, nodes: vec![], roots: vec![0, 1] };
+    assert_eq!(diagram(&constants, &[0, 1]).unwrap(), plain);
+}
+
+#[test]
+#[should_panic(expected = "point: 8: there are 8")]
+fn a_diagram_has_no_value_at_another_point() {
+    diagram(&mux(), &[2, 0, 1]).unwrap().value(8, 0);
+}
+
+#[test]
+#[should_panic(expected = "output: 1: there are 1")]
+fn a_diagram_has_no_value_of_another_output() {
+    diagram(&mux(), &[2, 0, 1]).unwrap().value(7, 1);
 }
 
 #[test]
