@@ -1,6 +1,6 @@
 use std::fmt;
 
-use crate::Pair;
+use crate::{Pair, PlaFault};
 
 /// Why a call was refused. Its text is one line that names the argument.
 #[derive(Debug, Clone, PartialEq, Eq)]
@@ -46,12 +46,21 @@ pub enum Error {
     OtherShape(usize),
     /// The text is no certificate.
     BadCertificate,
+    /// The text is no PLA file.
+    BadPla {
+        /// Its first faulty line, from 1; 0 where no line is faulty, as of an empty or a long text.
+        line: usize,
+        /// What is wrong there.
+        fault: PlaFault,
+    },
     /// The library was refused memory.
     OutOfMemory,
     /// The library ended with a status that this crate doesn't know.
     UnknownStatus(u32),
     /// The library gave a reason for its verdict that this crate doesn't know.
     UnknownReason(u32),
+    /// The library gave a fault of a PLA file that this crate doesn't know.
+    UnknownFault(u32),
 }
 
 impl fmt::Display for Error {
@@ -77,9 +86,12 @@ impl fmt::Display for Error {
                 write!(to, "problems: problem {problem} hasn't the first one's inputs and outputs")
             }
             Self::BadCertificate => write!(to, "certificate: the text isn't one"),
+            Self::BadPla { fault: PlaFault::TooLong, .. } => write!(to, "TooLong"),
+            Self::BadPla { line, fault } => write!(to, "line {line}: {fault}"),
             Self::OutOfMemory => write!(to, "the library was refused memory"),
             Self::UnknownStatus(status) => write!(to, "the library ended with status {status}"),
             Self::UnknownReason(reason) => write!(to, "the library gave the reason {reason}"),
+            Self::UnknownFault(fault) => write!(to, "the library gave the fault {fault}"),
         }
     }
 }

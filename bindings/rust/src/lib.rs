@@ -20,6 +20,7 @@
 //! - [`certify`] gives a certificate of that order, and [`check`] the verdict on one.
 //! - [`levels`] gives the level counts under any order, and [`diagram`] the diagram itself.
 //! - [`sift`] gives what one pass of sifting makes of an order.
+//! - [`read_pla`] reads the tables and names of a PLA file.
 //!
 //! An order lists each variable once, top first. Level counts are numbers of decision nodes, top
 //! level first: one root a function, no complement edges, terminals not counted. A call runs on
@@ -49,10 +50,12 @@ mod diagrams;
 mod error;
 mod library;
 mod orders;
+mod pla;
 mod tables;
 
 pub use certificates::{certify, check, Reason, Verdict};
 pub use diagrams::{diagram, Diagram, Node};
 pub use error::Error;
 pub use orders::{exact, exact_above, exact_many, levels, sift, FoundOrder, Pair};
+pub use pla::{read_pla, Pla, PlaFault};
 pub use tables::Tables;

@@ -12,6 +12,32 @@ pub struct Judged {
     pub variable: u32,
 }
 
+/// A name, as a part of a text; of length 0 where there is none.
+#[derive(Default, Clone, Copy)]
+#[repr(C)]
+pub struct Place {
+    pub start: usize,
+    pub length: usize,
+}
+
+/// What is wrong with a PLA file.
+#[derive(Default)]
+#[repr(C)]
+pub struct Fault {
+    pub line: usize,
+    pub kind: u32,
+}
+
+/// What a PLA file says besides its truth tables, or its first fault.
+#[derive(Default)]
+pub struct Found {
+    pub inputs: u32,
+    pub outputs: u32,
+    pub input_names: [Place; 16],
+    pub output_names: [Place; 16],
+    pub fault: Fault,
+}
+
 #[rustfmt::skip]
 extern "C" {
     fn minorder_exact_with_lengths(
@@ -48,6 +74,11 @@ extern "C" {
         tables: *const u64, words: usize, inputs: u32, outputs: u32,
         certificate: *const u8, length: usize, verdict: *mut Judged, total: *mut u32,
         pairs: *mut Pair, room: usize, count: *mut usize,
+    ) -> u32;
+    fn minorder_read_pla_with_lengths(
+        text: *const u8, length: usize, inputs: *mut u32, outputs: *mut u32,
+        input_names: *mut Place, input_places: usize, output_names: *mut Place, output_places: usize,
+        tables: *mut u64, room: usize, fault: *mut Fault,
     ) -> u32;
 }
 
@@ -237,6 +268,25 @@ pub fn check(
             pairs.as_mut_ptr(),
             pairs.len(),
             count,
+        )
+    }
+}
+
+pub fn read_pla(text: &[u8], found: &mut Found, words: &mut [u64]) -> u32 {
+    // SAFETY: as in `exact`; a `Place` and a `Fault` are laid out as C's.
+    unsafe {
+        minorder_read_pla_with_lengths(
+            text.as_ptr(),
+            text.len(),
+            &mut found.inputs,
+            &mut found.outputs,
+            found.input_names.as_mut_ptr(),
+            found.input_names.len(),
+            found.output_names.as_mut_ptr(),
+            found.output_names.len(),
+            words.as_mut_ptr(),
+            words.len(),
+            &mut found.fault,
         )
     }
 }

@@ -1,7 +1,7 @@
 use crate::Error;
 
-const MOST_INPUTS: usize = 16;
-const MOST_OUTPUTS: usize = 16;
+pub(crate) const MOST_INPUTS: usize = 16;
+pub(crate) const MOST_OUTPUTS: usize = 16;
 const WORD: usize = u64::BITS as usize;
 
 /// The truth tables of 1 to 16 functions of the same 1 to 16 variables. Bit i of a point is the
@@ -116,11 +116,15 @@ impl Tables {
         if !(1..=MOST_OUTPUTS).contains(&outputs) {
             return Err(Error::BadOutputs(outputs));
         }
-        let each = (1 << inputs).max(WORD) / WORD;
-        Ok(Self { inputs, outputs, words: vec![0; outputs * each] })
+        Ok(Self { inputs, outputs, words: vec![0; outputs * words_of(inputs)] })
     }
 
     fn words_of_each(&self) -> usize {
-        self.words.len() / self.outputs
+        words_of(self.inputs)
     }
+}
+
+/// How many words the table of a function of so many variables takes.
+pub(crate) fn words_of(inputs: usize) -> usize {
+    (1 << inputs).max(WORD) / WORD
 }

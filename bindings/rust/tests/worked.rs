@@ -2,8 +2,8 @@
 //! ones beside each other.
 
 use minorder::{
-    certify, check, diagram, exact, exact_above, exact_many, levels, sift, Diagram, Error, Pair,
-    Reason, Tables,
+    certify, check, diagram, exact, exact_above, exact_many, levels, read_pla, sift, Diagram,
+    Error, Pair, PlaFault, Reason, Tables,
 };
 
 const MUX: &str = include_str!("../../../examples/mux2.cert");
@@ -218,6 +218,36 @@ fn a_diagram_has_no_value_at_another_point() {
 #[should_panic(expected = "output: 1: there are 1")]
 fn a_diagram_has_no_value_of_another_output() {
     diagram(&mux(), &[2, 0, 1]).unwrap().value(7, 1);
+}
+
+#[test]
+fn files_are_read_with_their_names() {
+    let file = read_pla(include_str!("../../../examples/mux2.pla")).unwrap();
+    assert_eq!(
+        (file.tables, file.inputs.concat(), file.outputs.concat()),
+        (mux(), "abs".into(), "f".into())
+    );
+    // a last name without a line feed behind it
+    let named = read_pla(".i 7\n.o 2\n1------ 01\n.ob y z").unwrap();
+    assert_eq!((named.inputs[6].as_str(), named.outputs.concat()), ("x6", "yz".into()));
+    assert_eq!(named.tables.words(), [0, 0, 0xaaaa_aaaa_aaaa_aaaa, 0xaaaa_aaaa_aaaa_aaaa]);
+    let large = read_pla(format!(".i 16\n.o 16\n{0} {0}\n", "1".repeat(16))).unwrap().tables;
+    assert!((0..16).all(|output| large.value(0xffff, output) && !large.value(0xfffe, output)));
+}
+
+#[test]
+fn files_that_are_none_are_refused_with_line_and_fault() {
+    let refused = Error::BadPla { line: 3, fault: PlaFault::DontCare };
+    assert_eq!(read_pla(".i 2\n.o 1\n11 -\n"), Err(refused));
+    for (text, said) in [
+        (b"".to_vec(), "line 0: MissingHead"),
+        (b".i 17\n".to_vec(), "line 1: InputCount"),
+        (b".i 1\n.o 1\n1 11\n".to_vec(), "line 3: LongTerm"),
+        (b".i 1\n.o 1\n.ilb \xff\n".to_vec(), "line 3: BadName"),
+        (vec![b'#'; (1 << 24) + 1], "TooLong"),
+    ] {
+        assert_eq!(read_pla(text).unwrap_err().to_string(), said);
+    }
 }
 
 #[test]
