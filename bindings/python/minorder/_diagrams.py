@@ -21,7 +21,7 @@ MOST_SHOWN = 300
 
 class Node(NamedTuple):
     """A decision node: its variable, and its children where that is 0 and where it is 1. The children 0 and 1 are the
-    constants, and i + 2 is node i of the diagram."""
+    terminals, and k + 2 is node k of the diagram."""
     variable: int
     low: int
     high: int
@@ -47,7 +47,7 @@ class Diagram:
         roots = tuple(whole(root, "roots") for root in in_turn(self.roots, "roots", "sequence of roots"))
         for root in roots:
             if not 0 <= root < len(nodes) + 2:
-                raise BadShape(f"roots: {shown(root)}: there are {counted(len(nodes))} and the constants")
+                raise BadShape(f"roots: {shown(root)}: there are {counted(len(nodes))} and the terminals")
         names = names_of(self.inputs, "inputs", len(order)), names_of(self.outputs, "outputs", len(roots))
         for field, value in zip(fields(self), (order, nodes, roots, *names)):
             object.__setattr__(self, field.name, value)
@@ -80,7 +80,7 @@ class Diagram:
 
     def fold(self, zero: T, one: T, node: Callable[[int, T, T], T]) -> Tuple[T, ...]:
         """What ``node(variable, low, high)`` makes of each root, called once for each node, from below: ``low`` and ``high``
-        are what its children became, the constants being ``zero`` and ``one``."""
+        are what its children became, the terminals being ``zero`` and ``one``."""
         made = [zero, one]
         for variable, low, high in self.nodes:
             made.append(node(variable, made[low], made[high]))

@@ -125,7 +125,7 @@ class Values(unittest.TestCase):
                 (lambda: replace(found, nodes=[(0, 1)]), minorder.BadShape, "nodes: (0, 1) is no node"),
                 (lambda: replace(found, nodes=[Node("a", 0, 1)]), minorder.BadArgument, "nodes: 'a' is no whole number"),
                 (lambda: replace(found, nodes=[Node(0, 0, 2)]), minorder.BadShape, "nodes: Node(variable=0, low=0, high=2)"),
-                (lambda: replace(found, roots=[5]), minorder.BadShape, "roots: 5: there are 3 nodes and the constants")):
+                (lambda: replace(found, roots=[5]), minorder.BadShape, "roots: 5: there are 3 nodes and the terminals")):
             with self.assertRaises(error) as raised:
                 refused()
             self.assertTrue(str(raised.exception).startswith(text), raised.exception)

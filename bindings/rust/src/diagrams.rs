@@ -2,16 +2,16 @@ use crate::library::{self, done};
 use crate::orders::check_order;
 use crate::{Error, Tables};
 
-/// A node of a diagram: its variable, and its successors where that is 0 and where it is 1.
-/// 0 and 1 are the constants, i + 2 is node i.
+/// A node of a diagram: its variable, and its children where that is 0 and where it is 1.
+/// 0 and 1 are the terminals, k + 2 is node k.
 #[derive(Debug, Clone, Copy, Default, PartialEq, Eq, Hash)]
 #[repr(C)]
 pub struct Node {
     /// The variable.
     pub variable: u32,
-    /// The successor where the variable is 0.
+    /// The child where the variable is 0.
     pub low: u32,
-    /// The successor where the variable is 1.
+    /// The child where the variable is 1.
     pub high: u32,
 }
 
@@ -22,7 +22,7 @@ pub struct Diagram {
     pub inputs: usize,
     /// The nodes, level by level from below: children stand before parents.
     pub nodes: Vec<Node>,
-    /// The root of each output: 0, 1, or i + 2 for node i.
+    /// The root of each output: 0, 1, or k + 2 for node k.
     pub roots: Vec<u32>,
 }
 
