@@ -9,3 +9,6 @@ pub mod ValueSteps
 pub mod FourVariables
 pub mod MemberPlaces
 pub mod JoinedValues
+pub mod PlainSearches
+pub mod PackedWords
+pub mod ValueParts

@@ -1,18 +1,14 @@
 -- One set more on the way.
---     lent      a slice that comes back whole
---     path_start      the way to the empty set
---     own_table      the table of the set itself
---     parent_holds      the table of the set without its lowest variable
---     parent_ready      that its pairs can be numbered
+--     start_all, own_all, parent_all, more_all      what holds of the sets on the way to a set
+--     parent_ready      that the pairs of the set without its lowest variable can be numbered
 --     values_made, classes_made      the set's table, of values or of classes
---     path_more      the way to the set
-use Rattle.std.proofs.Common.{◌≡◌, ℕ, ◌+◌, ◌-◌, ◌*◌, ◌/◌, ◌^◌, ◌<◌, ◌≤◌, inl, inr, false, ◌≢◌, ◌%◌, List, ◌++◌, map, count_ones, length, get_or, take, drop, sym, ap, ap₂, ◌∙◌, subst, arith, zero-mul}
+use Rattle.std.proofs.Common.{◌≡◌, ℕ, ◌+◌, ◌-◌, ◌*◌, ◌/◌, ◌^◌, ◌<◌, ◌≤◌, inl, inr, false, ◌≢◌, ◌%◌, List, map, count_ones, length, get_or, sym, ap, ap₂, ◌∙◌, subst, arith, zero-mul}
 use Rattle.std.specs.List.{range_with_len}
-use Rattle.std.proofs.lemmas.Bool.{cases_eq, cases_lt}
+use Rattle.std.proofs.lemmas.Bool.{cases_lt}
 use Rattle.std.proofs.lemmas.List.FromFn.{fill_by_all}
+use Rattle.std.proofs.lemmas.Nat.{ones_cat, pow_pos}
 use Rattle.std.proofs.lemmas.Nat.Bits.{bit_at_above}
 use Rattle.std.proofs.Math.Nat.{div-one, zero-div}
-use Rattle.std.proofs.Math.Seq.{take-append_seam}
 use Rattle.definitions.specs.Orders.{has, members}
 use Rattle.definitions.specs.Problems.{TruthTables}
 use Rattle.definitions.specs.Widths.{same_pair}
@@ -27,33 +23,54 @@ use Rattle.subfunction_classes.proofs.OneMoreVariable.{IsReady, is_ready, holds_
 use Rattle.pair_chains.proofs.HighSets.{free_all, high_new, high_or, step_down}
 use mathlib.Core.List.{map-map}
 use Rattle.small_search.specs.Joining.{AreJoined}
-use Rattle.small_search.specs.Paths.{HoldPath, HoldsTable}
 use Rattle.small_search.specs.Values.{size_of, set_values}
-use Rattle.small_search.specs.declared.tables.Table.{Table}
 use Rattle.small_search.proofs.LowestVariables.{IsLowest, no_ones, parent_back, parent_free, parent_is, size_more, way_above, way_own}
 use Rattle.small_search.proofs.ValueLaws.{joined}
 use Rattle.small_search.proofs.ValueSteps.{members_more, values_below, values_step, whole_pairs}
 
-pub lent : {X : Type 0} → (len : ℕ) (new old : List X) → length new ≡ length old → len ≡ length old → take len (new ++ drop (length new) old) ≡ new
-lent len new old a b = ap (λ k. take k (new ++ drop (length new) old)) (b ∙ sym a) ∙ take-append_seam new (drop (length new) old)
-
-pub path_start : (p : TruthTables) (tables : List Table) → length tables ≡ p.inputs + 1 →
-    ((k : ℕ) (d : Table) → k ≤ 3 → k ≤ p.inputs → length (get_or tables k d).values.items ≡ length p.tables * 2 ^ p.inputs / 2 ^ k) →
-    ((d : Table) → HoldsTable p 0 (get_or tables 0 d)) → HoldPath p 0 tables
-path_start p tables many room first = record { many = many; room = room; each = λ k d. at k (0 / 2 ^ k) d (zero-div (2 ^ k)) }
+-- what holds of the sets on the way to a set, and of their sizes
+pub start_all : (H : ℕ → ℕ → Type 0) → H 0 0 → (k : ℕ) → H (0 / 2 ^ k * 2 ^ k) (count_ones (0 / 2 ^ k))
+start_all H first k = at (0 / 2 ^ k) (zero-div (2 ^ k))
   where
-    at : (k part : ℕ) (d : Table) → part ≡ 0 → HoldsTable p (part * 2 ^ k) (get_or tables (count_ones part) d)
-    at k part d e =
-        subst (λ (i : ℕ). HoldsTable p i (get_or tables (count_ones part) d)) (sym (ap (λ i. i * 2 ^ k) e ∙ zero-mul (2 ^ k)))
-        (subst (λ (i : ℕ). HoldsTable p 0 (get_or tables i d)) (sym (ap count_ones e ∙ no_ones)) (first d))
+    at : (part : ℕ) → part ≡ 0 → H (part * 2 ^ k) (count_ones part)
+    at part e =
+        subst (λ (i : ℕ). H i (count_ones part)) (sym (ap (λ i. i * 2 ^ k) e ∙ zero-mul (2 ^ k)))
+        (subst (λ (i : ℕ). H 0 i) (sym (ap count_ones e ∙ no_ones)) first)
 
--- the table of the set itself
-pub own_table : (p : TruthTables) (mask : ℕ) (tables : List Table) → HoldPath p mask tables → (d : Table) →
-    HoldsTable p mask (get_or tables (count_ones mask) d)
-own_table p mask tables h d =
-    let one = div-one mask in
-    subst (λ (i : ℕ). HoldsTable p i (get_or tables (count_ones mask) d)) (let e : mask * 1 ≡ mask = omega arith in e)
-    (subst (λ (i : ℕ). HoldsTable p (i * 1) (get_or tables (count_ones i) d)) one (h.each 0 d))
+pub own_all : (H : ℕ → ℕ → Type 0) (mask : ℕ) → ((k : ℕ) → H (mask / 2 ^ k * 2 ^ k) (count_ones (mask / 2 ^ k))) → H mask (count_ones mask)
+own_all H mask h =
+    subst (λ (i : ℕ). H i (count_ones mask)) (let e : mask * 1 ≡ mask = omega arith in e)
+    (subst (λ (i : ℕ). H (i * 1) (count_ones i)) (div-one mask) (h 0))
+
+ones_shifted : (a k : ℕ) → count_ones (a * 2 ^ k) ≡ count_ones a
+ones_shifted a k =
+    let z : a * 2 ^ k ≡ a * 2 ^ k + 0 = omega arith in
+    let o = ap count_ones z ∙ ones_cat k a 0 (pow_pos k) in
+    omega (arith, o, no_ones)
+
+module _ (mask x size : ℕ) (low : IsLowest mask x) (size_is : size ≡ count_ones mask) (H : ℕ → ℕ → Type 0)
+    (path : (k : ℕ) → H ((mask - 1) / 2 ^ k * 2 ^ k) (count_ones ((mask - 1) / 2 ^ k))) where
+  pub parent_all : H (mask - 2 ^ x) (size - 1)
+  parent_all =
+      let s : count_ones ((mask - 1) / 2 ^ x) ≡ size - 1 = omega (arith, size_more mask x low, size_is) in
+      subst (λ (i : ℕ). H i (size - 1)) (parent_is mask x low) (subst (λ (i : ℕ). H ((mask - 1) / 2 ^ x * 2 ^ x) i) s (path x))
+
+  -- where only what stands at the size is another
+  pub more_all : (H' : ℕ → ℕ → Type 0) → ((set i : ℕ) → i ≢ size → count_ones set ≡ i → H set i → H' set i) → H' mask size →
+      (k : ℕ) → H' (mask / 2 ^ k * 2 ^ k) (count_ones (mask / 2 ^ k))
+  more_all H' others own k = elim (cases_lt x k) [ inl above ↦ kept above | inr le ↦ here le ]
+    where
+      here : k ≤ x → H' (mask / 2 ^ k * 2 ^ k) (count_ones (mask / 2 ^ k))
+      here le =
+          let w = way_own mask x low k le in
+          subst (λ (i : ℕ). H' i (count_ones (mask / 2 ^ k))) (sym w.0) (subst (λ (i : ℕ). H' mask i) (size_is ∙ sym w.1) own)
+
+      kept : x < k → H' (mask / 2 ^ k * 2 ^ k) (count_ones (mask / 2 ^ k))
+      kept lt =
+          let w = way_above mask x low k lt in
+          let other : count_ones (mask / 2 ^ k) ≢ size = λ s. (let f : ⊥ = omega (arith, s, w.1, size_is) in f) in
+          others (mask / 2 ^ k * 2 ^ k) (count_ones (mask / 2 ^ k)) other (ones_shifted (mask / 2 ^ k) k)
+          (subst (λ (j : ℕ). H (j * 2 ^ k) (count_ones j)) (sym w.0) (path k))
 
 module _ (p : TruthTables) (mask x : ℕ) (low : IsLowest mask x) (within : mask < 2 ^ p.inputs) where
   abbrev parent : ClassesOf
@@ -117,38 +134,3 @@ module _ (p : TruthTables) (mask x : ℕ) (low : IsLowest mask x) (within : mask
         ∙ sym (map-map (joined (2 ^ 2 ^ k)) (pair_at vs (2 ^ x)) (range_with_len 0 (length vs / 2)))
         ∙ ap₂ (λ c us. map (joined c) (pairs us (2 ^ x))) (sym (size_is k size)) are
         ∙ sym (values_step p mask x low within)
-
-module _ (p : TruthTables) (mask x size : ℕ) (low : IsLowest mask x) (within : mask < 2 ^ p.inputs) (size_is : size ≡ count_ones mask) (old : List Table)
-    (path : HoldPath p (mask - 1) old) where
-  pub parent_holds : (d : Table) → HoldsTable p (mask - 2 ^ x) (get_or old (size - 1) d)
-  parent_holds d =
-      let s : count_ones ((mask - 1) / 2 ^ x) ≡ size - 1 = omega (arith, size_more mask x low, size_is) in
-      subst (λ (i : ℕ). HoldsTable p i (get_or old (size - 1) d)) (parent_is mask x low)
-      (subst (λ (i : ℕ). HoldsTable p ((mask - 1) / 2 ^ x * 2 ^ x) (get_or old i d)) s (path.each x d))
-
-  -- the tables with another one at the size
-  pub path_more : (tables : List Table) → length tables ≡ length old → ((i : ℕ) (d : Table) → i ≢ size → get_or tables i d ≡ get_or old i d) →
-      ((d : Table) → HoldsTable p mask (get_or tables size d)) →
-      ((d : Table) → length (get_or tables size d).values.items ≡ length (get_or old size d).values.items) → HoldPath p mask tables
-  path_more tables long others own room = record {
-    many = long ∙ path.many;
-    room = λ k d l m. elim (cases_eq k size) [
-      | inl e ↦ ap (λ i. length (get_or tables i d).values.items) e ∙ room d ∙ ap (λ i. length (get_or old i d).values.items) (sym e) ∙ path.room k d l m
-      | inr ne ↦ ap (λ (t : Table). length t.values.items) (others k d ne) ∙ path.room k d l m
-    ];
-    each = λ k d. elim (cases_lt x k) [ inl above ↦ kept k d above | inr le ↦ here k d le ];
-  }
-    where
-      here : (k : ℕ) (d : Table) → k ≤ x → HoldsTable p (mask / 2 ^ k * 2 ^ k) (get_or tables (count_ones (mask / 2 ^ k)) d)
-      here k d le =
-          let w = way_own mask x low k le in
-          subst (λ (i : ℕ). HoldsTable p i (get_or tables (count_ones (mask / 2 ^ k)) d)) (sym w.0)
-          (subst (λ (i : ℕ). HoldsTable p mask (get_or tables i d)) (size_is ∙ sym w.1) (own d))
-
-      kept : (k : ℕ) (d : Table) → x < k → HoldsTable p (mask / 2 ^ k * 2 ^ k) (get_or tables (count_ones (mask / 2 ^ k)) d)
-      kept k d lt =
-          let w = way_above mask x low k lt in
-          let i = count_ones (mask / 2 ^ k) in
-          let other : i ≢ size = λ s. (let f : ⊥ = omega (arith, s, w.1, size_is) in f) in
-          subst (λ (u : Table). HoldsTable p (mask / 2 ^ k * 2 ^ k) u) (sym (others i d other))
-          (subst (λ (j : ℕ). HoldsTable p (j * 2 ^ k) (get_or old (count_ones j) d)) (sym w.0) (path.each k d))

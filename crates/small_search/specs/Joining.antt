@@ -1,10 +1,17 @@
 -- Values of pairs, joined.
 --     AreJoined before x count values      each is that of the entry where x is 0, and `count` times that where x is 1
-use Rattle.std.specs.Prelude.{◌≡◌, ℕ, ◌+◌, ◌*◌, ◌/◌, ◌^◌, ◌<◌, List, length, slice_index}
+--     IsJoinedAt entries old new x size      of the values of all sizes those of one are those of the size before, joined, and the others stay
+use Rattle.std.specs.Prelude.{◌≡◌, ◌≢◌, ℕ, ◌+◌, ◌-◌, ◌*◌, ◌/◌, ◌^◌, ◌<◌, ◌≤◌, List, length, slice_index}
 use Rattle.subfunction_classes.specs.Places.{pair_at}
+use Rattle.small_search.specs.ValuePlaces.{values_at}
 
 pub record AreJoined (before : List ℕ) (x count : ℕ) (values : List ℕ) : Type 0 where
   pub long : length values ≡ length before / 2
   pub each : (j : ℕ) → j < length values →
       let p = pair_at before (2 ^ x) j in
       slice_index values j ≡ p.0 + p.1 * count
+
+pub record IsJoinedAt (entries : ℕ) (old new : List ℕ) (x size : ℕ) : Type 0 where
+  pub joined : AreJoined (values_at entries old (size - 1)) x (2 ^ 2 ^ (size - 1)) (values_at entries new size)
+  pub others : (k : ℕ) → k ≤ 3 → k ≢ size → values_at entries new k ≡ values_at entries old k
+  pub long : length new ≡ length old

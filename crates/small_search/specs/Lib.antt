@@ -1,7 +1,10 @@
+pub mod Searches
 pub mod FirstCells
+pub mod ValuePlaces
+pub mod Joining
+pub mod ClassSteps
 pub mod Paths
 pub mod Values
-pub mod Joining
 pub mod Counting
 pub mod ClassesOfValues
 pub mod Occurrences

@@ -1,24 +1,31 @@
 -- The subfunctions over the sets on the way to a set.
 --     without_lowest set      a set without its lowest variable
---     HoldsTable p set t      of a set of up to three variables a table has the values, of a larger one the class table
---     HoldPath p set tables      there is a table for each size; for each set that has the variables of `set` from some bound on, that of
---                                its size is its table; those of up to three variables have room for their values
+--     HoldValues p set tables size      at a size stand the values of a set, if it has up to three variables
+--     HoldNumbers p set classes size d      at a size stands the class table of a set, if it has more
+--     HoldPath p set tables      this holds of each set that has the variables of `set` from some bound on, at its size
 use Rattle.std.specs.Prelude.{◌≡◌, ℕ, ◌+◌, ◌-◌, ◌*◌, ◌/◌, ◌^◌, ◌<◌, ◌≤◌, List, count_ones, length, slice_index_or}
 use Rattle.std.specs.Int.{trailing_zeros, w16}
 use Rattle.definitions.specs.Problems.{TruthTables}
+use Rattle.pair_chains.specs.declared.numbering.Numbered.{Numbered}
 use Rattle.subfunction_classes.specs.Table.{HoldsClasses, classes_of}
+use Rattle.small_search.specs.ValuePlaces.{values_at}
 use Rattle.small_search.specs.Values.{set_values}
-use Rattle.small_search.specs.declared.tables.Table.{Table}
+use Rattle.small_search.specs.declared.tables.PathTables.{PathTables}
 
 abbrev pub without_lowest : ℕ → ℕ
 without_lowest set = set - 2 ^ trailing_zeros w16 set
 
-pub record HoldsTable (p : TruthTables) (set : ℕ) (t : Table) : Type 0 where
-  pub values : count_ones set ≤ 3 → t.values.items ≡ set_values p set
-  pub classes : 3 < count_ones set → HoldsClasses (classes_of p set) t.classes.numbers.items t.classes.masks.items
+abbrev pub HoldValues : TruthTables → ℕ → PathTables → ℕ → Type 0
+HoldValues p set tables size = count_ones set ≤ 3 → values_at tables.entries tables.values.items size ≡ set_values p set
 
-pub record HoldPath (p : TruthTables) (set : ℕ) (tables : List Table) : Type 0 where
-  pub many : length tables ≡ p.inputs + 1
-  pub room : (k : ℕ) (d : Table) → k ≤ 3 → k ≤ p.inputs →
-      length (slice_index_or tables k d).values.items ≡ length p.tables * 2 ^ p.inputs / 2 ^ k
-  pub each : (k : ℕ) (d : Table) → HoldsTable p (set / 2 ^ k * 2 ^ k) (slice_index_or tables (count_ones (set / 2 ^ k)) d)
+abbrev pub HoldNumbers : TruthTables → ℕ → List Numbered → ℕ → Numbered → Type 0
+HoldNumbers p set classes size d =
+    let table = slice_index_or classes (size - 4) d in
+    3 < count_ones set → HoldsClasses (classes_of p set) table.numbers.items table.masks.items
+
+pub record HoldPath (p : TruthTables) (set : ℕ) (tables : PathTables) : Type 0 where
+  pub entries_are : tables.entries ≡ length p.tables * 2 ^ p.inputs
+  pub long : length tables.values.items ≡ 2 * tables.entries
+  pub many : p.inputs ≤ 3 + length tables.classes.items
+  pub values : (k : ℕ) → HoldValues p (set / 2 ^ k * 2 ^ k) tables (count_ones (set / 2 ^ k))
+  pub numbers : (k : ℕ) (d : Numbered) → HoldNumbers p (set / 2 ^ k * 2 ^ k) tables.classes.items (count_ones (set / 2 ^ k)) d

@@ -7,8 +7,11 @@
 mod cells;
 mod classes;
 mod counting;
+mod instance;
+mod reading;
 mod search;
 mod tables;
 mod values;
 
-pub use search::{find_optimum, is_small, solve};
+pub use instance::Search;
+pub use search::{Workspace, are_few, find_optimum, is_small, solve, write_optimum};

@@ -1,33 +1,28 @@
 //! The optimum of a small problem.
 
-ghost use Rattle.std.specs.Prelude.{ℕ, true, count_ones, ◌≡◌, ◌*◌, ◌+◌, ◌-◌, ◌^◌, ◌<◌, ◌≤◌, ◌↔◌, IfOk, IsTrue, OnOk};
-ghost use Rattle.definitions.specs.Orders.{members};
-ghost use Rattle.definitions.specs.Pairs.{is_lawful};
-ghost use Rattle.definitions.specs.Problems.{TruthTables, outputs_of};
-ghost use Rattle.definitions.specs.declared.limits.BoundAbove.TheVariants.{Variables};
+ghost use Rattle.std.specs.Prelude.{◌≡◌, ◌*◌, ◌+◌, ◌-◌, ◌^◌, ◌<◌, ◌≤◌, ◌↔◌, [], length, IfOk, IsTrue, OnOk, OnErr};
+ghost use Rattle.definitions.specs.Problems.{functions, outputs_of};
 ghost use Rattle.layer_core.specs.Pairing.{pair_of};
 ghost use Rattle.layer_core.specs.Instances.{cell_for};
-ghost use Rattle.small_search.specs.FirstCells.{AreFirstCells, IsPlainSearch};
+ghost use Rattle.small_search.specs.FirstCells.{AreFirstCells, IsFew};
 ghost use Rattle.small_search.specs.Occurrences.{AreOf};
-ghost use Rattle.small_search.specs.Paths.{HoldPath, HoldsTable};
-ghost use Rattle.subfunction_classes.specs.PairTables.{AllBelow};
+ghost use Rattle.small_search.specs.Paths.{HoldPath};
 ghost use Rattle.subfunction_classes.specs.Table.{classes_of};
+ghost use Rattle.small_search.specs.Searches.{plain_instance};
 ghost use Rattle.solutions.specs.Bounded.{IsBounded};
 ghost use Rattle.solutions.specs.FlatCells.{AreFlatCells};
-ghost use Rattle.solutions.specs.Solutions.{IsOptimumFor, IsSolution};
+ghost use Rattle.solutions.specs.Solutions.{IsFirstFewest, IsOptimumFor, IsSolution};
 
 use crate::cells::cell_of_set;
 use crate::counting::Subfunctions;
-use crate::tables::{MOST_VALUE_VARIABLES, Table, add_lowest, first_tables};
+use crate::instance::{NO_BOUND, Search, words_of};
+use crate::reading::read_optimum;
+use crate::tables::{MOST_VALUE_VARIABLES, PathTables, values_over};
 use crate::values::occurring;
-use order_model::{BoundAbove, Limit, Mask, Pairs, Problem, SizedOrder};
-use pair_chains::PairNumbers;
+use order_model::{BoundAbove, Limit, Mask, Pairs, Problem, SizedOrder, VarIx};
 use solutions::{AllCells, Instance, Solution, optimum_of, solution_of};
 use std::alloc::{AllocError, Global};
 use subset_layers::Cell;
-
-/// More nodes than any order of 16 functions of 16 variables has.
-const NO_BOUND: u32 = 1 << 20;
 
 /// A problem of more variables has sets that a bound and symmetric variables leave out.
 const MOST_INPUTS: u8 = 10;
@@ -40,18 +35,143 @@ pub fn is_small(problem: &Problem) -> bool
     ensures { IsTrue result ↔ ((problem.now.inputs ≤ 10)
         × (outputs_of problem.now * 2 ^ problem.now.inputs ≤ 2 ^ 13)) }
 {
-    let inputs = problem.inputs();
-    inputs <= MOST_INPUTS && (problem.outputs() as usize) << inputs <= MOST_ENTRIES
+    are_few(problem.inputs(), problem.outputs())
 }
 
-/// The instance of a search with a bound that no order reaches.
+/// Whether so many functions of so many variables are a small problem.
+pub fn are_few(inputs: u8, outputs: u8) -> bool
+    requires inputs { inputs ≤ 16 }
+    ensures { IsTrue result ↔ ((inputs ≤ 10) × (outputs * 2 ^ inputs ≤ 2 ^ 13)) }
+{
+    inputs <= MOST_INPUTS && (outputs as usize) << inputs <= MOST_ENTRIES
+}
+
+/// Memory for searches of small problems: each uses what the ones before it took.
+#[derive(Drop)]
+pub struct Workspace {
+    tables: PathTables,
+    cells: Vec<Cell>,
+}
+
+impl Workspace {
+    /// No memory yet.
+    pub fn new(alloc: Global) -> Result<Workspace, AllocError> {
+        Ok(Workspace {
+            tables: PathTables::new(alloc)?,
+            cells: Vec::new(alloc),
+        })
+    }
+}
+
+/// The different subfunctions over a set.
+#[inline(always)]
+fn subfunctions_in<'a>(search: &Search<'_>, tables: &'a PathTables, set: Mask) -> Subfunctions<'a>
+    requires within { set < 2 ^ search.now.problem.inputs }
+    requires path { HoldPath search.now.problem set tables.now }
+    ensures { AreOf (classes_of search.now.problem set) result }
+{
+    prove!(search.inputs() <= 16);
+    prove!(search.outputs() <= 16);
+    let size = set.count_ones();
+    if size <= MOST_VALUE_VARIABLES {
+        let values = values_over(&tables.values, tables.entries, size);
+        Subfunctions::Values(occurring(values, size))
+    } else {
+        Subfunctions::Classes(&tables.classes[size as usize - 4].masks)
+    }
+}
+
+/// The cell of the set after those that have cells. It makes the tables on the way to that set.
+#[inline(always)]
+fn next_cell(
+    search: &Search<'_>,
+    tables: &mut PathTables,
+    cells: &[Cell],
+    set: Mask,
+    all_lawful: bool,
+) -> Result<Cell, AllocError>
+    requires some { 0 < set }
+    requires within { set < 2 ^ search.now.problem.inputs }
+    requires path { HoldPath search.now.problem (set - 1) tables.old }
+    requires cells { AreFirstCells search.now set cells.now }
+    requires lawful { IsTrue all_lawful → search.now.pairs.pairs ≡ [] }
+    ensures path { OnOk result (HoldPath search.now.problem set tables.new) }
+    ensures cell { IfOk result (λ c. pair_of c ≡ cell_for search.now set) }
+    ensures few { IfOk result (λ c. IsFew search.now set c.cost) }
+{
+    tables.add_lowest(search, set)?;
+    let lawful = all_lawful || search.lawful(set);
+    let subfunctions = subfunctions_in(search, tables, set);
+    Ok(cell_of_set(search, cells, &subfunctions, set, lawful))
+}
+
+/// Finds the cells of all sets, each at its set's mask.
+fn find_cells(
+    alloc: Global,
+    search: &Search<'_>,
+    tables: &mut PathTables,
+    cells: &mut Vec<Cell>,
+) -> Result<(), AllocError>
+    ensures { OnOk result (AreFlatCells search.now cells.new.items) }
+{
+    let all_lawful = search.has_no_pairs();
+    tables.restart(alloc, search)?;
+    let sets = 1u32 << search.inputs();
+    cells.clear();
+    cells.reserve(sets as usize)?;
+    cells.push(Cell {
+        cost: 0,
+        variable: 0,
+    })?;
+    for number in 1..sets {
+        let cell = next_cell(search, tables, cells, number as Mask, all_lawful)?;
+        cells.push(cell)?;
+    }
+    Ok(())
+}
+
+/// Writes the first order of the fewest nodes among those that keep the pairs, and its level
+/// counts, and returns its size. It takes a step for each entry of the tables of all sets, so it is
+/// for small problems.
+pub fn write_optimum(
+    alloc: Global,
+    search: &Search<'_>,
+    workspace: &mut Workspace,
+    order: &mut [VarIx],
+    levels: &mut [u32],
+) -> Result<u32, AllocError>
+    requires places { length order.old ≡ search.now.problem.inputs }
+    requires counts { length levels.old ≡ search.now.problem.inputs }
+    ensures optimum { IfOk result
+        (IsFirstFewest search.now.problem.inputs (functions search.now.problem)
+        search.now.pairs.pairs order.new levels.new) }
+    ensures places { length order.new ≡ length order.old }
+    ensures counts { length levels.new ≡ length levels.old }
+    ensures order_stays { OnErr result (order.new ≡ order.old) }
+    ensures levels_stay { OnErr result (levels.new ≡ levels.old) }
+{
+    find_cells(alloc, search, &mut workspace.tables, &mut workspace.cells)?;
+    Ok(read_optimum(search, &workspace.cells, order, levels))
+}
+
+/// The cells of all sets of a problem, each at its set's mask.
+fn all_cells(alloc: Global, problem: &Problem, pairs: &Pairs) -> Result<Vec<Cell>, AllocError>
+    requires { pairs.now.inputs ≡ problem.now.inputs }
+    ensures { IfOk result (λ v. AreFlatCells (plain_instance problem.now pairs.now) v.items) }
+{
+    let words = words_of(alloc, problem)?;
+    let search = Search::new(problem.inputs(), problem.outputs(), &words, pairs);
+    let mut path = PathTables::new(alloc)?;
+    let mut cells = Vec::new(alloc);
+    find_cells(alloc, &search, &mut path, &mut cells)?;
+    Ok(cells)
+}
+
+/// The instance of a search.
 fn instance_of<'a>(problem: &'a Problem, pairs: &'a Pairs) -> Instance<'a>
     requires { pairs.now.inputs ≡ problem.now.inputs }
-    ensures problem { result.problem ≡ problem.now }
-    ensures pairs { result.pairs ≡ pairs.now }
-    ensures bound_above { result.bound_above ≡ Variables }
+    ensures instance { result ≡ plain_instance problem.now pairs.now }
     ensures bounded { IsBounded result }
-    ensures bound { result.bound ≤ 2 ^ 20 }
 {
     prove!(problem.inputs() <= 16);
     prove!(problem.outputs() <= 16);
@@ -61,82 +181,6 @@ fn instance_of<'a>(problem: &'a Problem, pairs: &'a Pairs) -> Instance<'a>
         bound_above: BoundAbove::Variables,
     };
     Instance::new(problem, pairs, limit)
-}
-
-/// The different subfunctions over a set.
-fn subfunctions_in<'a>(table: &'a Table, set: Mask) -> Subfunctions<'a>
-    requires { count_ones set ≤ 2 → AllBelow table.now.values.items 64 }
-    ensures { (p : TruthTables) → HoldsTable p set table.now → AreOf (classes_of p set) result }
-{
-    let size = set.count_ones();
-    if size <= MOST_VALUE_VARIABLES {
-        Subfunctions::Values(occurring(&table.values, size))
-    } else {
-        Subfunctions::Classes(&table.classes.masks)
-    }
-}
-
-/// True only if each set is lawful.
-fn all_are_lawful(instance: &Instance<'_>) -> bool
-    ensures { IsTrue result → (set : ℕ) →
-        is_lawful instance.now.pairs.pairs (members instance.now.problem.inputs set) ≡ true }
-{
-    for x in 0..instance.inputs() {
-        if !instance.pairs().lawful(1 << x) {
-            return false;
-        }
-    }
-    true
-}
-
-/// The cell of the set after those that have cells. It makes the tables on the way to that set.
-fn next_cell(
-    instance: &Instance<'_>,
-    tables: &mut [Table],
-    seen: &mut PairNumbers,
-    cells: &[Cell],
-    set: Mask,
-    all_lawful: bool,
-) -> Result<Cell, AllocError>
-    requires search { IsPlainSearch instance.now }
-    requires some { 0 < set }
-    requires within { set < 2 ^ instance.now.problem.inputs }
-    requires path { HoldPath instance.now.problem (set - 1) tables.old }
-    requires cells { AreFirstCells instance.now set cells.now }
-    requires lawful { IsTrue all_lawful →
-        is_lawful instance.now.pairs.pairs (members instance.now.problem.inputs set) ≡ true }
-    ensures path { OnOk result (HoldPath instance.now.problem set tables.new) }
-    ensures cell { IfOk result (λ c. pair_of c ≡ cell_for instance.now set) }
-{
-    add_lowest(instance.problem(), tables, seen, set)?;
-    let table = &tables[set.count_ones() as usize];
-    let lawful = all_lawful || instance.pairs().lawful(set);
-    let subfunctions = subfunctions_in(table, set);
-    Ok(cell_of_set(instance, cells, &subfunctions, set, lawful))
-}
-
-/// The cells of all sets, each at its set's mask.
-fn all_cells(alloc: Global, instance: &Instance<'_>) -> Result<Vec<Cell>, AllocError>
-    requires bound { instance.now.bound ≤ 2 ^ 20 }
-    requires bounded { IsBounded instance.now }
-    requires bound_above { instance.now.bound_above ≡ Variables }
-    ensures { IfOk result (λ v. AreFlatCells instance.now v.items) }
-{
-    let all_lawful = all_are_lawful(instance);
-    let mut tables = first_tables(alloc, instance.problem())?;
-    let mut seen = PairNumbers::new(alloc)?;
-    let sets = 1u32 << instance.inputs();
-    let mut cells = Vec::with_capacity(alloc, sets as usize)?;
-    cells.push(Cell {
-        cost: 0,
-        variable: 0,
-    })?;
-    for number in 1..sets {
-        let set = number as Mask;
-        let cell = next_cell(instance, &mut tables, &mut seen, &cells, set, all_lawful)?;
-        cells.push(cell)?;
-    }
-    Ok(cells)
 }
 
 /// The first order of the fewest nodes among those that keep the pairs. It takes a step for each
@@ -149,8 +193,8 @@ pub fn find_optimum(
     requires { pairs.now.inputs ≡ problem.now.inputs }
     ensures { IfOk result (IsOptimumFor problem.now pairs.now.pairs) }
 {
+    let cells = all_cells(alloc, problem, pairs)?;
     let instance = instance_of(problem, pairs);
-    let cells = all_cells(alloc, &instance)?;
     optimum_of(alloc, &AllCells::of_cells(&instance, cells))
 }
 
@@ -159,7 +203,7 @@ pub fn solve(alloc: Global, problem: &Problem, pairs: &Pairs) -> Result<Solution
     requires { pairs.now.inputs ≡ problem.now.inputs }
     ensures { IfOk result (IsSolution problem.now pairs.now.pairs) }
 {
+    let cells = all_cells(alloc, problem, pairs)?;
     let instance = instance_of(problem, pairs);
-    let cells = all_cells(alloc, &instance)?;
     solution_of(alloc, &AllCells::of_cells(&instance, cells))
 }

@@ -2,107 +2,168 @@
 //! on: each table is made from that of the set without its lowest variable. In the order of their
 //! masks the sets come depth first, so one table a size is kept.
 
-ghost use Rattle.std.specs.Prelude.{◌≡◌, ◌+◌, ◌-◌, ◌/◌, ◌^◌, ◌<◌, ◌≤◌, IfOk, OnOk, count_ones, length};
-ghost use Rattle.small_search.specs.Paths.{HoldPath, HoldsTable, without_lowest};
+ghost use Rattle.std.specs.Prelude.{◌≡◌, ◌+◌, ◌-◌, ◌*◌, ◌/◌, ◌^◌, ◌<◌, ◌≤◌, OnOk, length};
+ghost use Rattle.small_search.specs.Joining.{IsJoinedAt};
+ghost use Rattle.small_search.specs.ClassSteps.{IsNumberedFrom, IsReadyAt};
+ghost use Rattle.small_search.specs.Paths.{HoldPath};
+ghost use Rattle.small_search.specs.ValuePlaces.{start_of as place_of, values_at};
+ghost use Rattle.subfunction_classes.specs.PairTables.{AllBelow, IsPaired};
 
 use crate::classes::number_values;
-use crate::values::{join_values, point_values};
-use order_model::{Mask, Problem, VarIx};
+use crate::instance::Search;
+use crate::values::{join_values, push_points};
+use order_model::{Mask, VarIx};
 use pair_chains::{Numbered, PairNumbers, number_pairs};
 use std::alloc::{AllocError, Global};
 
 /// The most variables of a set whose subfunctions are values; those of larger sets have classes.
 pub(crate) const MOST_VALUE_VARIABLES: u32 = 3;
 
-/// The subfunctions over a set: their values if it has up to three variables, else their classes.
+/// The tables on the way to a set, in memory that is used again for the next sets and searches.
 #[derive(Drop)]
-pub(crate) struct Table {
+pub(crate) struct PathTables {
+    /// How many values there are over no variable.
+    pub(crate) entries: usize,
+    /// The values over up to three variables, one size behind the other.
     pub(crate) values: Vec<u8>,
-    pub(crate) classes: Numbered,
+    /// The class tables of more variables, by their size less four.
+    pub(crate) classes: Vec<Numbered>,
+    seen: PairNumbers,
 }
 
-impl Table {
-    /// Room for the table of a set of `size` variables, with so many entries.
-    fn with_room(alloc: Global, size: u32, entries: usize) -> Result<Table, AllocError>
-        ensures { IfOk result (λ t. size ≤ 3 → length t.values.items ≡ entries) }
-    {
-        let (values, classes) = if size <= MOST_VALUE_VARIABLES {
-            (entries, 0)
-        } else {
-            (0, entries)
-        };
-        Ok(Table {
-            values: vec![in alloc; 0u8; values]?,
-            classes: Numbered::with_room(alloc, classes)?,
+/// Where the values over so many variables begin.
+#[inline(always)]
+fn start_of(entries: usize, size: u32) -> usize
+    requires size { size ≤ 3 }
+    requires few { entries ≤ 2 ^ 20 }
+    ensures { result ≡ place_of entries size }
+{
+    match size {
+        0 => 0,
+        1 => entries,
+        2 => entries + entries / 2,
+        _ => entries + entries / 2 + entries / 4,
+    }
+}
+
+/// The values over so many variables.
+#[inline(always)]
+pub(crate) fn values_over(values: &[u8], entries: usize, size: u32) -> &[u8]
+    requires size { size ≤ 3 }
+    requires few { entries ≤ 2 ^ 20 }
+    requires long { length values.now ≡ 2 * entries }
+    ensures { result.now ≡ values_at entries values.now size }
+{
+    let (_, behind) = values.split_at(start_of(entries, size));
+    let (own, _) = behind.split_at(entries >> size);
+    own
+}
+
+/// Joins the values of the size before, whose pairs differ in x.
+#[inline(always)]
+fn make_values(values: &mut [u8], entries: usize, x: VarIx, size: u32)
+    requires some { 1 ≤ size }
+    requires size { size ≤ 3 }
+    requires few { entries ≤ 2 ^ 20 }
+    requires long { length values.old ≡ 2 * entries }
+    requires paired { IsPaired (values_at entries values.old (size - 1)) x }
+    requires below { AllBelow (values_at entries values.old (size - 1)) (2 ^ 2 ^ (size - 1)) }
+    ensures { IsJoinedAt entries values.old values.new x size }
+{
+    let (front, back) = values.split_at_mut(start_of(entries, size));
+    let (_, before) = front.split_at(start_of(entries, size - 1));
+    let (own, _) = back.split_at_mut(entries >> size);
+    join_values(before, x, 1 << (size - 1), own);
+}
+
+/// Numbers the pairs of the class table of the size before, which differ in x.
+#[inline(always)]
+fn make_classes(
+    classes: &mut [Numbered],
+    size: u32,
+    x: VarIx,
+    seen: &mut PairNumbers,
+) -> Result<(), AllocError>
+    requires more { 4 < size }
+    requires few { size ≤ 16 }
+    requires room { size ≤ 3 + length classes.old }
+    requires ready { IsReadyAt classes.old (size - 5) x }
+    ensures { OnOk result (IsNumberedFrom classes.old classes.new (size - 5) x) }
+{
+    let (smaller, others) = classes.split_at_mut(size as usize - 4);
+    let Numbered { numbers, masks } = &smaller[size as usize - 5];
+    number_pairs(numbers, x, masks, seen, &mut others[0])
+}
+
+/// Adds tables with room for so many pairs until there is one for each size from 4 to that of all
+/// variables.
+fn add_tables(
+    alloc: Global,
+    room: usize,
+    classes: &mut Vec<Numbered>,
+    inputs: usize,
+) -> Result<(), AllocError>
+    ensures { OnOk result (inputs ≤ 3 + length classes.new.items) }
+{
+    let missing = inputs.saturating_sub(3).saturating_sub(classes.len());
+    for _size in 0..missing {
+        classes.push(Numbered::with_room(alloc, room)?)?;
+    }
+    Ok(())
+}
+
+impl PathTables {
+    /// No tables.
+    pub(crate) fn new(alloc: Global) -> Result<PathTables, AllocError> {
+        Ok(PathTables {
+            entries: 0,
+            values: Vec::new(alloc),
+            classes: Vec::new(alloc),
+            seen: PairNumbers::new(alloc)?,
         })
     }
-}
 
-/// The table of the empty set, and room for one of each other size.
-pub(crate) fn first_tables(alloc: Global, problem: &Problem) -> Result<Vec<Table>, AllocError>
-    ensures { IfOk result (λ v. HoldPath problem.now 0 v.items) }
-{
-    let values = point_values(alloc, problem)?;
-    let entries = values.len();
-    let mut tables = Vec::with_capacity(alloc, usize::from(problem.inputs()) + 1)?;
-    tables.push(Table {
-        values,
-        classes: Numbered::with_room(alloc, 0)?,
-    })?;
-    for size in 1..problem.inputs() + 1 {
-        tables.push(Table::with_room(alloc, u32::from(size), entries >> size)?)?;
+    /// Makes the table of the empty set, and room for those of the other sizes.
+    pub(crate) fn restart(&mut self, alloc: Global, search: &Search<'_>) -> Result<(), AllocError>
+        ensures { OnOk result (HoldPath search.now.problem 0 self.new) }
+    {
+        prove!(search.inputs() <= 16);
+        prove!(search.outputs() <= 16);
+        self.entries = (search.outputs() as usize) << search.inputs();
+        self.values.clear();
+        self.values.reserve(2 * self.entries)?;
+        push_points(&mut self.values, search)?;
+        self.values.resize(2 * self.entries, 0)?;
+        add_tables(
+            alloc,
+            self.entries / 16,
+            &mut self.classes,
+            search.inputs() as usize,
+        )?;
+        Ok(())
     }
-    Ok(tables)
-}
 
-/// Makes the table of a set from that of the set without its lowest variable.
-#[inline(always)]
-fn make_table(
-    problem: &Problem,
-    before: &Table,
-    set: Mask,
-    seen: &mut PairNumbers,
-    table: &mut Table,
-) -> Result<(), AllocError>
-    requires some { 0 < set }
-    requires within { set < 2 ^ problem.now.inputs }
-    requires before { HoldsTable problem.now (without_lowest set) before.now }
-    requires room { count_ones set ≤ 3 → length table.old.values.items ≡ length before.now.values.items / 2 }
-    requires few { count_ones set ≤ 4 → length before.now.values.items ≤ 2 ^ 20 }
-    ensures made { OnOk result (HoldsTable problem.now set table.new) }
-    ensures room { length table.new.values.items ≡ length table.old.values.items }
-{
-    prove!(problem.inputs() <= 16);
-    let x = set.trailing_zeros() as VarIx;
-    let size = set.count_ones();
-    if size <= MOST_VALUE_VARIABLES {
-        join_values(&before.values, x, 1 << (size - 1), &mut table.values);
-    } else if size == MOST_VALUE_VARIABLES + 1 {
-        number_values(&before.values, x, set, seen, &mut table.classes)?;
-    } else {
-        let Numbered { numbers, masks } = &before.classes;
-        number_pairs(numbers, x, masks, seen, &mut table.classes)?;
+    /// From the tables on the way to the set before it in the order of masks, makes those to `set`:
+    /// the set without its lowest variable stands on that way.
+    #[inline(always)]
+    pub(crate) fn add_lowest(&mut self, search: &Search<'_>, set: Mask) -> Result<(), AllocError>
+        requires some { 0 < set }
+        requires within { set < 2 ^ search.now.problem.inputs }
+        requires path { HoldPath search.now.problem (set - 1) self.old }
+        ensures { OnOk result (HoldPath search.now.problem set self.new) }
+    {
+        prove!(search.inputs() <= 16);
+        prove!(search.outputs() <= 16);
+        let x = set.trailing_zeros() as VarIx;
+        let size = set.count_ones();
+        if size <= MOST_VALUE_VARIABLES {
+            make_values(&mut self.values, self.entries, x, size);
+        } else if size == MOST_VALUE_VARIABLES + 1 {
+            let values = values_over(&self.values, self.entries, MOST_VALUE_VARIABLES);
+            number_values(values, x, set, &mut self.seen, &mut self.classes[0])?;
+        } else {
+            make_classes(&mut self.classes, size, x, &mut self.seen)?;
+        }
+        Ok(())
     }
-    Ok(())
-}
-
-/// From the tables on the way to the set before it in the order of masks, makes those to `set`: the
-/// set without its lowest variable stands on that way.
-pub(crate) fn add_lowest(
-    problem: &Problem,
-    tables: &mut [Table],
-    seen: &mut PairNumbers,
-    set: Mask,
-) -> Result<(), AllocError>
-    requires some { 0 < set }
-    requires within { set < 2 ^ problem.now.inputs }
-    requires path { HoldPath problem.now (set - 1) tables.old }
-    ensures { OnOk result (HoldPath problem.now set tables.new) }
-{
-    prove!(problem.inputs() <= 16);
-    prove!(problem.outputs() <= 16);
-    let size = set.count_ones() as usize;
-    let (smaller, others) = tables.split_at_mut(size);
-    make_table(problem, &smaller[size - 1], set, seen, &mut others[0])?;
-    Ok(())
 }

@@ -1,7 +1,7 @@
 //! Values: the truth tables of subfunctions of up to three variables, a byte each. The lowest
 //! variable of the set stands for the highest bit of a point's number.
 
-ghost use Rattle.std.specs.Prelude.{◌≡◌, ◌*◌, ◌/◌, ◌^◌, ◌<◌, ◌≤◌, ◌++◌, map, length, IfOk, OnOk};
+ghost use Rattle.std.specs.Prelude.{◌≡◌, ◌*◌, ◌/◌, ◌^◌, ◌<◌, ◌≤◌, ◌++◌, [], map, length, OnOk};
 ghost use Rattle.definitions.specs.Functions.{weight};
 ghost use Rattle.definitions.specs.Problems.{table_in, words_per_table};
 ghost use Rattle.subfunction_classes.specs.PairTables.{AllBelow, IsPaired};
@@ -9,9 +9,10 @@ ghost use Rattle.subfunction_classes.specs.Values.{row, values_of};
 ghost use Rattle.small_search.specs.Joining.{AreJoined};
 ghost use Rattle.small_search.specs.Counting.{AreOccurring};
 
+use crate::instance::Search;
+use order_model::VarIx;
 use order_model::packed::bit_of;
-use order_model::{Problem, VarIx};
-use std::alloc::{AllocError, Global};
+use std::alloc::AllocError;
 
 /// Adds a function's values at all points, which stand packed in words of 64.
 fn push_values(values: &mut Vec<u8>, words: &[u64], inputs: u8) -> Result<(), AllocError>
@@ -26,18 +27,15 @@ fn push_values(values: &mut Vec<u8>, words: &[u64], inputs: u8) -> Result<(), Al
     Ok(())
 }
 
-/// The values of all functions at all points, function by function.
-pub(crate) fn point_values(alloc: Global, problem: &Problem) -> Result<Vec<u8>, AllocError>
-    ensures { IfOk result (λ v. v.items ≡ map weight (values_of problem.now)) }
+/// Puts the values of all functions at all points, function by function, into an empty list.
+pub(crate) fn push_points(values: &mut Vec<u8>, search: &Search<'_>) -> Result<(), AllocError>
+    requires { values.old.items ≡ [] }
+    ensures { OnOk result (values.new.items ≡ map weight (values_of search.now.problem)) }
 {
-    prove!(problem.inputs() <= 16);
-    prove!(problem.outputs() <= 16);
-    let entries = (problem.outputs() as usize) << problem.inputs();
-    let mut values = Vec::with_capacity(alloc, entries)?;
-    for output in 0..problem.outputs() {
-        push_values(&mut values, problem.words(output), problem.inputs())?;
+    for output in 0..search.outputs() {
+        push_values(values, search.words(output), search.inputs())?;
     }
-    Ok(values)
+    Ok(())
 }
 
 /// Joins the values of pairs, which stand in blocks of `step`. A value has `shift` bits.

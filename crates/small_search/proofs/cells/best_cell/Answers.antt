@@ -1,4 +1,4 @@
-use Rattle.std.proofs.Common.{suc, ◌∷◌, eqb, refl, Option, Some, None, IfSome, IfNone, IsTrue, ◌≡◌, ℕ, ◌+◌, ◌-◌, ◌*◌, ◌%◌, ◌^◌, ◌<◌, ◌≤◌, length, get_or, set, sym, ap, ◌∙◌, subst, arith}
+use Rattle.std.proofs.Common.{suc, ◌∷◌, eqb, refl, Option, Some, None, IfSome, IfNone, IsTrue, ◌≡◌, ℕ, ◌+◌, ◌-◌, ◌*◌, ◌%◌, ◌^◌, ◌<◌, ◌≤◌, count_ones, length, get_or, set, sym, ap, ◌∙◌, subst, arith}
 use Rattle.std.specs.Int.{bit_at}
 use Rattle.std.specs.List.{filter, range_with_len}
 use Rattle.std.proofs.lemmas.Bool.{iff_false}
@@ -6,7 +6,6 @@ use Rattle.std.proofs.lemmas.List.{length-append}
 use Rattle.std.proofs.lemmas.Nat.{one_shl, pow_pos}
 use Rattle.std.proofs.lemmas.Nat.Bits.{shr_and_one}
 use Rattle.definitions.specs.Orders.{has, members}
-use Rattle.definitions.specs.declared.limits.Limit.{Limit}
 use Rattle.definitions.proofs.Bits.Masks.{members_small}
 use Rattle.subset_layers.specs.Sums.{IsBest}
 use Rattle.subset_layers.specs.declared.costs.Cell.{Cell}
@@ -17,18 +16,18 @@ use Rattle.subfunction_classes.specs.Table.{ClassesOf, classes_of, set_of}
 use Rattle.small_search.specs.Occurrences.{AreOf, CanBeCounted}
 use Rattle.small_search.specs.declared.counting.Subfunctions.{Subfunctions}
 use Rattle.small_search.specs.declared.counting.Subfunctions.TheVariants.{Values, Classes}
-use Rattle.small_search.proofs.CellRows.{IsBestBelow, best_all, best_skipped, best_taken, cost_at}
+use Rattle.small_search.proofs.CellRows.{IsBestBelow, best_all, best_skipped, best_taken, cost_at, few_sum, few_taken}
 use Rattle.small_search.proofs.MemberPlaces.{member_parts, members_next, members_none, members_passed}
 use Rattle.small_search.specs.FirstCells.{IsBestOf, IsNoneWithin, cost_without, width_without}
 use Rattle.small_search.proofs.cells.best_cell.Goals as goal
-use Rattle.small_search.proofs.cells.best_cell.Goals.{then-contains+then-cost-bound, then-contains+else-cost-bound, else-contains}
+use Rattle.small_search.proofs.cells.best_cell.Goals.{then-contains+then-cost-le-NO_BOUND, then-contains+else-cost-le-NO_BOUND, else-contains}
 
 pub loop-x-init : goal.loop-x-init
 loop-x-init c =
-    let t = c.args.instance.now in
+    let t = c.args.search.now in
     let o = ones-members t.problem.inputs c.args.set c.requires.within in
     let z = members_none c.args.set in
-    record { best = λ y l m. absurd (omega (arith, l)); above = omega (arith, o, z) }
+    record { best = λ y l m. absurd (omega (arith, l)); few = tt; above = omega (arith, o, z) }
 
 -- a member and those above it
 some_above : (set n x place : ℕ) → x < n → bit_at set x ≡ 1 → length (members x set) + place ≡ length (members n set) → 1 ≤ place
@@ -39,7 +38,7 @@ some_above set n x place lt bit e =
 
 pub overflow_sub-place : goal.overflow_sub-place
 overflow_sub-place c =
-    let t = c.args.instance.now in
+    let t = c.args.search.now in
     let v = c.inputs-x-end.ensures.value in
     let l = c.loop-x-test.true in
     some_above c.args.set t.problem.inputs c.loop-x.x c.loop-x.place (omega (arith, v, l)) (c.contains.ensures.0 c.if-contains.true) c.loop-x.invariant.above
@@ -54,7 +53,7 @@ counted t (Classes masks) below place within are some e = are.1
 
 pub width-requires-clause-counted : goal.width-requires-clause-counted
 width-requires-clause-counted c =
-    let t = c.args.instance.now in
+    let t = c.args.search.now in
     let v = c.inputs-x-end.ensures.value in
     let l = c.loop-x-test.true in
     counted (classes_of t.problem c.args.set) c.args.subfunctions.now (length (members c.loop-x.x c.args.set)) c.loop-x.place c.requires.within
@@ -65,7 +64,7 @@ width-requires-clause-counted c =
 
 pub loop-x-preserved : goal.loop-x-preserved
 loop-x-preserved c =
-    let t = c.args.instance.now in
+    let t = c.args.search.now in
     let n = t.problem.inputs in
     let mask = c.args.set in
     let x = c.loop-x.x in
@@ -83,9 +82,9 @@ loop-x-preserved c =
     let at = cost_at t mask cells c.requires.cells (mask - 2 ^ x) (omega (arith, p, some)) in
     let cost : (get_or cells (mask - 1 * 2 ^ x % 65536) no_cell).cost ≡ cost_without t mask x =
     ap (λ k. (get_or cells (mask - k) no_cell).cost) shift ∙ at in
-    let bound = ap (λ (l : Limit). l.bound) c.limit-bound.ensures in
+    let bound = c.inputs-x-end.ensures.plain.bound_is in
     elim c.if-contains.branch [
-      | then-contains+then-cost-bound w ↦
+      | then-contains+then-cost-le-NO_BOUND w ↦
           let bit = c.contains.ensures.0 w.if-contains.true in
           let member = member_from_bit n mask x below (shr_and_one mask x ∙ bit) in
           let one = some_above mask n x c.loop-x.place below bit above in
@@ -94,23 +93,29 @@ loop-x-preserved c =
           (record { inside = below; within = c.requires.within; member = member; above = omega (arith, above, one) }) in
           let next = members_next mask x bit in
           let place = w.place-is in
-          let within = w.if-cost-bound.true in
+          let within = w.if-cost-le-NO_BOUND.true in
           record {
             best = subst (λ (o : Option Cell). IsBestBelow S t.bound (cost_without t mask) (width_without t mask) (x + 1) o) (sym w.best-is)
                 (best_taken S t.bound (cost_without t mask) (width_without t mask) x _ c.loop-x.best _ w.cheaper.result c.loop-x.invariant.best member
                 (omega (arith, cost, within, bound)) (omega (arith, cost, width)) refl w.cheaper.ensures.none w.cheaper.ensures.some);
+            few = subst (λ (o : Option Cell). IfSome o (λ b. b.cost ≤ count_ones mask * 2 ^ 20)) (sym w.best-is)
+                (few_taken (count_ones mask * 2 ^ 20) c.loop-x.best _ w.cheaper.result c.loop-x.invariant.few
+                (few_sum t mask cells c.requires.cells c.requires.within x member _ w.width.result
+                (ap (λ k. (get_or cells (mask - k) no_cell).cost) shift) (omega (arith, within, bound)) w.width.ensures.few)
+                w.cheaper.ensures.none w.cheaper.ensures.some);
             above = omega (arith, above, one, next, place);
           }
-      | then-contains+else-cost-bound w ↦
+      | then-contains+else-cost-le-NO_BOUND w ↦
           let bit = c.contains.ensures.0 w.if-contains.true in
           let one = some_above mask n x c.loop-x.place below bit above in
           let next = members_next mask x bit in
           let place = w.place-is in
-          let over = w.if-cost-bound.false in
+          let over = w.if-cost-le-NO_BOUND.false in
           record {
             best = subst (λ (o : Option Cell). IsBestBelow S t.bound (cost_without t mask) (width_without t mask) (x + 1) o) (sym w.best-is)
                 (best_skipped S t.bound (cost_without t mask) (width_without t mask) x c.loop-x.best c.loop-x.invariant.best
                 (λ m. omega (arith, cost, over, bound)));
+            few = subst (λ (o : Option Cell). IfSome o (λ b. b.cost ≤ count_ones mask * 2 ^ 20)) (sym w.best-is) c.loop-x.invariant.few;
             above = omega (arith, above, one, next, place);
           }
       | else-contains w ↦
@@ -121,6 +126,7 @@ loop-x-preserved c =
             best = subst (λ (o : Option Cell). IsBestBelow S t.bound (cost_without t mask) (width_without t mask) (x + 1) o) (sym w.best-is)
                 (best_skipped S t.bound (cost_without t mask) (width_without t mask) x c.loop-x.best c.loop-x.invariant.best
                 (λ m. absurd (none (sym (shr_and_one mask x) ∙ bit_from_member n mask x m))));
+            few = subst (λ (o : Option Cell). IfSome o (λ b. b.cost ≤ count_ones mask * 2 ^ 20)) (sym w.best-is) c.loop-x.invariant.few;
             above = omega (arith, above, passed, place);
           }
     ]
@@ -132,9 +138,9 @@ whole S bound costs widths k None low h = (tt, λ y m. h y (low y m) m)
 whole S bound costs widths k (Some c) low h = (best_all S bound costs widths k c low h, tt)
 
 all : (c : goal.After-loop-x) →
-    IfSome c.loop-x.best (IsBestOf c.args.instance.now c.args.set) × IfNone c.loop-x.best (IsNoneWithin c.args.instance.now c.args.set)
+    IfSome c.loop-x.best (IsBestOf c.args.search.now c.args.set) × IfNone c.loop-x.best (IsNoneWithin c.args.search.now c.args.set)
 all c =
-    let t = c.args.instance.now in
+    let t = c.args.search.now in
     let n = t.problem.inputs in
     let v = c.inputs-x-end.ensures.value in
     let f = c.loop-x-test.false in
@@ -146,3 +152,6 @@ returns-clause-best c = (all c).0
 
 pub returns-clause-none : goal.returns-clause-none
 returns-clause-none c = (all c).1
+
+pub returns-clause-few : goal.returns-clause-few
+returns-clause-few c = c.loop-x.invariant.few

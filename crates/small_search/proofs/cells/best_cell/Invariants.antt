@@ -1,12 +1,14 @@
-use Rattle.std.proofs.Common.{◌≡◌, ◌+◌, IsTrue, length}
+use Rattle.std.proofs.Common.{◌≡◌, ◌+◌, ◌*◌, ◌^◌, ◌≤◌, IfSome, IsTrue, count_ones, length}
 use Rattle.definitions.specs.Orders.{has, members}
 use Rattle.small_search.specs.FirstCells.{cost_without, width_without}
+use Rattle.subset_layers.specs.declared.costs.Cell.{Cell}
 use Rattle.small_search.proofs.CellRows.{IsBestBelow}
 use Rattle.small_search.proofs.cells.best_cell.Given as goal
 
 abbrev pub invariant-loop-x : goal.invariant-loop-x
 invariant-loop-x l = record {
-  best : IsBestBelow (λ y. IsTrue (has (members l.instance.problem.inputs l.set) y)) l.instance.bound (cost_without l.instance l.set)
-      (width_without l.instance l.set) l.x l.best;
-  above : length (members l.x l.set) + l.place ≡ length (members l.instance.problem.inputs l.set);
+  best : IsBestBelow (λ y. IsTrue (has (members l.search.problem.inputs l.set) y)) l.search.bound (cost_without l.search l.set)
+      (width_without l.search l.set) l.x l.best;
+  few : IfSome l.best (λ (b : Cell). b.cost ≤ count_ones l.set * 2 ^ 20);
+  above : length (members l.x l.set) + l.place ≡ length (members l.search.problem.inputs l.set);
 }

@@ -1,0 +1,76 @@
+use Rattle.std.proofs.Common.{◌≡◌, ℕ, ◌+◌, ◌-◌, ◌*◌, ◌%◌, ◌^◌, ◌≤◌, inl, inr, List, [], ◌∷◌, ◌++◌, sym, ap, ◌∙◌, subst, arith, pow_mono}
+use Rattle.std.proofs.lemmas.Bool.{cases_lt}
+use Rattle.std.proofs.lemmas.List.{length-append, get_or_append_left, get_or_push}
+use Rattle.std.proofs.lemmas.Nat.{one_shl, pow_pos}
+use Rattle.subset_layers.specs.declared.costs.Cell.{Cell}
+use Rattle.layer_core.specs.Pairing.{pair_of}
+use Rattle.layer_core.specs.Instances.{Instance, cell_for}
+use Rattle.solutions.specs.FlatCells.{no_cell}
+use Rattle.small_search.specs.FirstCells.{AreFirstCells, IsFew}
+use Rattle.small_search.specs.Paths.{HoldPath}
+use Rattle.small_search.proofs.search.find_cells.Goals as goal
+
+-- how many sets there are
+sets_are : (n m : ℕ) → n ≡ m → n ≤ 16 → (1 * 2 ^ n % 2 ^ 32 ≡ 2 ^ m) × (2 ^ m ≤ 65536)
+sets_are n m e few =
+    let s = one_shl n 32 (omega (arith, few)) in
+    (s ∙ ap (λ k. 2 ^ k) e, let b : m ≤ 16 = omega (arith, e, few) in pow_mono b)
+
+pub overflow_cast-number : goal.overflow_cast-number
+overflow_cast-number c =
+    let i = c.inputs.ensures in
+    let s = sets_are _ _ i.value i.few in
+    let t = c.loop-number-test.true in
+    record { fits = omega (arith, s.0, s.1, t) }
+
+-- one cell more
+cells_more : (t : Instance) (number : ℕ) (cells : List Cell) (cell : Cell) → 1 ≤ number → AreFirstCells t number cells → pair_of cell ≡ cell_for t number →
+    IsFew t number cell.cost → AreFirstCells t (number + 1) (cells ++ cell ∷ [])
+cells_more t number cells cell some h is few = record {
+  many = (let l = length-append cells (cell ∷ []) in let m = h.many in omega (arith, l, m));
+  none = ap (λ (c : Cell). c.cost) (get_or_append_left cells (cell ∷ []) no_cell 0 (let m = h.many in omega (arith, m, some))) ∙ h.none;
+  each = λ mask low lt.
+      elim (cases_lt mask number) [
+        | inl old ↦ ap pair_of (get_or_append_left cells (cell ∷ []) no_cell mask (let m = h.many in omega (arith, m, old))) ∙ h.each mask low old
+        | inr new ↦
+            let e : mask ≡ number = omega (arith, new, lt) in
+            ap pair_of (get_or_push cells cell no_cell mask (let m = h.many in omega (arith, m, e))) ∙ is ∙ ap (cell_for t) (sym e)
+      ];
+  few = λ mask lt.
+      elim (cases_lt mask number) [
+        | inl old ↦ subst (λ (u : Cell). IsFew t mask u.cost)
+            (sym (get_or_append_left cells (cell ∷ []) no_cell mask (let m = h.many in omega (arith, m, old)))) (h.few mask old)
+        | inr new ↦
+            let e : mask ≡ number = omega (arith, new, lt) in
+            subst (λ (u : Cell). IsFew t mask u.cost) (sym (get_or_push cells cell no_cell mask (let m = h.many in omega (arith, m, e))))
+            (subst (λ (k : ℕ). IsFew t k cell.cost) (sym e) few)
+      ];
+}
+
+pub loop-number-preserved : goal.loop-number-preserved
+loop-number-preserved c =
+    let t = c.args.search.now in
+    let number = c.loop-number.number in
+    let h = c.in_ok-cell.ensures in
+    let d = c.deref.ensures.value in
+    let more = cells_more t number c.loop-number.cells.items c.in_ok-cell.cell c.loop-number.auto.number c.loop-number.invariant.first h.cell h.few in
+    record {
+      path = subst (λ (k : ℕ). HoldPath t.problem k c.next_cell.new.tables) (let e : number ≡ number + 1 - 1 = omega arith in e) h.path;
+      first = subst (λ (us : List Cell). AreFirstCells t (number + 1) us) (sym c.in_ok-push-2.ensures.items) more;
+    }
+
+pub returns : goal.returns
+returns c =
+    let h = c.loop-number.invariant.first in
+    let i = c.inputs.ensures in
+    let s = sets_are _ _ i.value i.few in
+    let f = c.loop-number-test.false in
+    let a = c.loop-number.auto.number-end in
+    let m = h.many in
+    let p = pow_pos c.args.search.now.problem.inputs in
+    let all : c.loop-number.number ≡ 2 ^ c.args.search.now.problem.inputs = omega (arith, s.0, f, a, p) in
+    record {
+      many = m ∙ all;
+      none = h.none;
+      each = λ mask low lt. h.each mask low (omega (arith, lt, all));
+    }

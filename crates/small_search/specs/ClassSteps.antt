@@ -1,0 +1,22 @@
+-- Class tables of one size after the other.
+--     IsReadyAt classes i x      table i is paired in x
+--     IsNumberedFrom old new i x      the next table has the numbers of its pairs and their masks, and the others stay
+use Rattle.std.specs.Prelude.{◌≡◌, ◌≢◌, ℕ, ◌+◌, ◌^◌, ◌≤◌, List, length, slice_index_or}
+use Rattle.pair_chains.specs.declared.numbering.Numbered.{Numbered}
+use Rattle.subfunction_classes.specs.PairTables.{IsPairTable, NumbersPairs}
+use Rattle.subfunction_classes.specs.Places.{pairs}
+
+pub record IsReady (table : Numbered) (x : ℕ) : Type 0 where
+  pub table_is : IsPairTable table.numbers.items x (length table.masks.items)
+  pub few : length table.masks.items ≤ 2 ^ 20
+
+abbrev pub IsReadyAt : List Numbered → ℕ → ℕ → Type 0
+IsReadyAt classes i x = (d : Numbered) → IsReady (slice_index_or classes i d) x
+
+abbrev pub IsNumbered : Numbered → Numbered → ℕ → Type 0
+IsNumbered old new x = NumbersPairs old.masks.items x (pairs old.numbers.items (2 ^ x)) new.numbers.items new.masks.items
+
+pub record IsNumberedFrom (old new : List Numbered) (i x : ℕ) : Type 0 where
+  pub numbered : (d : Numbered) → IsNumbered (slice_index_or old i d) (slice_index_or new (i + 1) d) x
+  pub others : (j : ℕ) (d : Numbered) → j ≢ i + 1 → slice_index_or new j d ≡ slice_index_or old j d
+  pub long : length new ≡ length old

@@ -1,0 +1,115 @@
+//! What a search is for.
+
+ghost use Rattle.std.specs.Prelude.{◌≡◌, ◌<◌, ◌≤◌, [], length, IfOk, IsTrue};
+ghost use Rattle.definitions.specs.Orders.{members};
+ghost use Rattle.definitions.specs.Pairs.{is_lawful};
+ghost use Rattle.definitions.specs.Problems.{outputs_of, packed_tables, table_at, table_in, words_per_table as size_of};
+ghost use Rattle.small_search.specs.Searches.{ArePacked, IsPlainSearch, plain_instance};
+
+use order_model::packed::{block, words_per_table};
+use order_model::{Mask, Pairs, Problem};
+use std::alloc::{AllocError, Global};
+use std::marker::Model;
+
+/// More than 16 widths of 2^20 at most, and the nodes above a set.
+pub(crate) const NO_BOUND: u32 = 1 << 25;
+
+/// What a search is for: the truth tables of some functions, packed in words of 64 points, one
+/// after the other, and the pairs that an order must keep. What stands behind a table's last point
+/// doesn't count. No cost reaches the bound.
+#[derive(Drop)]
+pub struct Search<'a> {
+    inputs: u8,
+    outputs: u8,
+    words: &'a [u64],
+    pairs: &'a Pairs,
+}
+
+impl<'a> Model for Search<'a> {
+    ghost use Rattle.definitions.specs.Problems.{packed_tables};
+    ghost use Rattle.layer_core.specs.Instances.{Instance};
+    ghost use Rattle.small_search.specs.Searches.{HoldsSearch, plain_instance};
+
+    ghost Value = { Instance };
+
+    ghost view = { λ s. plain_instance (packed_tables s.inputs s.outputs s.words.now) s.pairs.now };
+
+    ghost invariant = { λ s. HoldsSearch s.inputs s.outputs s.words.now s.pairs.now };
+}
+
+impl<'a> Search<'a> {
+    /// The pairs are of the functions' variables.
+    pub fn new(inputs: u8, outputs: u8, words: &'a [u64], pairs: &'a Pairs) -> Search<'a>
+        requires packed { ArePacked inputs outputs words.now }
+        requires pairs { pairs.now.inputs ≡ inputs }
+        ensures { result ≡ plain_instance (packed_tables inputs outputs words.now) pairs.now }
+    {
+        prove!(pairs.inputs() <= 16);
+        Search {
+            inputs,
+            outputs,
+            words,
+            pairs,
+        }
+    }
+
+    /// The number of variables.
+    #[inline(always)]
+    pub(crate) fn inputs(&self) -> u8
+        ensures value { result ≡ self.now.problem.inputs }
+        ensures some { 1 ≤ result }
+        ensures few { result ≤ 16 }
+        ensures plain { IsPlainSearch self.now }
+    {
+        self.inputs
+    }
+
+    /// The number of functions.
+    #[inline(always)]
+    pub(crate) fn outputs(&self) -> u8
+        ensures value { result ≡ outputs_of self.now.problem }
+        ensures few { result ≤ 16 }
+    {
+        self.outputs
+    }
+
+    /// The words of a function's truth table.
+    pub(crate) fn words(&self, output: u8) -> &[u64]
+        requires { output < outputs_of self.now.problem }
+        ensures long { length result.now ≡ size_of self.now.problem.inputs }
+        ensures table { table_in self.now.problem.inputs result.now ≡ table_at self.now.problem output }
+    {
+        block(self.words, words_per_table(self.inputs), output as usize)
+    }
+
+    /// Whether there are no pairs.
+    pub(crate) fn has_no_pairs(&self) -> bool
+        ensures { IsTrue result → self.now.pairs.pairs ≡ [] }
+    {
+        self.pairs.count() == 0
+    }
+
+    /// Whether a set has b wherever it has a, of each pair (a, b).
+    #[inline(always)]
+    pub(crate) fn lawful(&self, set: Mask) -> bool
+        ensures { result ≡ is_lawful self.now.pairs.pairs
+            (members self.now.problem.inputs set) }
+    {
+        self.pairs.lawful(set)
+    }
+}
+
+/// The words of a problem's truth tables.
+pub(crate) fn words_of(alloc: Global, problem: &Problem) -> Result<Vec<u64>, AllocError>
+    ensures packed { IfOk result
+        (λ v. ArePacked problem.now.inputs (outputs_of problem.now) v.items) }
+    ensures same { IfOk result
+        (λ v. packed_tables problem.now.inputs (outputs_of problem.now) v.items ≡ problem.now) }
+{
+    prove!(problem.inputs() <= 16);
+    let mut words = Vec::new(alloc);
+    for output in 0..problem.outputs() {
+        words.extend_from_slice(problem.words(output))?;
+    }
+    Ok(words)
+}

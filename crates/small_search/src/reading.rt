@@ -1,0 +1,69 @@
+//! The order that the cells of all sets give.
+
+ghost use Rattle.std.specs.Prelude.{◌≡◌, length};
+ghost use Rattle.definitions.specs.Levels.{level_counts};
+ghost use Rattle.definitions.specs.Problems.{functions};
+ghost use Rattle.solutions.specs.FlatCells.{AreFlatCells};
+ghost use Rattle.solutions.specs.Solutions.{IsFirstFewest, IsReadOff};
+
+use crate::instance::Search;
+use order_model::{Mask, VarIx};
+use subset_layers::Cell;
+
+/// Writes the variables that the cells give from the set of all variables downward: each cell's
+/// variable is the next one from the top.
+fn read_variables(search: &Search<'_>, cells: &[Cell], order: &mut [VarIx])
+    requires cells { AreFlatCells search.now cells.now }
+    requires long { length order.old ≡ search.now.problem.inputs }
+    ensures read { IsReadOff search.now order.new }
+    ensures long { length order.new ≡ length order.old }
+{
+    prove!(search.inputs() <= 16);
+    let mut set = (cells.len() - 1) as Mask;
+    for place in 0..order.len() {
+        let x = cells[set as usize].variable;
+        order[place] = x;
+        set -= 1 << x;
+    }
+}
+
+/// Writes by how much the cost falls when each variable is taken off the top.
+fn count_levels(search: &Search<'_>, cells: &[Cell], order: &[VarIx], levels: &mut [u32])
+    requires cells { AreFlatCells search.now cells.now }
+    requires read { IsReadOff search.now order.now }
+    requires long { length order.now ≡ search.now.problem.inputs }
+    requires counts { length levels.old ≡ length order.now }
+    ensures { levels.new ≡ level_counts search.now.problem.inputs (functions search.now.problem)
+        order.now }
+{
+    prove!(search.inputs() <= 16);
+    let mut set = (cells.len() - 1) as Mask;
+    let mut cost = cells[set as usize].cost;
+    for place in 0..order.len() {
+        set -= 1 << order[place];
+        let below = cells[set as usize].cost;
+        levels[place] = cost - below;
+        cost = below;
+    }
+}
+
+/// Writes the order that the cells give and its level counts, and returns its size.
+pub(crate) fn read_optimum(
+    search: &Search<'_>,
+    cells: &[Cell],
+    order: &mut [VarIx],
+    levels: &mut [u32],
+) -> u32
+    requires cells { AreFlatCells search.now cells.now }
+    requires places { length order.old ≡ search.now.problem.inputs }
+    requires counts { length levels.old ≡ search.now.problem.inputs }
+    ensures optimum { IsFirstFewest search.now.problem.inputs (functions search.now.problem)
+        search.now.pairs.pairs order.new levels.new result }
+    ensures places { length order.new ≡ length order.old }
+    ensures counts { length levels.new ≡ length levels.old }
+{
+    prove!(search.inputs() <= 16);
+    read_variables(search, cells, order);
+    count_levels(search, cells, order, levels);
+    cells[cells.len() - 1].cost
+}
