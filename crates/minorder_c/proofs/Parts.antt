@@ -1,14 +1,18 @@
 -- Answers of many problems, one behind the other.
 --     IsSoFar given i orders levels totals      the answers of the first i problems
+--     part_tables      a problem's words are truth tables
 --     more_put      those of one problem more, put behind the others
-use Rattle.std.proofs.Common.{◌≡◌, ℕ, ◌+◌, ◌*◌, ◌<◌, ◌≤◌, List, [], ◌∷◌, ◌++◌, length, take, drop, slice_index, sym, ◌∙◌, ap, subst, arith, below_more}
-use Rattle.std.proofs.lemmas.List.{length-drop, length-append, drop-append-le, take-append-le, take_all, drop_at, get_or_append_left, get_or_at}
+use Rattle.std.proofs.Common.{◌≡◌, ℕ, ◌+◌, ◌*◌, ◌<◌, ◌≤◌, List, [], ◌∷◌, ◌++◌, length, take, drop, slice_index, sym, ◌∙◌, ap, ap₂, subst, arith, below_more}
+use Rattle.std.proofs.lemmas.List.{length-drop, length-append, length-take-le, drop-append-le, take-append-le, take_all, drop_at, get_or_append_left, get_or_at}
 use Rattle.std.proofs.lemmas.Nat.{row_fits}
 use Rattle.definitions.specs.Functions.{Function}
 use Rattle.definitions.specs.Problems.{functions, packed_tables, words_of, words_per_table}
 use Rattle.solutions.specs.Solutions.{IsFirstFewest}
 use Rattle.minorder_c.specs.declared.arguments.GivenTables.{GivenTables}
-use Rattle.minorder_c.specs.Many.{AreFirstFewest, tables_at}
+use Rattle.definitions.proofs.Widths.SizeBounds.{order_length}
+use Rattle.minorder_c.specs.Answers.{AreTables}
+use Rattle.minorder_c.specs.Many.{AreFirstFewest, HasManyShape, IsPut, tables_at}
+use Rattle.minorder_c.proofs.Counts.{counts_long}
 
 -- a part of a list stays where more is put behind the list
 kept_part : (size : ℕ) (xs ys : List ℕ) (k : ℕ) → k * size + size ≤ length xs → words_of size (xs ++ ys) k ≡ words_of size xs k
@@ -60,18 +64,39 @@ one_more given i orders levels totals order counts total far long counted best =
       answers = below_more P i kept last;
     }
 
-pub more_put : (given : GivenTables) (i : ℕ) (orders levels totals order counts : List ℕ) (total : ℕ) (block : List ℕ) (size : ℕ)
-    (orders' levels' totals' : List ℕ) → IsSoFar given i orders levels totals → length order ≡ given.inputs → length counts ≡ given.inputs →
-    block ≡ words_of size given.words.now i → size ≡ given.outputs * words_per_table given.inputs →
-    IsFirstFewest given.inputs (functions (packed_tables given.inputs given.outputs block)) [] order counts total →
-    orders' ≡ orders ++ order → levels' ≡ levels ++ counts → totals' ≡ totals ++ total ∷ [] →
+-- the words of one problem
+pub part_tables : (given : GivenTables) (places counts many i : ℕ) (part : GivenTables) → HasManyShape given places counts many → i < many →
+    part.words.now ≡ words_of (given.outputs * words_per_table given.inputs) given.words.now i → part.inputs ≡ given.inputs →
+    part.outputs ≡ given.outputs → AreTables part
+part_tables given places counts many i part h lt words inputs outputs =
+    let size = given.outputs * words_per_table given.inputs in
+    let fits : i * size + size ≤ many * size = row_fits i size many size lt (omega arith) in
+    let r = h.in_range in
+    record {
+      in_range = record {
+        some_inputs = omega (arith, inputs, r.some_inputs);
+        few_inputs = omega (arith, inputs, r.few_inputs);
+        some_outputs = omega (arith, outputs, r.some_outputs);
+        few_outputs = omega (arith, outputs, r.few_outputs);
+      };
+      long = ap length words
+          ∙ length-take-le size (drop (i * size) given.words.now)
+          (let d = length-drop (i * size) given.words.now in let l = h.long in omega (arith, d, l, fits))
+          ∙ sym (ap₂ (λ m n. m * words_per_table n) outputs inputs);
+    }
+
+pub more_put : (given : GivenTables) (i : ℕ) (part : GivenTables) (orders orders' levels levels' totals totals' : List ℕ) →
+    IsSoFar given i orders levels totals → part.words.now ≡ words_of (given.outputs * words_per_table given.inputs) given.words.now i →
+    part.inputs ≡ given.inputs → part.outputs ≡ given.outputs → IsPut part orders orders' levels levels' totals totals' →
     IsSoFar given (i + 1) orders' levels' totals'
-more_put given i orders levels totals order counts total block size orders' levels' totals' far long counted part wide best o l t =
-    let part' : block ≡ words_of (given.outputs * words_per_table given.inputs) given.words.now i =
-    part ∙ ap (λ (s : ℕ). words_of s given.words.now i) wide in
-    let best' = subst (λ (b : List ℕ). IsFirstFewest given.inputs (functions (packed_tables given.inputs given.outputs b)) [] order counts total)
-    part' best in
-    let more = one_more given i orders levels totals order counts total far long counted best' in
-    let with_orders = subst (λ (x : List ℕ). IsSoFar given (i + 1) x (levels ++ counts) (totals ++ total ∷ [])) (sym o) more in
-    let with_levels = subst (λ (x : List ℕ). IsSoFar given (i + 1) orders' x (totals ++ total ∷ [])) (sym l) with_orders in
-    subst (λ (x : List ℕ). IsSoFar given (i + 1) orders' levels' x) (sym t) with_levels
+more_put given i part orders orders' levels levels' totals totals' far words inputs outputs put =
+    let best : IsFirstFewest given.inputs (functions (tables_at given i)) [] put.order put.counts put.total =
+    subst (λ (ws : List ℕ). IsFirstFewest given.inputs (functions (packed_tables given.inputs given.outputs ws)) [] put.order put.counts put.total) words
+    (subst (λ (m : ℕ). IsFirstFewest given.inputs (functions (packed_tables given.inputs m part.words.now)) [] put.order put.counts put.total) outputs
+    (subst (λ (n : ℕ). IsFirstFewest n (functions (packed_tables n part.outputs part.words.now)) [] put.order put.counts put.total) inputs put.fewest)) in
+    let long = order_length given.inputs put.order best.first.fewest.is_order in
+    let counted = ap length best.levels_are ∙ counts_long given.inputs (functions (tables_at given i)) put.order ∙ long in
+    let more = one_more given i orders levels totals put.order put.counts put.total far long counted best in
+    let with_orders = subst (λ (x : List ℕ). IsSoFar given (i + 1) x (levels ++ put.counts) (totals ++ put.total ∷ [])) (sym put.orders_are) more in
+    let with_levels = subst (λ (x : List ℕ). IsSoFar given (i + 1) orders' x (totals ++ put.total ∷ [])) (sym put.levels_are) with_orders in
+    subst (λ (x : List ℕ). IsSoFar given (i + 1) orders' levels' x) (sym put.totals_are) with_levels

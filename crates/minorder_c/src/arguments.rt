@@ -27,21 +27,31 @@ pub(crate) fn is_in_range(given: &GivenTables) -> bool
     (1..=16).contains(&given.inputs) && (1..=16).contains(&given.outputs)
 }
 
+/// Whether the words are truth tables of so many outputs of so many inputs.
+pub(crate) fn are_tables(given: &GivenTables) -> bool
+    ensures { IsTrue result ↔ AreTables given.now }
+{
+    is_in_range(given)
+        && given.words.len() == given.outputs as usize * words_per_table(given.inputs as u8)
+}
+
+/// Whether the words are truth tables, for so many places of variables and level counts.
+pub(crate) fn has_call_shape(given: &GivenTables, places: usize, counts: usize) -> bool
+    ensures { IsTrue result ↔ HasCallShape given.now places counts }
+{
+    places == given.inputs as usize && counts == given.inputs as usize && are_tables(given)
+}
+
 /// The truth tables that the words hold.
 pub(crate) fn tables_of(alloc: Global, given: &GivenTables) -> Result<Tables, Refusal>
     ensures there { OnOk result (AreTables given.now) }
     ensures tables { IfOk result (λ t. t ≡ tables_in given.now) }
     ensures refused { IfErr result (RefusesShape (AreTables given.now)) }
 {
-    if !is_in_range(given) {
+    if !are_tables(given) {
         return Err(Refusal::Shape);
     }
-    let n = given.inputs as u8;
-    let m = given.outputs as u8;
-    if given.words.len() != usize::from(m) * words_per_table(n) {
-        return Err(Refusal::Shape);
-    }
-    match Tables::of_words(alloc, n, m, given.words) {
+    match Tables::of_words(alloc, given.inputs as u8, given.outputs as u8, given.words) {
         Ok(tables) => Ok(tables),
         Err(_) => Err(Refusal::OutOfMemory),
     }

@@ -1,75 +1,115 @@
 //! The order of the fewest nodes.
 
-ghost use Rattle.std.specs.Prelude.{◌≡◌, ◌≢◌, ◌⊎◌, [], length, IfOk, IfErr, OnOk};
+ghost use Rattle.std.specs.Prelude.{◌≡◌, ◌≢◌, ◌⊎◌, [], length, IfOk, IfErr, OnOk, OnErr};
 ghost use Rattle.definitions.specs.KeptPairs.{CanBeKept};
 ghost use Rattle.definitions.specs.Pairs.{sorted_pairs};
-ghost use Rattle.minorder_c.specs.Answers.{AllStay, HasCallShape, HasLengths, IsFirstFewestOf, given, pairs_given, tables_in};
+ghost use Rattle.minorder_c.specs.Answers.{AllStay, AreTables, HasCallShape, HasLengths, IsFirstFewestOf, given, pairs_given, tables_in};
 ghost use Rattle.solutions.specs.Solutions.{IsOptimumFor};
 ghost use Rattle.minorder_c.specs.Statuses.{IsPlainStatus, RefusesShape, RefusesPairs, TellsPairs, TellsShape};
 
 use crate::above::{AbovePair, kept_pairs};
-use crate::arguments::{GivenTables, tables_for};
+use crate::arguments::{GivenTables, has_call_shape};
 use crate::sifting_from::bound_of;
 use crate::status::Refusal;
 use order_model::{Pairs, SizedOrder};
 use order_solve::find_optimum_alone;
-use small_search::{find_optimum, is_small};
+use small_search::{Search, Workspace, are_few, write_optimum};
 use std::alloc::{AllocError, Global};
 use truth_table::Tables;
 
-/// The first order of the fewest nodes among those that keep the pairs; where the truth tables are
-/// not small, searched below the size of a sifted one.
-fn optimum(alloc: Global, tables: &Tables, pairs: Pairs) -> Result<SizedOrder, AllocError>
-    requires { pairs.inputs ≡ tables.now.inputs }
-    ensures optimum { IfOk result (IsOptimumFor tables.now pairs.pairs) }
-    ensures long { IfOk result (HasLengths tables.now.inputs) }
+/// The first order of the fewest nodes among those that keep the pairs, searched below the size of
+/// a sifted one.
+fn searched(alloc: Global, given: &GivenTables, pairs: Pairs) -> Result<SizedOrder, AllocError>
+    requires tables { AreTables given.now }
+    requires pairs { pairs.inputs ≡ given.now.inputs }
+    ensures optimum { IfOk result (IsOptimumFor (tables_in given.now) pairs.pairs) }
+    ensures long { IfOk result (HasLengths given.now.inputs) }
 {
-    if is_small(tables.problem()) {
-        return find_optimum(alloc, tables.problem(), &pairs);
-    }
-    let bound = bound_of(alloc, tables, pairs)?;
+    let tables = Tables::of_words(alloc, given.inputs as u8, given.outputs as u8, given.words)?;
+    let bound = bound_of(alloc, &tables, pairs)?;
     find_optimum_alone(alloc, tables.problem(), bound)
 }
 
-/// The first order of the fewest nodes, for so many places of variables and level counts.
-pub(crate) fn exact(
+/// Writes the first order of the fewest nodes among those that keep the pairs, and its level
+/// counts, and returns its size. Without memory nothing is written.
+pub(crate) fn optimum(
     alloc: Global,
     given: &GivenTables,
-    places: usize,
-    counts: usize,
-) -> Result<SizedOrder, Refusal>
-    ensures shape { OnOk result (HasCallShape given.now places counts) }
-    ensures optimum { IfOk result (IsOptimumFor (tables_in given.now) []) }
-    ensures long { IfOk result (HasLengths given.now.inputs) }
-    ensures refused { IfErr result (RefusesShape (HasCallShape given.now places counts)) }
+    pairs: Pairs,
+    workspace: &mut Workspace,
+    order: &mut [u8],
+    levels: &mut [u32],
+) -> Result<u32, AllocError>
+    requires shape { HasCallShape given.now (length order.old) (length levels.old) }
+    requires pairs { pairs.inputs ≡ given.now.inputs }
+    ensures optimum { IfOk result (IsFirstFewestOf given.now pairs.pairs order.new levels.new) }
+    ensures places { length order.new ≡ length order.old }
+    ensures counts { length levels.new ≡ length levels.old }
+    ensures order_stays { OnErr result (order.new ≡ order.old) }
+    ensures levels_stay { OnErr result (levels.new ≡ levels.old) }
 {
-    let tables = tables_for(alloc, given, places, counts)?;
-    let best = optimum(alloc, &tables, Pairs::none(given.inputs as u8))?;
-    Ok(best)
+    let inputs = given.inputs as u8;
+    let outputs = given.outputs as u8;
+    if are_few(inputs, outputs) {
+        let search = Search::new(inputs, outputs, given.words, &pairs);
+        return write_optimum(alloc, &search, workspace, order, levels);
+    }
+    let best = searched(alloc, given, pairs)?;
+    order.copy_from_slice(best.order.variables());
+    levels.copy_from_slice(&best.levels);
+    Ok(best.total)
 }
 
-/// The first order of the fewest nodes among those that keep some pairs, for so many places of
-/// variables and level counts.
+/// Writes the first order of the fewest nodes and its level counts, and returns its size.
+fn exact(
+    alloc: Global,
+    given: &GivenTables,
+    order: &mut [u8],
+    levels: &mut [u32],
+) -> Result<u32, Refusal>
+    ensures shape { OnOk result (HasCallShape given.now (length order.old) (length levels.old)) }
+    ensures optimum { IfOk result (IsFirstFewestOf given.now [] order.new levels.new) }
+    ensures refused { IfErr result
+        (RefusesShape (HasCallShape given.now (length order.old) (length levels.old))) }
+    ensures order_stays { OnErr result (order.new ≡ order.old) }
+    ensures levels_stay { OnErr result (levels.new ≡ levels.old) }
+{
+    if !has_call_shape(given, order.len(), levels.len()) {
+        return Err(Refusal::Shape);
+    }
+    let mut workspace = Workspace::new(alloc)?;
+    let pairs = Pairs::none(given.inputs as u8);
+    let total = optimum(alloc, given, pairs, &mut workspace, order, levels)?;
+    Ok(total)
+}
+
+/// Writes the first order of the fewest nodes among those that keep some pairs, and its level
+/// counts, and returns its size.
 fn exact_above(
     alloc: Global,
     given: &GivenTables,
     above: &[AbovePair],
-    places: usize,
-    counts: usize,
-) -> Result<SizedOrder, Refusal>
-    ensures shape { OnOk result (HasCallShape given.now places counts) }
+    order: &mut [u8],
+    levels: &mut [u32],
+) -> Result<u32, Refusal>
+    ensures shape { OnOk result (HasCallShape given.now (length order.old) (length levels.old)) }
     ensures kept { OnOk result (CanBeKept given.now.inputs (pairs_given above.now)) }
-    ensures optimum { IfOk result (IsOptimumFor (tables_in given.now)
-        (sorted_pairs given.now.inputs (pairs_given above.now))) }
-    ensures long { IfOk result (HasLengths given.now.inputs) }
+    ensures optimum { IfOk result
+        (IsFirstFewestOf given.now (sorted_pairs given.now.inputs (pairs_given above.now))
+        order.new levels.new) }
     ensures refused { IfErr result
-        (RefusesPairs (HasCallShape given.now places counts)
+        (RefusesPairs (HasCallShape given.now (length order.old) (length levels.old))
         (CanBeKept given.now.inputs (pairs_given above.now))) }
+    ensures order_stays { OnErr result (order.new ≡ order.old) }
+    ensures levels_stay { OnErr result (levels.new ≡ levels.old) }
 {
-    let tables = tables_for(alloc, given, places, counts)?;
+    if !has_call_shape(given, order.len(), levels.len()) {
+        return Err(Refusal::Shape);
+    }
     let pairs = kept_pairs(alloc, above, given.inputs as u8)?;
-    let best = optimum(alloc, &tables, pairs)?;
-    Ok(best)
+    let mut workspace = Workspace::new(alloc)?;
+    let total = optimum(alloc, given, pairs, &mut workspace, order, levels)?;
+    Ok(total)
 }
 
 /// The first order of the fewest nodes of some functions, its level counts and its size. A call
@@ -97,11 +137,9 @@ pub extern "C" fn minorder_exact_with_lengths(
         inputs,
         outputs,
     };
-    match exact(alloc, &given, order.len(), levels.len()) {
-        Ok(found) => {
-            order.copy_from_slice(found.order.variables());
-            levels.copy_from_slice(&found.levels);
-            *total = found.total;
+    match exact(alloc, &given, order, levels) {
+        Ok(size) => {
+            *total = size;
             0
         }
         Err(refusal) => refusal.status(),
@@ -137,11 +175,9 @@ pub extern "C" fn minorder_exact_above_with_lengths(
         inputs,
         outputs,
     };
-    match exact_above(alloc, &given, above, order.len(), levels.len()) {
-        Ok(best) => {
-            order.copy_from_slice(best.order.variables());
-            levels.copy_from_slice(&best.levels);
-            *total = best.total;
+    match exact_above(alloc, &given, above, order, levels) {
+        Ok(size) => {
+            *total = size;
             0
         }
         Err(refusal) => refusal.status(),

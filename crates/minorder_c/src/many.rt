@@ -1,16 +1,16 @@
 //! The orders of the fewest nodes of many problems by one call.
 
-ghost use Rattle.std.specs.Prelude.{◌≡◌, ◌≢◌, ◌*◌, ◌↔◌, ◌++◌, ◌∷◌, [], length, IsTrue, IfOk, IfErr, OnOk};
-ghost use Rattle.minorder_c.specs.Answers.{ListsStay, given};
-ghost use Rattle.minorder_c.specs.Many.{AreFirstFewest, HasManyShape};
+ghost use Rattle.std.specs.Prelude.{◌≡◌, ◌≢◌, ◌*◌, ◌↔◌, length, IsTrue, IfOk, OnOk};
+ghost use Rattle.minorder_c.specs.Answers.{AreTables, ListsStay, given};
+ghost use Rattle.minorder_c.specs.Many.{AreFirstFewest, HasManyShape, IsPut};
 ghost use Rattle.minorder_c.specs.Statuses.{IsPlainStatus, TellsShape};
-ghost use Rattle.minorder_c.specs.declared.status.Refusal.TheVariants.{OutOfMemory};
 
 use crate::arguments::{GivenTables, is_in_range};
-use crate::exact::exact;
+use crate::exact::optimum;
 use crate::status::Refusal;
-use order_model::SizedOrder;
+use order_model::Pairs;
 use order_model::packed::{block, words_per_table};
+use small_search::Workspace;
 use std::alloc::{AllocError, Global};
 
 /// The answers of many problems, one behind the other.
@@ -45,41 +45,56 @@ fn is_shape(given: &GivenTables, places: usize, counts: usize, many: usize) -> b
 }
 
 /// Puts one problem's answers behind the others.
-fn put(answers: &mut Answers, best: &SizedOrder) -> Result<(), AllocError>
-    ensures orders { OnOk result
-        (answers.new.orders.items ≡ answers.old.orders.items ++ best.now.order) }
-    ensures levels { OnOk result
-        (answers.new.levels.items ≡ answers.old.levels.items ++ best.now.levels.items) }
-    ensures totals { OnOk result
-        (answers.new.totals.items ≡ answers.old.totals.items ++ best.now.total ∷ []) }
+fn put(
+    alloc: Global,
+    given: &GivenTables,
+    workspace: &mut Workspace,
+    answers: &mut Answers,
+) -> Result<(), AllocError>
+    requires { AreTables given.now }
+    ensures { OnOk result
+        (IsPut given.now answers.old.orders.items answers.new.orders.items
+        answers.old.levels.items answers.new.levels.items answers.old.totals.items
+        answers.new.totals.items) }
 {
-    answers.orders.extend_from_slice(best.order.variables())?;
-    answers.levels.extend_from_slice(&best.levels)?;
-    answers.totals.push(best.total)?;
+    let n = given.inputs as usize;
+    let mut places = [0; 16];
+    let mut counts = [0; 16];
+    let (order, _) = places.split_at_mut(n);
+    let (levels, _) = counts.split_at_mut(n);
+    let pairs = Pairs::none(given.inputs as u8);
+    let total = optimum(alloc, given, pairs, workspace, order, levels)?;
+    answers.orders.extend_from_slice(order)?;
+    answers.levels.extend_from_slice(levels)?;
+    answers.totals.push(total)?;
     Ok(())
 }
 
 /// The first order of the fewest nodes of each of many problems, whose words have their shape.
-fn optima_of(alloc: Global, given: &GivenTables, many: usize) -> Result<Answers, Refusal>
+fn optima_of(alloc: Global, given: &GivenTables, many: usize) -> Result<Answers, AllocError>
     requires { HasManyShape given.now (many * given.now.inputs) (many * given.now.inputs) many }
     ensures optima { IfOk result
         (λ a. AreFirstFewest given.now many a.orders.items a.levels.items a.totals.items) }
     ensures orders { IfOk result (λ a. length a.orders.items ≡ many * given.now.inputs) }
     ensures levels { IfOk result (λ a. length a.levels.items ≡ many * given.now.inputs) }
     ensures totals { IfOk result (λ a. length a.totals.items ≡ many) }
-    ensures refused { IfErr result (λ r. r ≡ OutOfMemory) }
 {
     let n = given.inputs as usize;
     let size = given.outputs as usize * words_per_table(given.inputs as u8);
     let mut answers = Answers {
-        orders: Vec::new(alloc),
-        levels: Vec::new(alloc),
-        totals: Vec::new(alloc),
+        orders: Vec::with_capacity(alloc, many * n)?,
+        levels: Vec::with_capacity(alloc, many * n)?,
+        totals: Vec::with_capacity(alloc, many)?,
     };
+    let mut workspace = Workspace::new(alloc)?;
     for i in 0..many {
         let words = block(given.words, size, i);
-        let best = exact(alloc, &GivenTables { words, ..*given }, n, n)?;
-        put(&mut answers, &best)?;
+        put(
+            alloc,
+            &GivenTables { words, ..*given },
+            &mut workspace,
+            &mut answers,
+        )?;
     }
     Ok(answers)
 }
@@ -122,6 +137,6 @@ pub extern "C" fn minorder_exact_many_with_lengths(
             totals.copy_from_slice(&found.totals);
             0
         }
-        Err(refusal) => refusal.status(),
+        Err(_) => Refusal::OutOfMemory.status(),
     }
 }
