@@ -8,7 +8,7 @@ use order_solve::{Solution, find_optimum_alone, prepare, solve, solve_alone};
 use pla_reader::read_cover;
 use sifting::laws::diagrams_have_their_problems_tables;
 use sifting::{Manager, Sifted};
-use small_search::is_small;
+use small_search::{Search, Workspace, are_few, is_small, write_optimum};
 use std::alloc::Global;
 use std::hint;
 use std::process::Abort;
@@ -118,8 +118,28 @@ fn finds_words_small(rt: &impl Abort, alloc: Global, tables: &Tables) -> bool {
     is_small(problem) && is_of_words(&solved.optimum) && is_of_words(&found)
 }
 
+/// Whether the search for small problems writes the optimum of the words, with memory of a larger
+/// search.
+fn writes_words_small(rt: &impl Abort, alloc: Global) -> bool {
+    let mut workspace = Workspace::new(alloc).expect(rt, "memory");
+    let pairs = Pairs::none(4);
+    let parity = Search::new(4, 1, &[0x6996], &pairs);
+    let parity_size = write_optimum(alloc, &parity, &mut workspace, &mut [0; 4], &mut [0; 4]);
+    let pairs = Pairs::none(3);
+    let words = Search::new(3, 1, &[0xff96], &pairs);
+    let mut order = [3; 3];
+    let mut levels = [0; 3];
+    let size = write_optimum(alloc, &words, &mut workspace, &mut order, &mut levels);
+    are_few(3, 1)
+        && parity_size.expect(rt, "memory") == 7
+        && size.expect(rt, "memory") == 5
+        && order == [0, 1, 2]
+        && levels == [1, 2, 2]
+}
+
 #[test]
 fn one_thread_solves_packed_words(rt: HostRuntime) {
+    assert!(rt; writes_words_small(&rt, rt.alloc()));
     let tables = Tables::of_words(rt.alloc(), 3, 1, &[0xff96]).expect(&rt, "memory");
     assert!(rt; finds_words_small(&rt, rt.alloc(), &tables));
     assert!(rt; solves_words(&rt, rt.alloc(), &tables));
