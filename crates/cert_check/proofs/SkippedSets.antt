@@ -14,24 +14,17 @@ use Rattle.definitions.proofs.Widths.Recurrence.{has_without, absent_without}
 use Rattle.cert_check.specs.Edges.{EdgeFails, AreEdgeTables}
 use Rattle.symmetries.specs.Exchanges.{IsExchange}
 use Rattle.symmetries.proofs.Partners.{same_partner}
-use Rattle.cert_check.specs.Images.{IsImage, AreImages}
+use Rattle.symmetries.specs.Images.{IsImage, AreImages}
+use Rattle.symmetries.proofs.ImageWidths.{member_bit, partner_member}
 use Rattle.cert_check.specs.FewerEdges.{AreKept, LeadsOn, AreFewer}
 use Rattle.cert_check.proofs.FirstEdges.{judged_within}
 use Rattle.cert_check.proofs.IntoSet.{bit_needs}
-
--- a variable of n is a member of a set just if its bit is in the mask
-member_bit : (n S y : ℕ) → y < n → has (members n S) y ≡ eqb (bit_at S y) 1
-member_bit n S y l = has_members n S y ∙ ap (λ b. b && eqb (bit_at S y) 1) ((has_variables n y).1 l)
 
 -- variables that are both members, or both not, have equal bits
 same_bit : (n S T y z : ℕ) → y < n → z < n → has (members n S) y ≡ has (members n T) z → bit_at S y ≡ bit_at T z
 same_bit n S T y z l m e = grind (arith, bit_at-lt, member_bit, cases_eq, eqb-true, eq-eqb)
 
 module _ (n : ℕ) (partners : List ℕ) (exchange : IsExchange n partners) where
-  -- the members of the image of a set are the partners of its members
-  partner_member : (S T y : ℕ) → IsImage n partners S T → y < n → has (members n T) (slice_index partners y) ≡ has (members n S) y
-  partner_member S T y image l = grind (arith, member_bit, slice_index)
-
   -- so it is for the two sets without a variable and its partner
   partner_without : (S T x y : ℕ) → IsImage n partners S T → x < n → has (members n S) x ≡ true → y < n →
       has (members n (T - 2 ^ slice_index partners x)) (slice_index partners y) ≡ has (members n (S - 2 ^ x)) y

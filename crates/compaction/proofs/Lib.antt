@@ -15,3 +15,4 @@ pub mod AllDistinct
 pub mod HeldBytes
 pub mod FirstSets
 pub mod OrderedStrips
+pub mod ImageRows

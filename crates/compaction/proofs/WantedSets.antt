@@ -3,7 +3,7 @@
 --     request_kept      some more members of a set
 --     more_wanted, kept_wanted      they are wanted, and all that was wanted before
 --     request_written, kept_written, more_written      the same where the place is read before it is written
---     all_members      all members of a set are wanted
+--     all_members, some_members      all members of a set are wanted; those among some variables
 --     wanted_members      what is wanted of one set are its members
 use Rattle.std.proofs.Common.{◌≡◌, ℕ, ◌+◌, ◌*◌, ◌-◌, ◌/◌, ◌%◌, ◌^◌, ◌<◌, ◌≤◌, inl, inr, IsTrue, List, replicate, length, slice_index, get_or, set, get_or-set_same, get_or-set_other, sym, ap, ◌∙◌, subst, arith, bit_and, bit_or, pow_mono, pow-add}
 use Rattle.std.specs.Int.{bit_at}
@@ -136,6 +136,12 @@ all_members n t small x one = elim (cases_lt x n) [
   | inl lt ↦ member_from n t x lt one
   | inr ge ↦ absurd (let z = bit_at_above t n x small ge in omega arith)
 ]
+
+pub some_members : (n t variables : ℕ) → t < 2 ^ n → AreMembersOf n t (bit_and variables t)
+some_members n t variables small x one =
+    let w = bit_at_and variables t x in
+    let b = bit_at-lt t x in
+    all_members n t small x (omega arith)
 
 -- bits within another mask's
 pub within_wanted : (wanted more x : ℕ) → bit_and wanted more ≡ wanted → bit_at wanted x ≡ 1 → bit_at more x ≡ 1

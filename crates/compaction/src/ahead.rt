@@ -4,11 +4,12 @@
 ghost use Rattle.std.specs.Prelude.{◌≡◌, ◌+◌, ◌^◌, ◌<◌, ◌≤◌, length, IfOk, IfSome, OnOk, OnErr};
 ghost use Rattle.subset_layers.specs.Layers.{block_masks};
 ghost use Rattle.compaction.specs.Ahead.{AreAhead, none_ahead, with_others, widths_ahead};
-ghost use Rattle.compaction.specs.Rows.{AreWidthRows, HoldsRows, wanted_count, most_compactions};
+ghost use Rattle.compaction.specs.Requests.{AreMembersOf};
+ghost use Rattle.compaction.specs.Rows.{AreWidthRows, HoldsRows, IsWidthRow, wanted_count, most_compactions};
 ghost use Rattle.compaction.specs.Walks.{AreAsked, AreRowsOf, Counts, HasRoom};
 
 use crate::blocks::BlockWidths;
-use crate::request::{Sizes, WidthRequest};
+use crate::request::{Wanted, WidthRequest};
 use crate::shared_tables::SharedTables;
 use crate::tally::{Tallies, Tally, count_wanted};
 use crate::walking::{ByteRows, walked_rows};
@@ -16,6 +17,7 @@ use order_model::{Mask, Pairs, Problem, WidthRow};
 use std::alloc::{AllocError, Global};
 use std::marker::Model;
 use subset_layers::Block;
+use symmetries::Orbits;
 
 /// Rows of a problem that were found ahead of their layers, and the size of the largest sets of
 /// which rows are to be found.
@@ -65,6 +67,11 @@ impl<'a> WidthsAhead<'a> {
         ensures { result ≡ self.now.end }
     {
         self.end
+    }
+
+    /// Whether no rows are found.
+    pub fn is_empty(&self) -> bool {
+        self.bytes.is_empty()
     }
 
     /// With what others found. If memory is refused it stays.
@@ -126,12 +133,33 @@ impl<'a> SharedTables<'a> {
     }
 }
 
+/// Of each low byte the place of its first rows among those that were found ahead.
+#[derive(Clone, Copy)]
+struct Places {
+    of: [Option<usize>; 256],
+}
+
+impl Places {
+    /// The places of rows.
+    fn of(bytes: &[ByteRows]) -> Places {
+        let mut places = Places { of: [None; 256] };
+        for (place, byte) in bytes.iter().enumerate() {
+            let low = usize::from(byte.request.low);
+            if places.of[low].is_none() {
+                places.of[low] = Some(place);
+            }
+        }
+        places
+    }
+}
+
 /// Where the widths of a layer's blocks come from: the tables that walks share, what was found
 /// ahead, and the pairs that sets have to be in orders with for their rows to be found ahead.
 #[derive(Drop)]
 pub struct WidthSource<'a> {
     shared: &'a SharedTables<'a>,
     ahead: &'a WidthsAhead<'a>,
+    places: Places,
     pairs: &'a Pairs,
 }
 
@@ -159,6 +187,7 @@ impl<'a> WidthSource<'a> {
         WidthSource {
             shared,
             ahead,
+            places: Places::of(&ahead.bytes),
             pairs,
         }
     }
@@ -181,32 +210,47 @@ impl<'a> WidthSource<'a> {
         let Some(own) = block.masks().first() else {
             return Ok(None);
         };
-        let sizes = Sizes {
+        let wanted = Wanted {
+            pairs: self.pairs,
+            orbits: self.shared.orbits(),
             first: own.count_ones() + 1,
             last: u32::from(self.ahead.end()),
         };
-        if sizes.first > sizes.last {
+        if wanted.first > wanted.last {
             return Ok(None);
         }
-        let later = WidthRequest::of_sizes(alloc, block.inputs(), block.low(), self.pairs, sizes)?;
+        let later = WidthRequest::of_sets(alloc, block.inputs(), block.low(), &wanted)?;
         Ok(Some(later))
     }
 
+    /// The rows of a low byte, if some were found ahead.
+    fn byte_rows(&self, low: u8) -> Option<&'a ByteRows>
+        ensures rows { IfSome result (λ b. HoldsRows self.now b.now) }
+        ensures low { IfSome result (λ b. b.now.low ≡ low) }
+    {
+        let ahead = self.ahead;
+        let place = self.places.of[usize::from(low)]?;
+        match ahead.bytes.get(place) {
+            Some(byte) if byte.request.low == low => Some(byte),
+            _ => None,
+        }
+    }
+
     /// The rows of a block's sets, if those of its low byte have all that is wanted.
-    fn rows_of_byte(
+    fn own_rows(
         &self,
         alloc: Global,
-        byte: &ByteRows,
         block: &Block,
         needed: &[Mask],
     ) -> Result<Option<Vec<WidthRow>>, AllocError>
-        requires rows { HoldsRows self.now byte.now }
         requires inputs { block.now.inputs ≡ self.now.inputs }
-        requires low { block.now.low ≡ byte.now.low }
         requires needed { length needed.now ≡ length (block_masks block.now) }
         ensures { IfOk result (λ found. IfSome found
             (λ rows. AreWidthRows self.now (block_masks block.now) needed.now rows.items)) }
     {
+        let Some(byte) = self.byte_rows(block.low()) else {
+            return Ok(None);
+        };
         if !byte.request.has_block(block, needed) {
             return Ok(None);
         }
@@ -214,25 +258,58 @@ impl<'a> WidthSource<'a> {
         Ok(Some(rows))
     }
 
-    /// The rows of a block's sets, if all of them were found ahead.
+    /// The row of a set from that of the first set of its orbit, if that was found ahead.
+    fn row_by_orbit(&self, orbits: &Orbits<'_>, set: Mask, needed: Mask) -> Option<WidthRow>
+        requires orbits { orbits.now ≡ self.now }
+        requires set { set < 2 ^ self.now.inputs }
+        requires members { AreMembersOf self.now.inputs set needed }
+        ensures { IfSome result (IsWidthRow self.now set needed) }
+    {
+        prove!(self.shared.problem().inputs() <= 16);
+        let image = orbits.first_of(set);
+        let byte = self.byte_rows((image.set % 256) as u8)?;
+        byte.row_by_image(&image, needed)
+    }
+
+    /// The rows of a block's sets from those of the first sets of their orbits, if these were found
+    /// ahead.
+    fn rows_by_orbits(
+        &self,
+        alloc: Global,
+        orbits: &Orbits<'_>,
+        block: &Block,
+        needed: &[Mask],
+    ) -> Result<Option<Vec<WidthRow>>, AllocError>
+        requires orbits { orbits.now ≡ self.now }
+        requires asked { AreAsked self.now block.now needed.now }
+        ensures { IfOk result (λ found. IfSome found
+            (λ rows. AreWidthRows self.now (block_masks block.now) needed.now rows.items)) }
+    {
+        let mut rows = Vec::with_capacity(alloc, block.len())?;
+        for (i, mask) in block.masks().iter().enumerate() {
+            let Some(row) = self.row_by_orbit(orbits, *mask, needed[i]) else {
+                return Ok(None);
+            };
+            rows.push(row)?;
+        }
+        Ok(Some(rows))
+    }
+
+    /// The rows of a block's sets, if all that serve for them were found ahead.
     fn rows_ahead(
         &self,
         alloc: Global,
         block: &Block,
         needed: &[Mask],
     ) -> Result<Option<Vec<WidthRow>>, AllocError>
-        requires inputs { block.now.inputs ≡ self.now.inputs }
-        requires needed { length needed.now ≡ length (block_masks block.now) }
+        requires asked { AreAsked self.now block.now needed.now }
         ensures { IfOk result (λ found. IfSome found
             (λ rows. AreWidthRows self.now (block_masks block.now) needed.now rows.items)) }
     {
-        let ahead = self.ahead;
-        for byte in &ahead.bytes {
-            if byte.request.low == block.low() {
-                return self.rows_of_byte(alloc, byte, block, needed);
-            }
+        match self.shared.orbits() {
+            Some(orbits) => self.rows_by_orbits(alloc, orbits, block, needed),
+            None => self.own_rows(alloc, block, needed),
         }
-        Ok(None)
     }
 
     /// The widths of a block's sets, as `block_widths` gives them: those that were found ahead, or

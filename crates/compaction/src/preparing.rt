@@ -6,7 +6,8 @@ ghost use Rattle.compaction.specs.Ahead.{none_ahead, widths_ahead};
 ghost use Rattle.compaction.specs.Rows.{HoldsRows};
 
 use crate::ahead::WidthsAhead;
-use crate::request::{Sizes, WidthRequest};
+use crate::request::{Wanted, WidthRequest};
+use crate::requests::Requests;
 use crate::shared_tables::SharedTables;
 use crate::tally::Tally;
 use crate::walking::{ByteRows, walked_rows};
@@ -69,25 +70,13 @@ impl Turns {
 }
 
 impl<'a> SharedTables<'a> {
-    /// The rows of the sets that have a low byte and are in orders with the pairs, up to a size.
-    fn rows_up_to(
-        &self,
-        alloc: Global,
-        low: u8,
-        pairs: &Pairs,
-        end: u8,
-    ) -> Result<ByteRows, AllocError>
-        requires { low < 2 ^ self.now.inputs }
+    /// The rows of what is wanted of the sets with a low byte.
+    fn rows_of(&self, alloc: Global, request: &WidthRequest) -> Result<ByteRows, AllocError>
+        requires { request.now.inputs ≡ self.now.inputs }
         ensures rows { IfOk result (λ b. HoldsRows self.now b) }
         ensures few { IfOk result (λ b. length b.needed ≤ 2 ^ 8) }
     {
-        let inputs = self.problem().inputs();
-        prove!(inputs <= 16);
-        let sizes = Sizes {
-            first: 1,
-            last: u32::from(end),
-        };
-        let request = WidthRequest::of_sizes(alloc, inputs, low, pairs, sizes)?;
+        let request = request.try_clone(alloc)?;
         let (byte, _) = walked_rows(alloc, self, request)?;
         Ok(byte)
     }
@@ -96,7 +85,7 @@ impl<'a> SharedTables<'a> {
     fn part_of(
         &self,
         alloc: Global,
-        pairs: &Pairs,
+        requests: &Requests,
         end: u8,
         turns: &Turns,
     ) -> Result<Part<'a>, AllocError>
@@ -104,17 +93,33 @@ impl<'a> SharedTables<'a> {
     {
         let mut found = WidthsAhead::up_to(alloc, self.problem(), end);
         let mut tally = Tally::new();
-        let limit = 1u32 << self.problem().inputs();
+        let inputs = self.problem().inputs();
         for _turn in 0..256u32 {
             let Some(low) = turns.next() else {
                 break;
             };
-            if u32::from(low) < limit {
-                let byte = self.rows_up_to(alloc, low, pairs, end)?;
+            if let Some(request) = requests.of_byte(low)
+                && request.inputs == inputs
+            {
+                let byte = self.rows_of(alloc, request)?;
                 found.keep(byte, &mut tally)?;
             }
         }
         Ok(Part { found, tally })
+    }
+
+    /// The rows of what is wanted, by the calling thread: of all sets up to a size, or those of
+    /// them that serve for the others.
+    pub fn rows_alone(
+        &self,
+        alloc: Global,
+        requests: &Requests,
+        end: u8,
+    ) -> Result<WidthsAhead<'a>, AllocError>
+        ensures { IfOk result (λ a. a.problem ≡ self.now) }
+    {
+        let part = self.part_of(alloc, requests, end, &Turns::new())?;
+        Ok(part.found)
     }
 }
 
@@ -162,12 +167,12 @@ fn collect<'a>(
 }
 
 impl<'a> SharedTables<'a> {
-    /// The rows that the workers find, up to a size, and how many widths they hold.
-    fn rows_by_workers<R: Threads + Sync>(
+    /// The rows of `rows_alone`, by the workers, and how many widths they hold.
+    pub fn rows_by_workers<R: Threads + Sync>(
         &self,
         rt: &R,
         alloc: Global,
-        pairs: &Pairs,
+        requests: &Requests,
         end: u8,
         workers: Workers,
     ) -> Result<(WidthsAhead<'a>, Tally), AllocError>
@@ -182,7 +187,7 @@ impl<'a> SharedTables<'a> {
             count,
             &|_worker: usize| -> Result<Part<'_>, AllocError>
                 ensures { IfOk result (λ p. p.found.problem ≡ self.entry.now) }
-            { self.part_of(alloc, pairs, end, &turns) },
+            { self.part_of(alloc, requests, end, &turns) },
         )?;
         collect(alloc, self.problem(), end, parts)
     }
@@ -209,19 +214,23 @@ impl<'a> Model for Preparation<'a> {
 }
 
 impl<'a> Preparation<'a> {
-    /// Without rows, by the calling thread.
-    pub fn of(alloc: Global, problem: &'a Problem) -> Result<Preparation<'a>, AllocError>
+    /// Without rows, by the calling thread. The sets are those in orders with the pairs.
+    pub fn of(
+        alloc: Global,
+        problem: &'a Problem,
+        pairs: &Pairs,
+    ) -> Result<Preparation<'a>, AllocError>
         ensures { IfOk result (λ p. p ≡ none_ahead problem.now 0) }
     {
         Ok(Preparation {
-            shared: SharedTables::of(alloc, problem)?,
+            shared: SharedTables::of(alloc, problem)?.with_orbits(alloc, pairs)?,
             found: WidthsAhead::up_to(alloc, problem, 0),
             tally: Tally::new(),
         })
     }
 
-    /// With the rows of all sets up to a size that are in orders with the pairs, by the workers.
-    /// With size 0 there are none.
+    /// With the rows of the sets up to a size that are in orders with the pairs, of each orbit the
+    /// first, by the workers. With size 0 there are none.
     pub fn by_workers<R: Threads + Sync>(
         rt: &R,
         alloc: Global,
@@ -232,8 +241,17 @@ impl<'a> Preparation<'a> {
     ) -> Result<Preparation<'a>, AllocError>
         ensures { IfOk result (λ p. p.problem ≡ problem.now) }
     {
-        let shared = SharedTables::by_threads(rt, alloc, problem, workers)?;
-        let (found, tally) = shared.rows_by_workers(rt, alloc, pairs, end, workers)?;
+        prove!(problem.inputs() <= 16);
+        let tables = SharedTables::by_threads(rt, alloc, problem, workers)?;
+        let shared = tables.with_orbits(alloc, pairs)?;
+        let wanted = Wanted {
+            pairs,
+            orbits: shared.orbits(),
+            first: 1,
+            last: u32::from(end),
+        };
+        let requests = Requests::of_sets(alloc, problem.inputs(), &wanted)?;
+        let (found, tally) = shared.rows_by_workers(rt, alloc, &requests, end, workers)?;
         Ok(Preparation {
             shared,
             found,

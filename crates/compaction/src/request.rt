@@ -9,6 +9,7 @@ ghost use Rattle.compaction.specs.Rows.{AreMembersAmong};
 use order_model::{Mask, Pairs};
 use std::alloc::{AllocError, Global};
 use subset_layers::Block;
+use symmetries::Orbits;
 
 /// Of each set of so many variables with one low byte, at its high byte, the members whose widths
 /// are wanted.
@@ -21,11 +22,28 @@ pub(crate) struct WidthRequest {
     ghost request: { IsRequest inputs low needed.items },
 }
 
-/// From the first of some sizes to the last one.
+/// Sets of which rows are to be found: those of sizes from the first to the last one that are in
+/// orders with the pairs, and of each orbit the first alone. Any will do.
 #[derive(Clone, Copy)]
-pub(crate) struct Sizes {
-    pub(crate) first: u32,
-    pub(crate) last: u32,
+pub struct Wanted<'a, 'b> {
+    pub pairs: &'a Pairs,
+    pub orbits: Option<&'b Orbits<'b>>,
+    pub first: u32,
+    pub last: u32,
+}
+
+impl<'a, 'b> Wanted<'a, 'b> {
+    /// Whether a set is one of them.
+    fn has(&self, set: Mask) -> bool {
+        let size = set.count_ones();
+        if size < self.first || self.last < size {
+            return false;
+        }
+        match self.orbits {
+            Some(orbits) if !orbits.is_first(set) => false,
+            _ => self.pairs.lawful(set),
+        }
+    }
 }
 
 impl WidthRequest {
@@ -91,13 +109,24 @@ impl WidthRequest {
         }
     }
 
-    /// All members of the sets of some sizes that are in orders with the pairs.
-    pub(crate) fn of_sizes(
+    /// Whatever of some variables are members of a set is wanted, too, if the set has the low byte.
+    pub(crate) fn add_members(&mut self, set: Mask, variables: Mask) {
+        if u32::from(set) < 1u32 << self.inputs && set % 256 == Mask::from(self.low) {
+            self.add(set, variables & set);
+        }
+    }
+
+    /// Whether nothing is wanted.
+    pub(crate) fn is_empty(&self) -> bool {
+        self.needed.iter().all(|members| *members == 0)
+    }
+
+    /// All members of the sets of which rows are to be found.
+    pub(crate) fn of_sets(
         alloc: Global,
         inputs: u8,
         low: u8,
-        pairs: &Pairs,
-        sizes: Sizes,
+        wanted: &Wanted<'_, '_>,
     ) -> Result<WidthRequest, AllocError>
         requires inputs { inputs ≤ 16 }
         requires low { low < 2 ^ inputs }
@@ -109,12 +138,7 @@ impl WidthRequest {
         let highs = (limit / 256).clamp(1, 256) as Mask;
         for high in 0..highs {
             let set = high * 256 + Mask::from(low);
-            let size = set.count_ones();
-            if sizes.first <= size
-                && size <= sizes.last
-                && u32::from(set) < limit
-                && pairs.lawful(set)
-            {
+            if u32::from(set) < limit && wanted.has(set) {
                 request.add(set, set);
             }
         }

@@ -4,6 +4,8 @@
 #[cfg(test)]
 mod numberings;
 #[cfg(test)]
+mod orbits;
+#[cfg(test)]
 mod problems;
 #[cfg(test)]
 mod strips;

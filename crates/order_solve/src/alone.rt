@@ -7,8 +7,8 @@ ghost use Rattle.solutions.specs.LayerCosts.{AreAllLayers, AreCells, AreDone, Is
 use crate::cells::cells_of_block;
 use crate::context::LayerContext;
 use crate::layering::add_layer;
-use crate::look_ahead::look_ahead;
-use compaction::{Preparation, Tallies, WidthSource, WidthsAhead};
+use crate::look_ahead::{look_ahead, orbit_requests};
+use compaction::{Preparation, SharedTables, Tallies, WidthSource, WidthsAhead};
 use solutions::{Instance, first_layer, place_cells};
 use std::alloc::{AllocError, Global};
 use subset_layers::{Cell, Costs, Layer};
@@ -60,6 +60,26 @@ fn next_layer_alone(
     Ok(Costs::of(layer, cells))
 }
 
+/// What was found ahead; if that is nothing and variables may be exchanged, the rows of the first
+/// sets of orbits, which serve for all others.
+fn with_orbit_rows_alone<'a>(
+    alloc: Global,
+    instance: &Instance<'_>,
+    shared: &SharedTables<'a>,
+    ahead: WidthsAhead<'a>,
+    done: &[Costs],
+) -> Result<WidthsAhead<'a>, AllocError>
+    requires shared { shared.now ≡ instance.now.problem }
+    requires ahead { ahead.problem ≡ instance.now.problem }
+    requires done { AreDone instance.now done.now }
+    ensures { IfOk result (λ a. a.problem ≡ instance.entry.now.problem) }
+{
+    let Some(requests) = orbit_requests(alloc, instance, shared, &ahead, done)? else {
+        return Ok(ahead);
+    };
+    shared.rows_alone(alloc, &requests, ahead.end())
+}
+
 /// The layers of all sets, from what was prepared.
 fn layers_from(
     alloc: Global,
@@ -73,6 +93,7 @@ fn layers_from(
     let mut layers = first_layer(alloc, instance)?;
     for _size in 0..instance.inputs() {
         ahead = look_ahead(alloc, instance, ahead, &layers);
+        ahead = with_orbit_rows_alone(alloc, instance, &shared, ahead, &layers)?;
         let mut found = WidthsAhead::up_to(alloc, instance.problem, 0);
         let source = WidthSource::new(&shared, &ahead, instance.pairs);
         let next = next_layer_alone(alloc, instance, &source, &layers, &mut found)?;
@@ -85,6 +106,6 @@ fn layers_from(
 pub(crate) fn layers_alone(alloc: Global, instance: &Instance<'_>) -> Result<Vec<Costs>, AllocError>
     ensures { IfOk result (λ v. AreAllLayers instance.now v.items) }
 {
-    let prepared = Preparation::of(alloc, instance.problem)?;
+    let prepared = Preparation::of(alloc, instance.problem, instance.pairs)?;
     layers_from(alloc, instance, prepared)
 }

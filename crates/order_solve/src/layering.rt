@@ -5,8 +5,8 @@ ghost use Rattle.solutions.specs.LayerCosts.{AreAllLayers, AreDone, IsLayerFor};
 
 use crate::context::LayerContext;
 use crate::crews::cells_of_layer;
-use crate::look_ahead::look_ahead;
-use compaction::{Preparation, WidthSource, WidthsAhead};
+use crate::look_ahead::{look_ahead, orbit_requests};
+use compaction::{Preparation, SharedTables, WidthSource, WidthsAhead};
 use order_model::{Crew, Gate};
 use solutions::{Instance, first_layer};
 use std::alloc::{AllocError, Global};
@@ -51,6 +51,28 @@ pub(crate) fn add_layer(
     Ok(())
 }
 
+/// What was found ahead; if that is nothing and variables may be exchanged, the rows of the first
+/// sets of orbits, which serve for all others.
+fn with_orbit_rows<'a, R: Threads + Sync, G: Gate>(
+    crew: &Crew<'_, R, G>,
+    alloc: Global,
+    instance: &Instance<'_>,
+    shared: &SharedTables<'a>,
+    ahead: WidthsAhead<'a>,
+    done: &[Costs],
+) -> Result<WidthsAhead<'a>, AllocError>
+    requires shared { shared.now ≡ instance.now.problem }
+    requires ahead { ahead.problem ≡ instance.now.problem }
+    requires done { AreDone instance.now done.now }
+    ensures { IfOk result (λ a. a.problem ≡ instance.entry.now.problem) }
+{
+    let Some(requests) = orbit_requests(alloc, instance, shared, &ahead, done)? else {
+        return Ok(ahead);
+    };
+    let (rows, _) = shared.rows_by_workers(crew.rt, alloc, &requests, ahead.end(), crew.workers)?;
+    Ok(rows)
+}
+
 /// The layers of all sets.
 pub(crate) fn layers_of<R: Threads + Sync, G: Gate>(
     crew: &Crew<'_, R, G>,
@@ -65,6 +87,7 @@ pub(crate) fn layers_of<R: Threads + Sync, G: Gate>(
     let mut layers = first_layer(alloc, instance)?;
     for _size in 0..instance.inputs() {
         ahead = look_ahead(alloc, instance, ahead, &layers);
+        ahead = with_orbit_rows(crew, alloc, instance, &shared, ahead, &layers)?;
         let mut found = WidthsAhead::up_to(alloc, instance.problem, 0);
         let source = WidthSource::new(&shared, &ahead, instance.pairs);
         let next = next_layer(crew, alloc, instance, &source, &layers, &mut found)?;

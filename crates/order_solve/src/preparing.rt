@@ -3,10 +3,25 @@
 ghost use Rattle.std.specs.Prelude.{◌≡◌, IfOk};
 
 use compaction::Preparation;
-use order_model::{Limit, Pairs, Problem, Workers};
-use solutions::layers_to_prepare;
+use order_model::{BoundAbove, Limit, Pairs, Problem, Workers};
+use solutions::{layers_to_prepare, pairs_to_keep};
 use std::alloc::{AllocError, Global};
 use std::thread::Threads;
+
+/// The pairs that a search with such a lower bound is likely to keep where some are asked for.
+fn likely_pairs(
+    alloc: Global,
+    problem: &Problem,
+    asked: &Pairs,
+    bound_above: BoundAbove,
+) -> Result<Pairs, AllocError>
+    requires { asked.now.inputs ≡ problem.now.inputs }
+{
+    match bound_above {
+        BoundAbove::Widths => pairs_to_keep(alloc, problem, asked),
+        BoundAbove::Variables => Ok(asked.copied()),
+    }
+}
 
 /// What a search for the first order of the fewest nodes among those that keep the pairs begins
 /// with: found by the workers while another thread sifts, say. The bound is the size of any diagram
@@ -24,11 +39,12 @@ pub fn prepare<'a, R: Threads + Sync>(
     requires { pairs.now.inputs ≡ problem.now.inputs }
     ensures { IfOk result (λ p. p.problem ≡ problem.now) }
 {
+    let kept = likely_pairs(alloc, problem, pairs, limit.bound_above)?;
     if workers.count() == 1 {
-        let prepared = Preparation::of(alloc, problem)?;
+        let prepared = Preparation::of(alloc, problem, &kept)?;
         return Ok(prepared);
     }
-    let end = layers_to_prepare(alloc, problem, pairs, limit)?;
-    let prepared = Preparation::by_workers(rt, alloc, problem, pairs, end, workers)?;
+    let end = layers_to_prepare(problem, pairs, &kept, limit);
+    let prepared = Preparation::by_workers(rt, alloc, problem, &kept, end, workers)?;
     Ok(prepared)
 }

@@ -1,11 +1,9 @@
 //! What is likely of a search: it decides how the layers are searched, and not what is found.
 
-ghost use Rattle.std.specs.Prelude.{◌≡◌, ◌≤◌, length};
+ghost use Rattle.std.specs.Prelude.{◌≤◌, length};
 
 use crate::instance::Instance;
-use crate::symmetric::pairs_to_keep;
 use order_model::{BoundAbove, Limit, Pairs, Problem, Workers};
-use std::alloc::{AllocError, Global};
 use subset_layers::{Costs, Layer};
 
 /// One in so many entries of the truth tables is a node of a diagram that is as large as most.
@@ -25,21 +23,13 @@ fn first_layers(problem: &Problem, limit: Limit) -> u8 {
 }
 
 /// How many layers rows are found of before a bound is known, by the size of any diagram of the
-/// functions as the bound: none if the search keeps pairs of symmetric variables, since few sets
-/// are then left.
-pub fn layers_to_prepare(
-    alloc: Global,
-    problem: &Problem,
-    pairs: &Pairs,
-    limit: Limit,
-) -> Result<u8, AllocError>
-    requires { pairs.now.inputs ≡ problem.now.inputs }
-{
-    let asks_no_pairs = limit.bound_above == BoundAbove::Widths && pairs.count() == 0;
-    if asks_no_pairs && pairs_to_keep(alloc, problem, pairs)?.count() > 0 {
-        return Ok(0);
+/// functions as the bound: none if the search keeps pairs of symmetric variables in place of none,
+/// since few sets are then left.
+pub fn layers_to_prepare(problem: &Problem, asked: &Pairs, kept: &Pairs, limit: Limit) -> u8 {
+    if asked.count() == 0 && kept.count() > 0 {
+        return 0;
     }
-    Ok(first_layers(problem, limit))
+    first_layers(problem, limit)
 }
 
 /// One in so many sets is asked for its cost.

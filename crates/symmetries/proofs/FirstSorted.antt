@@ -3,7 +3,7 @@
 --     fewest_harmless, first_harmless      the fewest nodes, and the first order that has them, under Q are those under P
 --     harmless_same      P itself is harmless on top of P
 --     harmless_symmetric      pairs of symmetric variables may be kept where no pair is asked for
-use Rattle.std.proofs.Common.{◌≡◌, ◌≢◌, ℕ, false, List, [], length, refl, sym, ap, ◌∙◌, subst, arith, true≢false, nat_cmp, Ordering, Less, Equal, Greater}
+use Rattle.std.proofs.Common.{◌≡◌, ◌≢◌, ℕ, List, [], length, refl, sym, ap, ◌∙◌, subst, arith, true≢false, nat_cmp, Greater}
 use Rattle.std.specs.Cmp.Lexicographic.{slice_cmp}
 use Rattle.std.specs.Ordering.{is_gt}
 use Rattle.std.proofs.lemmas.Cmp.{nat_list_cmp_total, tied_itself}
@@ -16,7 +16,7 @@ use Rattle.symmetries.specs.SymmetricPairs.{AreSymmetricPairs, IsHarmless}
 use Rattle.definitions.proofs.Nodes.Construction.{exact_diagram}
 use Rattle.definitions.proofs.Nodes.LevelBound.{size_bound}
 use Rattle.definitions.proofs.Widths.Fewest.{fewest_unique}
-use Rattle.symmetries.proofs.SortedOrders.{not_greater, sorted_order}
+use Rattle.symmetries.proofs.SortedOrders.{sorted_order}
 
 -- ---- lists that do not come later
 

@@ -1,2 +1,4 @@
 pub mod Exchanges
+pub mod Images
+pub mod Orbits
 pub mod SymmetricPairs

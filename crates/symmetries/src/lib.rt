@@ -3,3 +3,16 @@
 #![tactic(auto)]
 
 pub mod laws;
+
+// Exchanges of variables: a guess by marks, and the test of it on all points.
+mod exchanges;
+mod images;
+mod marks;
+mod matching;
+mod points;
+
+// Sets that exchanges take to one another.
+mod orbits;
+
+pub use exchanges::{Exchange, exchanges_of};
+pub use orbits::{Image, Orbits};

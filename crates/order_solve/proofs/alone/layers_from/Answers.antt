@@ -13,6 +13,12 @@ look_ahead-ahead-requires c =
 pub next_layer_alone-requires-clause-done : goal.next_layer_alone-requires-clause-done
 next_layer_alone-requires-clause-done c =
     let i = c.loop-size.invariant in
+    layers_done c.args.instance.now c.loop-size.layers.items _ c.loop-size._size _ c.deref-in-loop-size-2.ensures.value i.many i.layers_are
+    c.loop-size-test.true c.inputs-size-end.ensures.value
+
+pub with_orbit_rows_alone-requires-clause-done : goal.with_orbit_rows_alone-requires-clause-done
+with_orbit_rows_alone-requires-clause-done c =
+    let i = c.loop-size.invariant in
     layers_done c.args.instance.now c.loop-size.layers.items _ c.loop-size._size _ c.deref-in-loop-size.ensures.value i.many i.layers_are
     c.loop-size-test.true c.inputs-size-end.ensures.value
 
@@ -26,7 +32,7 @@ loop-size-preserved c =
       many = ap length is ∙ length-append items (costs ∷ []) ∙ ap (λ n. n + 1) c.loop-size.invariant.many;
       layers_are =
           λ k d at. layers_push t items costs c.loop-size.invariant.layers_are
-          (subst (λ (n : ℕ). IsLayerFor t n costs) (ap length c.deref-in-loop-size.ensures.value) c.in_ok-next.ensures.layer) k d
+          (subst (λ (n : ℕ). IsLayerFor t n costs) (ap length c.deref-in-loop-size-2.ensures.value) c.in_ok-next.ensures.layer) k d
           (ap (λ (xs : List CostsOf). slice_get xs k) (sym is) ∙ at);
-      ahead = c.in_ok-add_layer.ensures.ahead ∙ c.look_ahead-ahead.ensures ∙ c.loop-size.invariant.ahead;
+      ahead = c.in_ok-add_layer.ensures.ahead ∙ c.in_ok-ahead.ensures;
     }

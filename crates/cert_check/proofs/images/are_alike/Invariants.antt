@@ -1,5 +1,0 @@
-use Rattle.std.proofs.Common.{◌≡◌, ◌<◌, ℕ, slice_index}
-use Rattle.cert_check.proofs.images.are_alike.Given as goal
-
-abbrev pub invariant-loop-point : goal.invariant-loop-point
-invariant-loop-point l = (p : ℕ) → p < l.point → slice_index l.values (slice_index l.images p) ≡ slice_index l.values p

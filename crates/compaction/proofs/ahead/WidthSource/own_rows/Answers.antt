@@ -1,0 +1,12 @@
+use Rattle.std.proofs.Common.{arith}
+use Rattle.std.proofs.lemmas.Grind.{common_steps}
+use Rattle.compaction.proofs.ahead.WidthSource.own_rows.Goals as goal
+
+pub rows_of_block-requires-clause-asked : goal.rows_of_block-requires-clause-asked
+rows_of_block-requires-clause-asked c = grind arith
+
+pub rows_of_block-requires-clause-rows : goal.rows_of_block-requires-clause-rows
+rows_of_block-requires-clause-rows c = grind (arith, common_steps)
+
+pub rows_of_block-requires-clause-needed : goal.rows_of_block-requires-clause-needed
+rows_of_block-requires-clause-needed c = grind (arith, common_steps)

@@ -1,0 +1,6 @@
+use Rattle.std.proofs.Common.{◌≡◌, ◌<◌, ℕ, slice_index}
+use Rattle.std.specs.Int.{bit_at}
+use Rattle.compaction.proofs.image_rows.asks_for.Given as goal
+
+abbrev pub invariant-loop-x : goal.invariant-loop-x
+invariant-loop-x l = (y : ℕ) → y < l.x → bit_at l.needed y ≡ 1 → bit_at l.asked (slice_index l.variables y) ≡ 1

@@ -1,0 +1,72 @@
+//! The widths of a set from those of an image of it.
+
+ghost use Rattle.std.specs.Prelude.{◌≡◌, ◌<◌, ◌≤◌, ◌%◌, ◌==◌, ℕ, if◌then◌else◌, IfSome, IsTrue, slice_index};
+ghost use Rattle.std.specs.Int.{bit_at};
+ghost use Rattle.definitions.specs.Problems.{TruthTables};
+ghost use Rattle.symmetries.specs.Orbits.{KeepsWidths};
+ghost use Rattle.compaction.specs.Requests.{AreMembersOf};
+ghost use Rattle.compaction.specs.Rows.{HoldsRows, IsWidthRow};
+
+use crate::walking::ByteRows;
+use order_model::{Mask, VarIx, WidthRow, contains};
+use symmetries::Image;
+
+/// The width at a variable; 0 if there is none.
+fn width_at(row: &WidthRow, x: VarIx) -> u32
+    ensures { result ≡ slice_index row.now x }
+{
+    match row.get(usize::from(x)) {
+        Some(width) => *width,
+        None => 0,
+    }
+}
+
+/// Whether the variables to which some members go are all asked for.
+fn asks_for(asked: Mask, variables: &[VarIx; 16], needed: Mask) -> bool
+    ensures { IsTrue result → (x : ℕ) → x < 16 → bit_at needed x ≡ 1 →
+        bit_at asked (slice_index variables.now x) ≡ 1 }
+{
+    for x in 0..16u8 {
+        if contains(needed, x) {
+            let variable = variables[x as usize];
+            if variable >= 16 || !contains(asked, variable) {
+                return false;
+            }
+        }
+    }
+    true
+}
+
+/// The widths of some members from those of the variables to which they go, and 0 of the others.
+fn members_moved(row: &WidthRow, variables: &[VarIx; 16], needed: Mask) -> WidthRow
+    ensures { (x : ℕ) → x < 16 → slice_index result x ≡
+        (if bit_at needed x == 1 then slice_index row.now (slice_index variables.now x) else 0) }
+{
+    let mut found = [0; 16];
+    for x in 0..16u8 {
+        if contains(needed, x) {
+            found[x as usize] = width_at(row, variables[x as usize]);
+        }
+    }
+    found
+}
+
+impl ByteRows {
+    /// The widths of some members of a set from the row of its image, which has the low byte, if
+    /// they are all there.
+    pub(crate) fn row_by_image(&self, image: &Image, needed: Mask) -> Option<WidthRow>
+        ensures { (p : TruthTables) (set : ℕ) → p.inputs ≤ 16 → HoldsRows p self.now →
+            KeepsWidths p set image.now.set image.now.variables →
+            image.now.set % 256 ≡ self.now.low → AreMembersOf p.inputs set needed →
+            IfSome result (IsWidthRow p set needed) }
+    {
+        let high = usize::from(image.set >> 8);
+        let asked = *self.request.needed.get(high)?;
+        let row = self.rows.get(high)?;
+        if asks_for(asked, &image.variables, needed) {
+            Some(members_moved(row, &image.variables, needed))
+        } else {
+            None
+        }
+    }
+}

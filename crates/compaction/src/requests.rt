@@ -1,0 +1,56 @@
+//! What is wanted of the sets of a whole layer, and of later ones.
+
+ghost use Rattle.std.specs.Prelude.{◌≡◌, ◌<◌, ◌≤◌, ◌^◌, ◌%◌, IfSome};
+
+use crate::request::{Wanted, WidthRequest};
+use order_model::{Mask, contains};
+use std::alloc::{AllocError, Global};
+use symmetries::Image;
+
+/// What is wanted of the sets of n variables, for each low byte.
+#[derive(Drop)]
+pub struct Requests {
+    bytes: Vec<WidthRequest>,
+}
+
+/// Where members of a set go.
+fn members_of_image(image: &Image, members: Mask) -> Mask {
+    let mut found: Mask = 0;
+    for x in 0..16u8 {
+        let variable = image.variables[x as usize];
+        if contains(members, x) && variable < 16 {
+            found |= 1 << variable;
+        }
+    }
+    found
+}
+
+impl Requests {
+    /// All members of the sets of which rows are to be found.
+    pub fn of_sets(alloc: Global, inputs: u8, wanted: &Wanted<'_, '_>) -> Result<Requests, AllocError>
+        requires { inputs ≤ 16 }
+    {
+        let mut bytes = Vec::with_capacity(alloc, 256)?;
+        for low in 0..256u16 {
+            if u32::from(low) < 1u32 << inputs {
+                bytes.push(WidthRequest::of_sets(alloc, inputs, low as u8, wanted)?)?;
+            }
+        }
+        Ok(Requests { bytes })
+    }
+
+    /// With the widths of an image that are those of some members of a set.
+    pub fn add_image(&mut self, image: &Image, members: Mask) {
+        if let Some(request) = self.bytes.get_mut(usize::from(image.set % 256)) {
+            request.add_members(image.set, members_of_image(image, members));
+        }
+    }
+
+    /// What is wanted of the sets with a low byte, if that is anything.
+    pub(crate) fn of_byte(&self, low: u8) -> Option<&WidthRequest> {
+        match self.bytes.get(usize::from(low)) {
+            Some(request) if !request.is_empty() => Some(request),
+            _ => None,
+        }
+    }
+}

@@ -1,0 +1,231 @@
+//! Exchanges of variables under which no function changes.
+
+ghost use Rattle.std.specs.Prelude.{◌≡◌, ◌<◌, ◌≤◌, ◌^◌, ℕ, All, IfOk, IfSome, OnOk, length, slice_index};
+ghost use Rattle.symmetries.specs.Exchanges.{IsExchange};
+ghost use Rattle.symmetries.specs.Images.{TellValues};
+ghost use Rattle.symmetries.specs.Orbits.{IsExchangeOf};
+
+use crate::images::{are_alike, images_of, is_exchange};
+use crate::marks::{Marks, quick_marks};
+use crate::matching::partners_of;
+use crate::points::values_by_point;
+use order_model::{Mask, Pairs, Problem, VarIx, contains};
+use std::alloc::{AllocError, Global};
+use std::marker::Model;
+
+/// Variables that are exchanged in pairs, and the image of each set.
+#[derive(Drop)]
+pub struct Exchange {
+    partners: Vec<VarIx>,
+    images: Vec<Mask>,
+}
+
+impl Model for Exchange {
+    ghost use Rattle.symmetries.specs.Orbits.{ExchangeOf};
+
+    ghost Value = { ExchangeOf };
+
+    ghost view = { λ e. record { partners = e.partners.items; images = e.images.items } };
+}
+
+impl Exchange {
+    ghost use Rattle.definitions.specs.Problems.{TruthTables};
+
+    /// The exchange, if it changes no function, by their values at each point.
+    fn if_alike(
+        alloc: Global,
+        inputs: u8,
+        points: &[u16],
+        partners: &[VarIx],
+    ) -> Result<Option<Exchange>, AllocError>
+        requires few { inputs ≤ 16 }
+        requires long { length points.now ≡ 2 ^ inputs }
+        ensures { (p : TruthTables) → p.inputs ≡ inputs → TellValues p points.now →
+            IfOk result (λ o. IfSome o (IsExchangeOf p)) }
+    {
+        if !is_exchange(inputs, partners) {
+            return Ok(None);
+        }
+        let images = images_of(alloc, inputs, partners)?;
+        if !are_alike(points, &images) {
+            return Ok(None);
+        }
+        let partners = partners.to_vec(alloc)?;
+        Ok(Some(Exchange { partners, images }))
+    }
+
+    /// Each variable's partner.
+    pub fn partners(&self) -> &[VarIx]
+        ensures { result.now ≡ self.now.partners }
+    {
+        &self.partners
+    }
+
+    /// The image of each set.
+    pub fn images(&self) -> &[Mask]
+        ensures { result.now ≡ self.now.images }
+    {
+        &self.images
+    }
+}
+
+/// The smallest variable to which exchanges, or pairs that orders keep, relate each variable.
+#[derive(Clone, Copy)]
+struct Groups {
+    smallest: [VarIx; 16],
+}
+
+impl Groups {
+    /// The groups of variables that pairs relate.
+    fn of(pairs: &Pairs) -> Groups {
+        let mut groups = Groups {
+            smallest: [0, 1, 2, 3, 4, 5, 6, 7, 8, 9, 10, 11, 12, 13, 14, 15],
+        };
+        for a in 0..pairs.inputs() {
+            let below = pairs.below(a);
+            for b in 0..16 {
+                if contains(below, b) {
+                    groups.join(a, b);
+                }
+            }
+        }
+        groups
+    }
+
+    /// Makes the groups of two variables one.
+    fn join(&mut self, x: VarIx, y: VarIx)
+        requires first { x < 16 }
+        requires second { y < 16 }
+    {
+        let one = self.smallest[x as usize];
+        let other = self.smallest[y as usize];
+        for smallest in &mut self.smallest {
+            if *smallest == other {
+                *smallest = one;
+            }
+        }
+    }
+
+    /// Makes the groups of each variable and its partner one.
+    fn join_partners(&mut self, partners: &[VarIx; 16]) {
+        for x in 0..16 {
+            let partner = partners[x as usize];
+            if partner < 16 {
+                self.join(x, partner);
+            }
+        }
+    }
+
+    /// Whether two variables are in two groups.
+    fn are_apart(&self, x: VarIx, y: VarIx) -> bool
+        requires first { x < 16 }
+        requires second { y < 16 }
+    {
+        self.smallest[x as usize] != self.smallest[y as usize]
+    }
+
+    /// Whether some two variables of equal marks are in two groups.
+    fn have_equal_marks(&self, inputs: u8, marks: &[u32; 16]) -> bool
+        requires { inputs ≤ 16 }
+    {
+        for x in 0..inputs {
+            for y in x + 1..inputs {
+                if marks[x as usize] == marks[y as usize] && self.are_apart(x, y) {
+                    return true;
+                }
+            }
+        }
+        false
+    }
+}
+
+/// How many exchanges that change a function are tried before the search for exchanges ends.
+const MOST_FAILURES: u8 = 8;
+
+/// What the search for exchanges goes by.
+#[derive(Drop)]
+struct Search<'a> {
+    problem: &'a Problem,
+    points: Vec<u16>,
+    marks: Marks,
+    groups: Groups,
+    failures: u8,
+    ghost long: { length points.items ≡ 2 ^ problem.now.inputs },
+    ghost labels: { TellValues problem.now points.items },
+}
+
+impl<'a> Search<'a> {
+    /// No variables are tried.
+    fn new(alloc: Global, problem: &'a Problem, groups: Groups) -> Result<Search<'a>, AllocError>
+        ensures { IfOk result (λ s. s.problem.now ≡ problem.now) }
+    {
+        let points = values_by_point(alloc, problem)?;
+        let marks = Marks::of(alloc, problem.inputs(), &points)?;
+        Ok(Search {
+            problem,
+            points,
+            marks,
+            groups,
+            failures: 0,
+        })
+    }
+
+    /// An exchange of two variables that none so far relates, if one is found.
+    fn exchange_of(
+        &mut self,
+        alloc: Global,
+        x: VarIx,
+        y: VarIx,
+    ) -> Result<Option<Exchange>, AllocError>
+        requires first { x < 16 }
+        requires second { y < 16 }
+        ensures problem { self.new.problem.now ≡ self.old.problem.now }
+        ensures exchange { IfOk result (λ o. IfSome o (IsExchangeOf self.old.problem.now)) }
+    {
+        let inputs = self.problem.inputs();
+        if !self.groups.are_apart(x, y) || self.failures >= MOST_FAILURES {
+            return Ok(None);
+        }
+        let Some(partners) = partners_of(&self.marks, inputs, x, y) else {
+            return Ok(None);
+        };
+        let own = &partners[..usize::from(inputs)];
+        let exchange = Exchange::if_alike(alloc, inputs, &self.points, own)?;
+        if exchange.is_some() {
+            self.groups.join_partners(&partners);
+        } else {
+            self.failures += 1;
+        }
+        Ok(exchange)
+    }
+}
+
+/// Exchanges of variables under which no function changes, for any two variables that may be
+/// exchanged one that leads from one to the other, alone or by several. Variables that the pairs
+/// relate are taken to be exchanged already. Some may be missed.
+///
+/// With n inputs it takes some steps for each point and output, if variables are alike, and else
+/// those that count the ones of the functions.
+pub fn exchanges_of(
+    alloc: Global,
+    problem: &Problem,
+    pairs: &Pairs,
+) -> Result<Vec<Exchange>, AllocError>
+    ensures { IfOk result (λ v. All (IsExchangeOf problem.now) v.items) }
+{
+    let inputs = problem.inputs();
+    let groups = Groups::of(pairs);
+    let mut found = Vec::new(alloc);
+    if !groups.have_equal_marks(inputs, &quick_marks(problem)) {
+        return Ok(found);
+    }
+    let mut search = Search::new(alloc, problem, groups)?;
+    for x in 0..inputs {
+        for y in x + 1..inputs {
+            if let Some(exchange) = search.exchange_of(alloc, x, y)? {
+                found.push(exchange)?;
+            }
+        }
+    }
+    Ok(found)
+}

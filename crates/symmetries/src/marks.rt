@@ -1,0 +1,138 @@
+//! Marks of variables and of pairs of variables. An exchange of variables under which no function
+//! changes keeps them, so they show which exchanges are worth a test.
+
+ghost use Rattle.std.specs.Prelude.{◌≡◌, ◌+◌, ◌<◌, ◌≤◌, ◌^◌, IfOk, length};
+
+use order_model::packed::lower_half;
+use order_model::{Problem, VarIx};
+use std::alloc::{AllocError, Global};
+
+/// An odd number whose multiples spread over the words of 32 bits.
+const SPREAD: u32 = 0x9E37_79B1;
+
+/// At how many points of a truth table both the function and a variable are 1.
+fn ones_with(words: &[u64], x: VarIx) -> u32
+    requires { x < 16 }
+{
+    let mut count = 0u32;
+    if x < 6 {
+        let upper = !lower_half(x);
+        for word in words {
+            count = count.wrapping_add((*word & upper).count_ones());
+        }
+    } else {
+        for (place, word) in words.iter().enumerate() {
+            if (place >> (x - 6)) & 1 == 1 {
+                count = count.wrapping_add(word.count_ones());
+            }
+        }
+    }
+    count
+}
+
+/// Of each variable a mark that takes little time: how often the functions are 1 with it.
+pub(crate) fn quick_marks(problem: &Problem) -> [u32; 16] {
+    let mut marks = [0u32; 16];
+    for output in 0..problem.outputs() {
+        let words = problem.words(output);
+        for x in 0..problem.inputs() {
+            let before = marks[x as usize].wrapping_mul(SPREAD);
+            marks[x as usize] = before.wrapping_add(ones_with(words, x));
+        }
+    }
+    marks
+}
+
+/// A number for the values at a point.
+fn hash_of(values: u16) -> u32 {
+    let product = (u32::from(values) + 1).wrapping_mul(SPREAD);
+    product ^ (product >> 15)
+}
+
+/// A number for the values at each point.
+fn hashes_of(alloc: Global, points: &[u16]) -> Result<Vec<u32>, AllocError>
+    ensures { IfOk result (λ v. length v.items ≡ length points.entry.now) }
+{
+    let mut hashes = vec![in alloc; 0u32; points.len()]?;
+    for (hash, values) in hashes.iter_mut().zip(points) {
+        *hash = hash_of(*values);
+    }
+    Ok(hashes)
+}
+
+/// Adds the upper half of the sums to the lower one. Returns the sum of the upper one.
+fn fold_upper(sums: &mut [u32], half: usize) -> u32
+    requires { half + half ≤ length sums.old }
+    ensures { length sums.new ≡ length sums.old }
+{
+    let mut total = 0u32;
+    for i in 0..half {
+        let upper = sums[i + half];
+        total = total.wrapping_add(upper);
+        sums[i] = sums[i].wrapping_add(upper);
+    }
+    total
+}
+
+/// Copies the upper half of some sums.
+fn copy_upper(sums: &[u32], half: usize, upper: &mut [u32])
+    requires sums { half + half ≤ length sums.now }
+    requires room { half ≤ length upper.old }
+    ensures { length upper.new ≡ length upper.old }
+{
+    for i in 0..half {
+        upper[i] = sums[i + half];
+    }
+}
+
+/// The marks of a variable with those below it, from sums over the points at which it is 1.
+fn marks_below(sums: &mut [u32], x: VarIx) -> [u32; 16]
+    requires variable { x < 16 }
+    requires sums { 2 ^ x ≤ length sums.old }
+    ensures { length sums.new ≡ length sums.old }
+{
+    let mut marks = [0; 16];
+    for y in (0..x).rev() {
+        marks[y as usize] = fold_upper(sums, 1usize << y);
+    }
+    marks
+}
+
+/// For each two variables a sum over the points at which both are 1, and for each variable one over
+/// those at which it is 1.
+#[derive(Drop)]
+pub(crate) struct Marks {
+    own: [u32; 16],
+    below: [[u32; 16]; 16],
+}
+
+impl Marks {
+    /// The marks of functions whose values at each point are one number.
+    pub(crate) fn of(alloc: Global, inputs: u8, points: &[u16]) -> Result<Marks, AllocError>
+        requires few { inputs ≤ 16 }
+        requires points { length points.now ≡ 2 ^ inputs }
+    {
+        let mut hashes = hashes_of(alloc, points)?;
+        let mut upper = vec![in alloc; 0u32; points.len()]?;
+        let mut own = [0; 16];
+        let mut below = [[0; 16]; 16];
+        for x in (0..inputs).rev() {
+            let half = 1usize << x;
+            copy_upper(&hashes, half, &mut upper);
+            own[x as usize] = fold_upper(&mut hashes, half);
+            below[x as usize] = marks_below(&mut upper, x);
+        }
+        Ok(Marks { own, below })
+    }
+
+    /// The mark of two variables, or of one with itself.
+    pub(crate) fn of_pair(&self, x: VarIx, y: VarIx) -> u32
+        requires first { x < 16 }
+        requires second { y < 16 }
+    {
+        if x == y {
+            return self.own[x as usize];
+        }
+        self.below[x.max(y) as usize][x.min(y) as usize]
+    }
+}

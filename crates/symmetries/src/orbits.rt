@@ -1,0 +1,272 @@
+//! Sets that exchanges take to one another, by which one row of widths serves all of them.
+
+ghost use Rattle.std.specs.Prelude.{◌≡◌, ◌<◌, ◌≤◌, ◌^◌, ℕ, All, IfOk, IfSome, OnOk, length, slice_index};
+ghost use Rattle.definitions.specs.Problems.{TruthTables};
+ghost use Rattle.symmetries.specs.Orbits.{IsExchangeOf, KeepsWidths};
+
+use crate::exchanges::{Exchange, exchanges_of};
+use order_model::{Mask, Pairs, Problem, VarIx};
+use std::alloc::{AllocError, Global};
+use std::marker::Model;
+
+/// The most exchanges that lead from a set to another.
+const MOST_STEPS: u8 = 32;
+
+/// The most exchanges that are used: each that is sought makes two groups of variables one.
+const MOST_EXCHANGES: usize = 16;
+
+/// Where exchanges take a set, and where they take each variable.
+#[derive(Clone, Copy)]
+pub struct Image {
+    pub set: Mask,
+    pub variables: [VarIx; 16],
+}
+
+/// Each variable, at its number.
+fn own_variables() -> [VarIx; 16]
+    ensures { (x : ℕ) → x < 16 → slice_index result x ≡ x }
+{
+    let mut variables = [0; 16];
+    for x in 0..16u8 {
+        variables[x as usize] = x;
+    }
+    variables
+}
+
+/// The partner of a variable; 0 if it has none.
+fn partner_of(partners: &[VarIx], x: VarIx) -> VarIx
+    ensures { x < length partners.now → result ≡ slice_index partners.now x }
+{
+    match partners.get(usize::from(x)) {
+        Some(partner) => *partner,
+        None => 0,
+    }
+}
+
+/// The partners of variables.
+fn moved(variables: &[VarIx; 16], partners: &[VarIx]) -> [VarIx; 16]
+    ensures { (x : ℕ) → x < 16 → slice_index variables.now x < length partners.now →
+        slice_index result x ≡ slice_index partners.now (slice_index variables.now x) }
+{
+    let mut moved = [0; 16];
+    for x in 0..16 {
+        moved[x] = partner_of(partners, variables[x]);
+    }
+    moved
+}
+
+impl Image {
+    /// The set itself.
+    fn of(set: Mask) -> Image
+        ensures { (p : TruthTables) → p.inputs ≤ 16 → set < 2 ^ p.inputs →
+            KeepsWidths p set result.set result.variables }
+    {
+        Image {
+            set,
+            variables: own_variables(),
+        }
+    }
+
+    /// The image after one exchange more.
+    fn after(self, exchange: &Exchange) -> Image
+        ensures { (p : TruthTables) (S : ℕ) → p.inputs ≤ 16 → IsExchangeOf p exchange.now →
+            KeepsWidths p S self.set self.variables →
+            KeepsWidths p S result.set result.variables }
+    {
+        let Some(set) = exchange.images().get(usize::from(self.set)) else {
+            return self;
+        };
+        Image {
+            set: *set,
+            variables: moved(&self.variables, exchange.partners()),
+        }
+    }
+}
+
+/// For each set by which exchange it was reached from a set nearer to the first one of its orbit.
+/// Any answer is right: it leads to a set that some exchanges take to this one, or to none.
+#[derive(Drop)]
+struct Steps {
+    of: Vec<Option<u8>>,
+    seen: Vec<bool>,
+}
+
+impl Steps {
+    /// No set of n variables is reached.
+    fn none(alloc: Global, inputs: u8) -> Result<Steps, AllocError>
+        requires { inputs ≤ 16 }
+    {
+        let sets = 1usize << inputs;
+        Ok(Steps {
+            of: vec![in alloc; None; sets]?,
+            seen: vec![in alloc; false; sets]?,
+        })
+    }
+
+    /// Notes that a set is seen. Returns whether it was not before.
+    fn see(&mut self, set: Mask) -> bool {
+        match self.seen.get_mut(usize::from(set)) {
+            Some(seen) if !*seen => {
+                *seen = true;
+                true
+            }
+            _ => false,
+        }
+    }
+
+    /// Reaches the sets to which an exchange takes some set, if they are in orders with the pairs.
+    fn step_from(
+        &mut self,
+        set: Mask,
+        exchanges: &[Exchange],
+        pairs: &Pairs,
+        reached: &mut Vec<Mask>,
+    ) -> Result<(), AllocError> {
+        for number in 0..exchanges.len().min(MOST_EXCHANGES) as u8 {
+            let images = exchanges[usize::from(number)].images();
+            if let Some(image) = images.get(usize::from(set))
+                && self.see(*image)
+                && pairs.lawful(*image)
+            {
+                if let Some(step) = self.of.get_mut(usize::from(*image)) {
+                    *step = Some(number);
+                }
+                reached.push(*image)?;
+            }
+        }
+        Ok(())
+    }
+
+    /// Reaches the orbit of a set, from set to set.
+    fn reach_from(
+        &mut self,
+        first: Mask,
+        exchanges: &[Exchange],
+        pairs: &Pairs,
+        reached: &mut Vec<Mask>,
+    ) -> Result<(), AllocError> {
+        reached.clear();
+        reached.push(first)?;
+        for place in 0..self.of.len() {
+            let Some(set) = reached.get(place) else {
+                break;
+            };
+            self.step_from(*set, exchanges, pairs, reached)?;
+        }
+        Ok(())
+    }
+
+    /// Reaches the orbits of the sets with a high byte that are not reached yet.
+    fn reach_all(
+        &mut self,
+        high: u8,
+        exchanges: &[Exchange],
+        pairs: &Pairs,
+        reached: &mut Vec<Mask>,
+    ) -> Result<(), AllocError> {
+        for low in 0..256 {
+            let set = Mask::from(high) * 256 + low;
+            if self.see(set) && pairs.lawful(set) {
+                self.reach_from(set, exchanges, pairs, reached)?;
+            }
+        }
+        Ok(())
+    }
+
+    /// The steps to all sets that are in orders with the pairs, each from the first of its orbit:
+    /// that with the fewest high variables, of these the one with the smallest mask.
+    fn of(
+        alloc: Global,
+        inputs: u8,
+        exchanges: &[Exchange],
+        pairs: &Pairs,
+    ) -> Result<Vec<Option<u8>>, AllocError>
+        requires { inputs ≤ 16 }
+    {
+        let mut steps = Steps::none(alloc, inputs)?;
+        let mut reached = Vec::new(alloc);
+        for size in 0..9 {
+            for high in 0..=255u8 {
+                if high.count_ones() == size {
+                    steps.reach_all(high, exchanges, pairs, &mut reached)?;
+                }
+            }
+        }
+        Ok(steps.of)
+    }
+}
+
+/// Exchanges under which no function of a problem changes, and for each set by which of them it
+/// comes nearer to the first set of its orbit.
+#[derive(Drop)]
+pub struct Orbits<'a> {
+    problem: &'a Problem,
+    exchanges: Vec<Exchange>,
+    steps: Vec<Option<u8>>,
+}
+
+impl<'a> Model for Orbits<'a> {
+    ghost use Rattle.std.specs.Prelude.{All};
+    ghost use Rattle.definitions.specs.Problems.{TruthTables};
+    ghost use Rattle.symmetries.specs.Orbits.{IsExchangeOf};
+
+    ghost Value = { TruthTables };
+
+    ghost view = { λ o. o.problem.now };
+
+    ghost invariant = { λ o. All (IsExchangeOf o.problem.now) o.exchanges.items };
+}
+
+impl<'a> Orbits<'a> {
+    /// The orbits of the sets that are in orders with some pairs; nothing if no variables are found
+    /// that may be exchanged.
+    pub fn of(
+        alloc: Global,
+        problem: &'a Problem,
+        pairs: &Pairs,
+    ) -> Result<Option<Orbits<'a>>, AllocError>
+        ensures { IfOk result (λ o. IfSome o (λ orbits. orbits ≡ problem.now)) }
+    {
+        let exchanges = exchanges_of(alloc, problem, pairs)?;
+        if exchanges.is_empty() {
+            return Ok(None);
+        }
+        let steps = Steps::of(alloc, problem.inputs(), &exchanges, pairs)?;
+        Ok(Some(Orbits {
+            problem,
+            exchanges,
+            steps,
+        }))
+    }
+
+    /// The exchange by which a set comes nearer to the first set of its orbit.
+    fn step(&self, set: Mask) -> Option<&Exchange>
+        ensures { IfSome result (λ e. IsExchangeOf self.now e.now) }
+    {
+        match self.steps.get(usize::from(set)) {
+            Some(Some(number)) => self.exchanges.get(usize::from(*number)),
+            _ => None,
+        }
+    }
+
+    /// Whether a set is the first of its orbit, or in none.
+    pub fn is_first(&self, set: Mask) -> bool {
+        self.step(set).is_none()
+    }
+
+    /// Where exchanges take a set: to the first set of its orbit, if some steps lead there.
+    pub fn first_of(&self, set: Mask) -> Image
+        requires { set < 2 ^ self.now.inputs }
+        ensures { KeepsWidths self.now set result.set result.variables }
+    {
+        prove!(self.problem.inputs() <= 16);
+        let mut image = Image::of(set);
+        for _step in 0..MOST_STEPS {
+            let Some(exchange) = self.step(image.set) else {
+                break;
+            };
+            image = image.after(exchange);
+        }
+        image
+    }
+}
