@@ -1,5 +1,5 @@
 -- The matches of either command line are those of a simple command, and their errors have that command's kinds.
-use Rattle.std.proofs.Common.{◌≡◌, ◌≢◌, ◌⊎◌, inl, inr, List, [], ◌∷◌, true, codes, refl, sym, subst, ap, ◌∙◌}
+use Rattle.std.proofs.Common.{◌≡◌, ◌≢◌, ◌⊎◌, inl, inr, List, [], ◌∷◌, true, codes, refl, sym, subst, ap, ◌∙◌, Result, Ok, Err, IfErr, IsErrAnd}
 use Rattle.clap.specs.Words.{App, HasKind, HasMatchesOf, IsAmong, Kinds, Text, fault_of, first_of, first_value, found_of, is_simple, is_simple_and_free, kind_of, matches_of, one_of, one_text}
 use Rattle.clap.specs.declared.error.Error.{Error}
 use Rattle.clap.specs.declared.error.kind.ErrorKind.{ErrorKind}
@@ -111,10 +111,12 @@ module _ (app : App) (Lacks : List Text → Type 0) (words : List Text) where
   explained e kinds.Format h = inl (some_fault kinds.Format (faults_of app words) (λ e. cc) h)
 
   -- an error of clap says why words give no plan
-  pub error_explained : (built : App) (e : Error) (u : Usage) → built ≡ app → is_simple_and_free app ≡ true →
-      (is_simple_and_free built ≡ true → HasKind (fault_of built words) e) → u ≡ usage_kind e → Explains app Lacks words u
+  pub error_explained : {L : Type 0} (built : App) (e : Error) (r : Result L Usage) → built ≡ app → is_simple_and_free app ≡ true →
+      (is_simple_and_free built ≡ true → HasKind (fault_of built words) e) → IsErrAnd r (λ u. u ≡ usage_kind e) →
+      IfErr r (Explains app Lacks words)
   unfolding faults_of
-  error_explained built e u is free has usage =
+  error_explained built e (Ok line) is free has usage = elim usage [ ]
+  error_explained built e (Err u) is free has usage =
       subst (Explains app Lacks words) (sym usage)
       (explained e (kind_of e) (subst (λ a. HasKind (fault_of a words) e) is (has (ap is_simple_and_free is ∙ free))))
 

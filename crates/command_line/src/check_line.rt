@@ -6,7 +6,7 @@ ghost use Rattle.command_line.specs.Lines.{IsCheckLineBy, IsCheckLineOf, LacksFi
 ghost use Rattle.command_line.specs.Usages.{Explains};
 
 use crate::arguments::{missing_argument, required_path};
-use crate::usage::{Usage, usage_of};
+use crate::usage::Usage;
 use clap::{ArgMatches, Command};
 use std::alloc::{AllocError, Global};
 
@@ -55,15 +55,9 @@ impl<'a> CheckLine<'a> {
         ensures line { IfOk result (IsCheckLineOf (texts words.now)) }
         ensures refused { IfErr result (Explains ordercheck LacksPaths (texts words.now)) }
     {
-        let mut command = match command(alloc) {
-            Ok(command) => command,
-            Err(_) => return Err(Usage::OutOfMemory),
-        };
-        let line = match command.try_get_matches_from_mut(words) {
-            Ok(matches) => line_of(&matches),
-            Err(error) => return Err(usage_of(error)),
-        };
-        match line {
+        let mut command = command(alloc)?;
+        let matches = command.try_get_matches_from_mut(words)?;
+        match line_of(&matches) {
             Some(line) => Ok(line),
             None => Err(missing_argument(command, "no file, or no certificate")),
         }

@@ -6,7 +6,7 @@ ghost use Rattle.command_line.specs.Lines.{IsLineBy, IsLineOf, LacksArguments, L
 ghost use Rattle.command_line.specs.Usages.{Explains};
 
 use crate::arguments::{missing_argument, required_path};
-use crate::usage::{Usage, usage_of};
+use crate::usage::Usage;
 use clap::{Arg, ArgAction, ArgMatches, Command, value_parser};
 use order_model::Workers;
 use std::alloc::{AllocError, Global};
@@ -142,15 +142,9 @@ impl<'a> Line<'a> {
         ensures line { IfOk result (IsLineOf (texts words.now)) }
         ensures refused { IfErr result (Explains minorder LacksArguments (texts words.now)) }
     {
-        let mut command = match command(alloc) {
-            Ok(command) => command,
-            Err(_) => return Err(Usage::OutOfMemory),
-        };
-        let line = match command.try_get_matches_from_mut(words) {
-            Ok(matches) => line_of(&matches),
-            Err(error) => return Err(usage_of(error)),
-        };
-        match line {
+        let mut command = command(alloc)?;
+        let matches = command.try_get_matches_from_mut(words)?;
+        match line_of(&matches) {
             Some(line) => Ok(line),
             None => Err(missing_argument(command, "no file, or no number of workers")),
         }

@@ -5,6 +5,7 @@ ghost use Rattle.command_line.specs.Usages.{status_of, usage_kind};
 
 use clap::Error;
 use clap::error::ErrorKind;
+use std::alloc::AllocError;
 
 /// Why a command line gives no plan. The text of help and of a fault is clap's.
 #[derive(Debug, Drop)]
@@ -30,13 +31,25 @@ impl Usage {
     }
 }
 
-/// What an error of clap means for a program.
-pub(crate) fn usage_of(error: Error) -> Usage
-    ensures { result ≡ usage_kind error }
-{
-    match error.kind() {
-        ErrorKind::DisplayHelp => Usage::Help(error),
-        ErrorKind::OutOfMemory => Usage::OutOfMemory,
-        _ => Usage::Refused(error),
+impl From<Error> for Usage {
+    ghost from_gives = { λ error usage. usage ≡ usage_kind error };
+
+    /// What an error of clap means for a program.
+    fn from(error: Error) -> Usage {
+        match error.kind() {
+            ErrorKind::DisplayHelp => Usage::Help(error),
+            ErrorKind::OutOfMemory => Usage::OutOfMemory,
+            _ => Usage::Refused(error),
+        }
+    }
+}
+
+impl From<AllocError> for Usage {
+    ghost use Rattle.command_line.specs.declared.usage.Usage.TheVariants.{OutOfMemory};
+
+    ghost from_gives = { λ _ usage. usage ≡ OutOfMemory };
+
+    fn from(_: AllocError) -> Usage {
+        Usage::OutOfMemory
     }
 }
