@@ -10,13 +10,13 @@ use Rattle.std.specs.List.{filter, range_with_len, list_any}
 use Rattle.std.proofs.lemmas.Bool.{cases_eq}
 use Rattle.std.proofs.lemmas.Nat.{pow_pos}
 use Rattle.std.proofs.lemmas.List.{length-map, get_or-map, map-id}
-use Rattle.definitions.specs.Functions.{Function, restrict, same_table, depends}
+use Rattle.definitions.specs.Functions.{Function, restrict, same_table}
 use Rattle.definitions.specs.Orders.{has, variables}
 use Rattle.definitions.specs.Levels.{reach}
 use Rattle.definitions.specs.Widths.{same_pair, entries, class_of, class_numbers, class_pair, outside}
 use Rattle.definitions.proofs.Lists.Sets.{Among, among_from_map, nat_decides}
-use Rattle.definitions.proofs.Functions.Tables.{same_table_decides, depends_same}
-use Rattle.definitions.proofs.Widths.ClassPairs.{pair_decides, rank_apart, depends_by_classes}
+use Rattle.definitions.proofs.Functions.Tables.{same_table_decides}
+use Rattle.definitions.proofs.Widths.ClassPairs.{pair_decides, rank_apart}
 use Rattle.subfunction_classes.specs.Dependence.{dependence, joined_mask}
 use Rattle.subfunction_classes.specs.Numbering.{rank, ranks}
 use Rattle.subfunction_classes.specs.Places.{low_place, pairs}
@@ -32,8 +32,9 @@ use Rattle.definitions.proofs.Precedence.Masks.{among_at}
 use Rattle.subfunction_classes.proofs.RankLaws.{ranks_alike}
 use Rattle.subfunction_classes.proofs.Index.{length-pairs, pair_within}
 use Rattle.subfunction_classes.proofs.DependenceMasks.{dependence_joined}
+use Rattle.subfunction_classes.proofs.MaskStep.{depends_at}
 use Rattle.definitions.proofs.Lists.Maps.{map_same}
-use Rattle.subfunction_classes.proofs.Compaction.{step_of, tops, length_numbers, pairs_told, pairs_of_classes, compacted, counted, class_numbers_same, class_pair_same}
+use Rattle.subfunction_classes.proofs.Compaction.{step_of, tops, length_numbers, pairs_told, pairs_of_classes, compacted, class_numbers_same}
 use Rattle.subfunction_classes.proofs.OneMoreVariable.{members_more, step_is, class_below, few_masks, IsReady, rank_small, free_none, free_more}
 use mathlib.Core.List.{map-map}
 
@@ -113,10 +114,6 @@ module _ (n : ℕ) (F : List Function) (T : List ℕ) (x : ℕ) (small : x < n) 
   own_pair : Function → ℕ × ℕ
   own_pair g = (dependence n (restrict x false g), dependence n (restrict x true g))
 
-  depends_at : (g : Function) → Among g R → depends n g x ≡ not (nat_eq (class_pair n F T x g).0 (class_pair n F T x g).1)
-  unfolding R
-  depends_at g a = grind (arith, counted, depends_same, depends_by_classes, class_pair_same)
-
   -- what the functions of the pairs depend on
   pub pairs_depend : (keys masks : List ℕ) (r : ℕ) → ((blocks : ℕ) × (length keys ≡ blocks * (2 * 2 ^ r))) → 2 ^ r ≡ step_of T x →
       class_numbers n F T ≡ ranks nat_eq keys →
@@ -131,7 +128,7 @@ module _ (n : ℕ) (F : List Function) (T : List ℕ) (x : ℕ) (small : x < n) 
       (λ p g a b e d.
       ap₂ bit_or (ap₂ bit_or (ap (λ (z : ℕ × ℕ). z.0) e) (ap (λ (z : ℕ × ℕ). z.1) e))
       (ap (λ t. cond t 0 (2 ^ x)) (same_numbers keys r whole p a ∙ ap (λ (z : ℕ × ℕ). nat_eq z.0 z.1) d)
-      ∙ turn (nat_eq (class_pair n F T x g).0 (class_pair n F T x g).1) ∙ ap (λ t. cond t (2 ^ x) 0) (sym (depends_at g b)))
+      ∙ turn (nat_eq (class_pair n F T x g).0 (class_pair n F T x g).1) ∙ ap (λ t. cond t (2 ^ x) 0) (sym (depends_at n F T x small new g b)))
       ∙ sym (dependence_joined n x g small))
     where
       turn : (b : Bool) → cond b 0 (2 ^ x) ≡ cond (not b) (2 ^ x) 0

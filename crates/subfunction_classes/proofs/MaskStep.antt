@@ -16,6 +16,14 @@ use Rattle.subfunction_classes.proofs.CountedWidths.{same_at}
 use Rattle.subfunction_classes.proofs.Compaction.{step_of, pairs_told, pairs_of_classes, compacted, counted, told_apart, numbers_told, tell_class, class_pair_same}
 use mathlib.Core.List.{map-map}
 
+-- a subfunction depends on the variable if its two halves have different classes
+pub depends_at : (n : ℕ) (F : List Function) (T : List ℕ) (x : ℕ) (small : x < n) (new : has T x ≡ false) (g : Function) →
+    Among g (reach F (reverse (outside n (x ∷ T)))) → depends n g x ≡ not (nat_eq (class_pair n F T x g).0 (class_pair n F T x g).1)
+depends_at n F T x small new g a =
+    let k = counted n T x small new F g a in
+    depends_same n g k.0 x k.2 ∙ depends_by_classes n F T x small new k.0 k.1
+    ∙ ap (λ p. not (nat_eq p.0 p.1)) (sym (class_pair_same n T x small new F g k.0 k.2))
+
 module _ (n : ℕ) (F : List Function) (T : List ℕ) (x : ℕ) (small : x < n) (new : has T x ≡ false) (masks : List ℕ) (are : AreMasks n F T masks) where
   R : List Function
   R = reach F (reverse (outside n (x ∷ T)))
@@ -43,19 +51,12 @@ module _ (n : ℕ) (F : List Function) (T : List ℕ) (x : ℕ) (small : x < n) 
   half_at : (g : Function) → Among g R → own g ≡ true_own g
   half_at g a = same_at own true_own R halves g a
 
-  depends_at : (g : Function) → Among g R → depends n g x ≡ not (nat_eq (class_pair n F T x g).0 (class_pair n F T x g).1)
-  unfolding R
-  depends_at g a =
-      let k = counted n T x small new F g a in
-      depends_same n g k.0 x k.2 ∙ depends_by_classes n F T x small new k.0 k.1
-      ∙ ap (λ p. not (nat_eq p.0 p.1)) (sym (class_pair_same n T x small new F g k.0 k.2))
-
   joined_at : (g : Function) → Among g R → joined_mask masks x (class_pair n F T x g) ≡ dependence n g
-  unfolding mask_of_class class_pair own true_own
+  unfolding R mask_of_class class_pair own true_own
   joined_at g a =
       let h = half_at g a in
       ap₂ (λ u v. bit_or u v) (ap₂ (λ u v. bit_or u v) (ap (λ p. p.0) h) (ap (λ p. p.1) h))
-      (turn (nat_eq (class_pair n F T x g).0 (class_pair n F T x g).1) ∙ ap (λ b. cond b (2 ^ x) 0) (sym (depends_at g a)))
+      (turn (nat_eq (class_pair n F T x g).0 (class_pair n F T x g).1) ∙ ap (λ b. cond b (2 ^ x) 0) (sym (depends_at n F T x small new g a)))
       ∙ sym (dependence_joined n x g small)
     where
       turn : (b : Bool) → cond b 0 (2 ^ x) ≡ cond (not b) (2 ^ x) 0
