@@ -8,11 +8,11 @@ ghost use Rattle.definitions.specs.Widths.{class_numbers, width as width_over};
 ghost use Rattle.subfunction_classes.specs.Table.{free_below};
 ghost use Rattle.class_tables.specs.Scratch.{most_entries};
 
-use crate::numbering::number_pairs_by_index;
+use crate::numbering::number_by;
 use crate::scratch::Scratch;
 use compaction::Tally;
 use order_model::{Mask, Problem, VarIx, contains};
-use pair_numbering::{MaskedPairs, number_with_masks};
+use pair_numbering::MaskedPairs;
 use std::alloc::{AllocError, Global};
 use std::marker::Model;
 use subfunction_classes::{count_with, no_dependence, rank_of, value_numbers};
@@ -150,15 +150,7 @@ impl<'a> Classes<'a> {
         requires new { IsFalse (has (set_of self.now) x) }
         ensures { IfOk result (λ c. c ≡ with_variable self.now x) }
     {
-        let rank = rank_of(self.set, x);
-        let pairs = MaskedPairs::of_table(&self.numbers, rank, x, &self.masks);
-        let numbered = number_with_masks(alloc, &pairs)?;
-        Ok(Classes {
-            problem: self.problem,
-            set: self.set | (1 << x),
-            numbers: numbered.numbers,
-            masks: numbered.masks,
-        })
+        self.compact_by(alloc, x, false)
     }
 
     /// The classes of the set with a variable more, whose pairs are numbered in an `IndexSet`.
@@ -168,9 +160,19 @@ impl<'a> Classes<'a> {
         requires new { IsFalse (has (set_of self.now) x) }
         ensures { IfOk result (λ c. c ≡ with_variable self.now x) }
     {
+        self.compact_by(alloc, x, true)
+    }
+
+    /// The classes with one more variable in the set, whose pairs are numbered in an `IndexSet` if
+    /// `indexed` is true.
+    fn compact_by(&self, alloc: Global, x: VarIx, indexed: bool) -> Result<Classes<'a>, AllocError>
+        requires inside { x < self.now.problem.inputs }
+        requires new { IsFalse (has (set_of self.now) x) }
+        ensures { IfOk result (λ c. c ≡ with_variable self.now x) }
+    {
         let rank = rank_of(self.set, x);
         let pairs = MaskedPairs::of_table(&self.numbers, rank, x, &self.masks);
-        let numbered = number_pairs_by_index(alloc, &pairs)?;
+        let numbered = number_by(alloc, &pairs, indexed)?;
         Ok(Classes {
             problem: self.problem,
             set: self.set | (1 << x),

@@ -7,5 +7,4 @@ mod numbering;
 mod scratch;
 
 pub use classes::Classes;
-pub use numbering::number_pairs_by_index;
 pub use scratch::Scratch;

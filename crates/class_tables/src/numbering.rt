@@ -4,11 +4,11 @@ ghost use Rattle.std.specs.Prelude.{◌≡◌, ℕ, ◌*◌, ◌^◌, ◌<◌, �
 ghost use Rattle.definitions.specs.Widths.{same_pair};
 ghost use Rattle.subfunction_classes.specs.Numbering.{ranks};
 ghost use Rattle.subfunction_classes.specs.Places as places;
-ghost use Rattle.subfunction_classes.specs.PairTables.{NumbersPairs};
+ghost use Rattle.pair_numbering.specs.MaskedNumbers.{NumbersMasked};
 ghost use Rattle.pair_numbering.specs.Numbers.{ArePairsNumbered};
 
 use indexmap::IndexSet;
-use pair_numbering::{EntryPairs, MaskedPairs, Numbered, join_masks};
+use pair_numbering::{EntryPairs, MaskedPairs, Numbered, join_masks, number_with_masks};
 use std::alloc::{AllocError, Global};
 
 /// The numbers of the pairs, in an `IndexSet`.
@@ -46,13 +46,9 @@ fn distinct_pairs(
     Ok(pairs)
 }
 
-/// The numbers of the pairs and their masks, as `number_with_masks` gives them, in an `IndexSet`.
-/// Slower, and only there to be compared.
-pub fn number_pairs_by_index(alloc: Global, pairs: &MaskedPairs<'_>) -> Result<Numbered, AllocError>
-    ensures { IfOk result
-        (λ v. NumbersPairs pairs.now.masks.now pairs.now.x
-        (places.pairs pairs.now.entries.numbers (2 ^ pairs.now.entries.rank)) v.numbers.items
-        v.masks.items) }
+/// The numbers of the pairs and their masks, in an `IndexSet`.
+fn number_pairs_by_index(alloc: Global, pairs: &MaskedPairs<'_>) -> Result<Numbered, AllocError>
+    ensures { IfOk result (λ v. NumbersMasked pairs.now v.numbers.items v.masks.items) }
 {
     prove!(pairs.rank() < 16);
     let indexed = index_pairs(alloc, &pairs.entries)?;
@@ -62,4 +58,20 @@ pub fn number_pairs_by_index(alloc: Global, pairs: &MaskedPairs<'_>) -> Result<N
         numbers: indexed,
         masks: joined,
     })
+}
+
+/// The numbers of the pairs and their masks: in an `IndexSet` if `indexed` is true, else in the
+/// fastest way.
+pub(crate) fn number_by(
+    alloc: Global,
+    pairs: &MaskedPairs<'_>,
+    indexed: bool,
+) -> Result<Numbered, AllocError>
+    ensures { IfOk result (λ v. NumbersMasked pairs.now v.numbers.items v.masks.items) }
+{
+    if indexed {
+        number_pairs_by_index(alloc, pairs)
+    } else {
+        number_with_masks(alloc, pairs)
+    }
 }

@@ -2,17 +2,18 @@
 --     width_wanted p mask wanted x      the width of x over the set without it, if x is wanted, else 0
 --     IsWidthRow p mask wanted row, AreWidthRows p masks needed rows      a set's widths; those of all sets of a block
 --     wanted_count needed      how many widths are wanted
---     most_compactions      how many tables a block's widths take at most
+--     most_compactions, most_walked p      how many tables a block's widths take at most; how many there are for one low byte
 --     WidthsOf      the rows of a block, and how many compactions they took
 --     AreMembersAmong inputs masks needed, AreMembers p masks needed      what is wanted of each set are its members
 --     HoldsWidths p set wanted row      a row holds the wanted widths
 --     RowsOf, AreByteRows p low needed rows, HoldsRows p r      rows of sets with one low byte, each at its high byte
 --     AreRowsFilled p low needed set decided old new, IsRowFilled p low needed set old new      some rows are filled; that of one set is
-use Rattle.std.specs.Prelude.{◌≡◌, ◌≢◌, ℕ, ◌+◌, ◌*◌, ◌<◌, ◌==◌, IsTrue, List, [], if◌then◌else◌, sum_by, length, slice_index, get_or, count_ones, bit_and}
+use Rattle.std.specs.Prelude.{◌≡◌, ◌≢◌, ℕ, ◌+◌, ◌-◌, ◌*◌, ◌^◌, ◌<◌, ◌==◌, IsTrue, List, [], if◌then◌else◌, sum_by, length, slice_index, get_or, count_ones, bit_and}
 use Rattle.std.specs.Int.{bit_at}
 use Rattle.definitions.specs.Orders.{has, members, without}
 use Rattle.definitions.specs.Problems.{TruthTables, functions}
 use Rattle.definitions.specs.Widths.{width}
+use Rattle.compaction.specs.Strips.{low_variables}
 
 -- the width of x over the set without it, if it is wanted
 unfoldable pub width_wanted : TruthTables → ℕ → ℕ → ℕ → ℕ
@@ -36,6 +37,10 @@ wanted_count needed = sum_by count_ones needed
 -- how many tables a block's widths take at most
 abbrev pub most_compactions : ℕ
 most_compactions = 2367
+
+-- how many tables there are at most for one low byte
+abbrev pub most_walked : TruthTables → ℕ
+most_walked p = 2 ^ (p.inputs - low_variables p)
 
 -- a row for each set of a block, and how many compactions were made
 pub record WidthsOf : Type 0 where

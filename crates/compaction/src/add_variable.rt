@@ -7,7 +7,7 @@ ghost use Rattle.compaction.specs.Strips.{GrowsStrips};
 
 use crate::names::{NamePairs, number_names};
 use order_model::{Mask, VarIx};
-use pair_numbering::{MaskedPairs, label_pairs};
+use pair_numbering::{MaskedPairs, PairKeys, label_pairs};
 use std::alloc::{AllocError, Global};
 use std::marker::Model;
 
@@ -53,6 +53,22 @@ pub(crate) struct StripParts {
     ghost used: { IsTrue all_used → AreUsed numbers.items masks.items },
 }
 
+impl StripParts {
+    /// Strips that may have masks of numbers that don't occur.
+    pub(crate) fn new(outer: Vec<u32>, numbers: Vec<u32>, masks: Vec<Mask>) -> StripParts
+        ensures outer { result.outer ≡ outer }
+        ensures numbers { result.numbers ≡ numbers }
+        ensures masks { result.masks ≡ masks }
+    {
+        StripParts {
+            outer,
+            numbers,
+            masks,
+            all_used: false,
+        }
+    }
+}
+
 /// Whether the numbers count up from 0, as they do if each is new.
 pub(crate) fn are_in_order(numbers: &[u32]) -> bool
     ensures up { IsTrue result → AreOwn numbers.now }
@@ -79,47 +95,45 @@ fn first_numbers(alloc: Global, count: usize) -> Result<Vec<u32>, AllocError>
     Ok(numbers)
 }
 
-/// Strips with one more variable, which stands above those inside a strip, if the strips are named
-/// in order: their entries are all entries.
-fn add_in_order(alloc: Global, table: &StripTable<'_>, x: VarIx) -> Result<StripParts, AllocError>
+/// The names of strips with one more variable, which stands above those inside a strip, and the
+/// labels of their entries, if the strips are named in order: their entries are all entries.
+fn add_in_order(
+    alloc: Global,
+    table: &StripTable<'_>,
+    x: VarIx,
+) -> Result<(Vec<u32>, PairKeys), AllocError>
     requires variable { x < 16 }
     requires own { AreOwn table.now.outer }
-    ensures { IfOk result (λ g.
-        GrowsStrips table.now x g.outer.items g.numbers.items g.masks.items) }
+    ensures grows { IfOk result (λ r.
+        GrowsStrips table.now x r.0.items r.1.numbers.items r.1.masks.items) }
+    ensures used { IfOk result
+        (λ r. IsTrue r.1.all_used → AreUsed r.1.numbers.items r.1.masks.items) }
 {
     let pairs = MaskedPairs::of_table(table.numbers, table.bits + table.rank, x, table.masks);
     let labels = label_pairs(alloc, &pairs)?;
     let outer = first_numbers(alloc, table.outer.len() / 2)?;
-    Ok(StripParts {
-        outer,
-        numbers: labels.numbers,
-        masks: labels.masks,
-        all_used: labels.all_used,
-    })
+    Ok((outer, labels))
 }
 
-/// Strips with one more variable, which stands above those inside a strip: pairs of strips become
-/// strips. What is known of the pairs of names isn't numbered again.
+/// The names and labels of strips with one more variable, which stands above those inside a strip:
+/// pairs of strips become strips. Pairs of names that are known aren't numbered again.
 fn add_by_pairs(
     alloc: Global,
     table: &StripTable<'_>,
     x: VarIx,
     known: Option<&NamePairs>,
-) -> Result<StripParts, AllocError>
+) -> Result<(Vec<u32>, PairKeys), AllocError>
     requires { x < 16 }
-    ensures { IfOk result (λ g.
-        GrowsStrips table.now x g.outer.items g.numbers.items g.masks.items) }
+    ensures grows { IfOk result (λ r.
+        GrowsStrips table.now x r.0.items r.1.numbers.items r.1.masks.items) }
+    ensures used { IfOk result
+        (λ r. IsTrue r.1.all_used → AreUsed r.1.numbers.items r.1.masks.items) }
 {
     let strips = table.numbers.len() >> table.bits;
     let runs = number_names(alloc, table.outer, table.rank, strips, known)?;
     let pairs = MaskedPairs::of_strips(&runs.pairs, table.numbers, table.bits, x, table.masks);
     let labels = label_pairs(alloc, &pairs)?;
-    Ok(StripParts {
-        outer: runs.numbers,
-        numbers: labels.numbers,
-        masks: labels.masks,
-        all_used: labels.all_used,
-    })
+    Ok((runs.numbers, labels))
 }
 
 /// Strips with one more variable, which stands above those inside a strip.
@@ -133,8 +147,15 @@ pub(crate) fn add_above(
     ensures { IfOk result (λ g.
         GrowsStrips table.now x g.outer.items g.numbers.items g.masks.items) }
 {
-    if are_in_order(table.outer) {
-        return add_in_order(alloc, table, x);
-    }
-    add_by_pairs(alloc, table, x, known)
+    let (outer, labels) = if are_in_order(table.outer) {
+        add_in_order(alloc, table, x)?
+    } else {
+        add_by_pairs(alloc, table, x, known)?
+    };
+    Ok(StripParts {
+        outer,
+        numbers: labels.numbers,
+        masks: labels.masks,
+        all_used: labels.all_used,
+    })
 }

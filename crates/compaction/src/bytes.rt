@@ -55,7 +55,7 @@ fn write_strips(names: &[u8], numbers: &[u32], strip: usize, out: &mut [u32])
     }
 }
 
-/// All strips that are named, one after the other. The lengths that occur are loops of their own.
+/// All strips that are named, one after the other. Each length that occurs has its own loop.
 fn unroll(
     alloc: Global,
     names: &[u8],
@@ -151,12 +151,7 @@ impl<'a> ByteKeys<'a> {
         let mut masks = Vec::with_capacity(alloc, self.masks.len())?;
         masks.extend_from_slice(&self.masks)?;
         let outer = self.outer.to_vec(alloc)?;
-        let parts = StripParts {
-            outer,
-            numbers,
-            masks,
-            all_used: false,
-        };
+        let parts = StripParts::new(outer, numbers, masks);
         Ok(Strips::of_parts(alloc, self.problem, self.set, parts))
     }
 }

@@ -7,7 +7,7 @@ ghost use Rattle.pair_numbering.specs.Numbers.{ArePairsNumbered};
 
 use crate::add_variable::are_in_order;
 use order_model::{Mask, VarIx, contains};
-use pair_numbering::{NumberedPairs, number_pairs};
+use pair_numbering::{EntryPairs, NumberedPairs, number_entries};
 use std::alloc::{AllocError, Global};
 
 /// Names of strips, and the numbers of their pairs by one variable.
@@ -32,7 +32,7 @@ fn are_below(names: &[u32], limit: usize) -> bool
     true
 }
 
-/// Whether so many names are whole blocks of pairs.
+/// Whether `count` names are whole blocks of pairs.
 fn are_whole(count: usize, rank: u32) -> bool
     requires { rank < 16 }
     ensures { IsTrue result → (blocks : ℕ) × (count ≡ blocks * (2 * 2 ^ rank)) }
@@ -52,7 +52,7 @@ impl NamePairs {
         if !are_below(names, names.len()) {
             return Ok(None);
         }
-        let paired = number_pairs(alloc, names, rank, names.len())?;
+        let paired = number_entries(alloc, &EntryPairs::of_table(names, rank), names.len())?;
         Ok(Some(NamePairs {
             names: names.to_vec(alloc)?,
             rank,
@@ -91,7 +91,7 @@ pub(crate) fn number_names(
             return known.numbered_pairs(alloc);
         }
     }
-    number_pairs(alloc, names, rank, count)
+    number_entries(alloc, &EntryPairs::of_table(names, rank), count)
 }
 
 /// The pairs of names of each set of high variables, by each variable outside it. Those of a set
@@ -126,7 +126,8 @@ fn step_of(
 }
 
 impl AllNamePairs {
-    /// The pairs of a problem's names, of so many high variables.
+    /// The pairs of names of all sets of `high` high variables, from the names of a problem's
+    /// strips.
     pub(crate) fn of(alloc: Global, names: &[u32], high: u8) -> Result<AllNamePairs, AllocError>
         requires { high ≤ 8 }
     {
@@ -151,7 +152,7 @@ impl AllNamePairs {
         }
     }
 
-    /// What is known of the pairs of a set by a high variable.
+    /// The numbered pairs of a set's names by a high variable, if they were numbered beforehand.
     pub(crate) fn at(&self, set: Mask, y: VarIx) -> Option<&NamePairs> {
         match self
             .steps

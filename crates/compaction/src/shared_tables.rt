@@ -47,12 +47,11 @@ impl<'a> Model for SharedTables<'a> {
         × IfSome b.orbits (λ o. o ≡ b.problem.now) };
 }
 
+/// Tables that were made.
+type Made<'a> = Result<Vec<Strips<'a>>, AllocError>;
+
 /// Tables with one more low variable in each set.
-fn with_low<'a>(
-    alloc: Global,
-    tables: &[Strips<'a>],
-    x: VarIx,
-) -> Result<Vec<Strips<'a>>, AllocError>
+fn with_low<'a>(alloc: Global, tables: &[Strips<'a>], x: VarIx) -> Made<'a>
     requires { All (CanTakeLow x) tables.now }
     ensures { IfOk result (λ v. v.items ≡ map (λ t. with_variable t x) tables.now) }
 {
@@ -104,44 +103,64 @@ fn with_low_by_threads<'a, R: Threads + Sync>(
     concatenate(alloc, parts)
 }
 
-/// The tables of all sets of low variables, in the order of their masks, from that of the empty set
-/// if there is one.
-fn tables_of_low_sets<'a>(
-    alloc: Global,
-    problem: &'a Problem,
-    empty: Option<Strips<'a>>,
-) -> Result<Vec<Strips<'a>>, AllocError>
-    requires { IfSome empty (λ t. t ≡ classes_of problem.now 0) }
-    ensures { IfOk result (λ v. AreOfFirstSets problem.now v.items) }
-{
-    let mut tables = Vec::new(alloc);
-    if let Some(empty) = empty {
-        tables.push(empty)?;
-        for largest in 0..low_variables(problem) {
-            let mut larger = with_low(alloc, &tables, largest)?;
-            tables.append(&mut larger)?;
-        }
-    }
-    Ok(tables)
+/// Who makes tables of larger sets.
+trait TableMaker {
+    // What the maker asks for.
+    ghost ready: { Self → Type 0 };
+
+    /// Tables with one more low variable in each set.
+    fn with_low<'a>(&self, alloc: Global, tables: &[Strips<'a>], x: VarIx) -> Made<'a>
+        requires ready { ready self.now }
+        requires low { All (CanTakeLow x) tables.now }
+        ensures { IfOk result (λ v. v.items ≡ map (λ t. with_variable t x) tables.now) };
 }
 
-/// The tables of all sets of low variables, made by workers, in the order of their masks, from that
-/// of the empty set if there is one.
-fn tables_by_threads<'a, R: Threads + Sync>(
-    rt: &R,
+/// The calling thread.
+#[derive(Drop)]
+struct CallingThread;
+
+/// The threads of `workers` workers.
+#[derive(Drop)]
+struct WorkerThreads<'r, R> {
+    rt: &'r R,
+    workers: Workers,
+}
+
+impl TableMaker for CallingThread {
+    ghost ready = { λ _. Unit {0} };
+
+    fn with_low<'a>(&self, alloc: Global, tables: &[Strips<'a>], x: VarIx) -> Made<'a> {
+        with_low(alloc, tables, x)
+    }
+}
+
+impl<'r, R: Threads + Sync> TableMaker for WorkerThreads<'r, R> {
+    ghost use Rattle.std.specs.Thread.{IsSync};
+
+    ghost ready = { λ _. IsSync R.row };
+
+    fn with_low<'a>(&self, alloc: Global, tables: &[Strips<'a>], x: VarIx) -> Made<'a> {
+        with_low_by_threads(self.rt, alloc, tables, x, self.workers)
+    }
+}
+
+/// The tables of all sets of low variables, in the order of their masks, from that of the empty set
+/// if there is one.
+fn tables_of_low_sets<'a, M: TableMaker>(
+    maker: &M,
     alloc: Global,
     problem: &'a Problem,
     empty: Option<Strips<'a>>,
-    workers: Workers,
 ) -> Result<Vec<Strips<'a>>, AllocError>
-    requires { IfSome empty (λ t. t ≡ classes_of problem.now 0) }
+    requires ready { M.ready maker.now }
+    requires empty { IfSome empty (λ t. t ≡ classes_of problem.now 0) }
     ensures { IfOk result (λ v. AreOfFirstSets problem.now v.items) }
 {
     let mut tables = Vec::new(alloc);
     if let Some(empty) = empty {
         tables.push(empty)?;
         for largest in 0..low_variables(problem) {
-            let mut larger = with_low_by_threads(rt, alloc, &tables, largest, workers)?;
+            let mut larger = maker.with_low(alloc, &tables, largest)?;
             tables.append(&mut larger)?;
         }
     }
@@ -215,7 +234,7 @@ impl<'a> SharedTables<'a> {
         let Basis { empty, keys, names } = basis_of(alloc, problem)?;
         Ok(SharedTables {
             problem,
-            tables: tables_of_low_sets(alloc, problem, empty)?,
+            tables: tables_of_low_sets(&CallingThread, alloc, problem, empty)?,
             keys,
             names,
             orbits: None,
@@ -232,9 +251,10 @@ impl<'a> SharedTables<'a> {
         ensures { IfOk result (λ b. b ≡ problem.now) }
     {
         let Basis { empty, keys, names } = basis_of(alloc, problem)?;
+        let threads = WorkerThreads { rt, workers };
         Ok(SharedTables {
             problem,
-            tables: tables_by_threads(rt, alloc, problem, empty, workers)?,
+            tables: tables_of_low_sets(&threads, alloc, problem, empty)?,
             keys,
             names,
             orbits: None,

@@ -192,12 +192,7 @@ impl<'a> Strips<'a> {
         prove!(problem.outputs() <= 16);
         let masks = vec![in alloc; 0; 2]?;
         let ValueStrips { outer, numbers } = whole_strips(alloc, problem, low_variables(problem))?;
-        let parts = StripParts {
-            outer,
-            numbers,
-            masks,
-            all_used: false,
-        };
+        let parts = StripParts::new(outer, numbers, masks);
         Ok(Strips::of_parts(alloc, problem, 0, parts))
     }
 

@@ -3,7 +3,7 @@
 ghost use Rattle.std.specs.Prelude.{◌≡◌, ℕ, ◌+◌, ◌-◌, ◌^◌, ◌<◌, ◌≤◌, length, IfOk, IfSome, IsNone, OnOk, bit_or};
 ghost use Rattle.std.specs.Int.{bit_at};
 ghost use Rattle.subfunction_classes.specs.Table.{classes_of, free_below};
-ghost use Rattle.compaction.specs.Rows.{AreByteRows, HoldsRows, most_compactions};
+ghost use Rattle.compaction.specs.Rows.{AreByteRows, HoldsRows, most_compactions, most_walked};
 ghost use Rattle.compaction.specs.Strips.{low_variables as low_of};
 ghost use Rattle.compaction.specs.Walks.{AreWanted, FillsOwn, FillsRows, HasDecided};
 
@@ -168,8 +168,7 @@ fn walk_from(
     requires rows { length rows.old ≡ length request.now.needed.items }
     ensures rows { OnOk result
         (AreByteRows shared.now request.now.low request.now.needed.items rows.new) }
-    ensures compactions { IfOk result
-        (λ count. count + 1 ≤ 2 ^ (shared.now.inputs - low_of shared.now)) }
+    ensures compactions { IfOk result (λ count. count + 1 ≤ most_walked shared.now) }
 {
     let branch = Branch {
         decided: low_mask(shared.problem()),
@@ -191,8 +190,7 @@ fn fill_rows(
     requires rows { length rows.old ≡ length request.now.needed.items }
     ensures rows { OnOk result
         (AreByteRows shared.now request.now.low request.now.needed.items rows.new) }
-    ensures compactions { IfOk result
-        (λ count. count + 1 ≤ 2 ^ (shared.now.inputs - low_of shared.now)) }
+    ensures compactions { IfOk result (λ count. count + 1 ≤ most_walked shared.now) }
 {
     let low = Mask::from(request.low);
     if let Some(table) = shared.table(low) {

@@ -1,13 +1,15 @@
 //! Pairs of a table's entries, numbered by first occurrence and by keys.
 
-use pair_numbering::{MaskedPairs, PairKeys, label_pairs, number_pairs};
+use pair_numbering::{EntryPairs, MaskedPairs, PairKeys, label_pairs, number_entries};
 use std::alloc::Global;
 use std::process::Abort;
 
 /// Whether pairs are numbered by first occurrence.
 fn numbers_pairs(rt: &impl Abort, alloc: Global) -> bool {
     let numbers = [2, 0, 1, 2, 0, 0, 1, 2, 2, 0, 1, 1];
-    let numbered = number_pairs(alloc, &numbers, 1, 3).expect(rt, "memory");
+    let numbered = number_entries(alloc, &EntryPairs::of_table(&numbers, 1), 3).expect(
+        rt, "memory",
+    );
     numbered.numbers.as_slice() == [0, 1, 2, 1, 0, 2].as_slice()
         && numbered.pairs.as_slice() == [(2, 1), (0, 2), (0, 1)].as_slice()
 }
@@ -61,7 +63,9 @@ fn count_up_to_eighty(numbers: &[u32]) -> bool {
 fn numbers_crowded_pairs(rt: &impl Abort, alloc: Global) -> bool {
     let numbers = crowded_pairs();
     assert!(rt; numbers.iter().all(|number| *number < 1 << 17));
-    let numbered = number_pairs(alloc, &numbers, 0, 1 << 17).expect(rt, "memory");
+    let numbered = number_entries(alloc, &EntryPairs::of_table(&numbers, 0), 1 << 17).expect(
+        rt, "memory",
+    );
     numbered.pairs.len() == 80 && count_up_to_eighty(&numbered.numbers)
 }
 

@@ -1,8 +1,8 @@
 -- Numbering by cells: the cell of a pair of classes is 0, or one more than the number of the pair.
 --     AreClasses classes p, cell classes p      both halves of a pair are classes; the pair's cell
 --     Celled ps join classes cells out masks j      the numbering has come to pair j
---     Fronted masks x numbers rank cells out all count j      the same of the pairs of a table, with the masks met so far at the front of a list
---     AreCelled pairs block cells out all count      the same at the beginning of a block
+--     Fronted masks x numbers rank cells out all count j      the numbering has come to pair j of a table; the masks met so far stand in front
+--     AreCelled pairs block cells out all count      the numbering has come to the beginning of a block
 use Rattle.std.specs.Prelude.{◌≡◌, ◌≢◌, ℕ, ◌+◌, ◌*◌, ◌/◌, ◌^◌, ◌<◌, ◌≤◌, List, take, length, get_or}
 use Rattle.subfunction_classes.specs.Dependence.{joined_mask}
 use Rattle.subfunction_classes.specs.Places.{pairs}

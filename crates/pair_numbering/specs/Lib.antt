@@ -5,3 +5,4 @@ pub mod Numbers
 pub mod Slots
 pub mod Strips
 pub mod LowerClasses
+pub mod MaskedNumbers

@@ -1,9 +1,8 @@
 //! Numbers of pairs by first occurrence, by a cell for each pair of classes.
 
 ghost use Rattle.std.specs.Prelude.{◌≡◌, ℕ, ◌+◌, ◌*◌, ◌/◌, ◌^◌, ◌<◌, ◌≤◌, length, slice_index, take, IfOk, IfSome};
-ghost use Rattle.subfunction_classes.specs.Places as places;
-ghost use Rattle.subfunction_classes.specs.PairTables.{NumbersPairs};
 ghost use Rattle.pair_numbering.specs.Cells.{AreCelled};
+ghost use Rattle.pair_numbering.specs.MaskedNumbers.{NumbersMasked};
 
 use crate::entries::Block;
 use crate::masks::MaskedPairs;
@@ -15,48 +14,10 @@ use subfunction_classes::join_mask;
 /// A cell of 16 bits is 0 or one more than a number, so there are no more numbers than these.
 const MOST_NUMBERS: usize = 65_535;
 
-/// Numbers the pairs of a block, with a branch on whether a pair is new. The answer is how many
-/// numbers there are then.
+/// Numbers the pairs of a block. The answer is how many numbers there are then. If `EVENLY` is true
+/// the mask of each pair is written, without a branch on whether the pair is new.
 #[inline(always)]
-fn number_block(
-    pairs: &MaskedPairs<'_>,
-    block: usize,
-    cells: &mut [u16],
-    out: &mut [u32],
-    joined: &mut [Mask],
-    from: u32,
-) -> u32
-    requires block { block <
-        length pairs.now.entries.numbers / 2 / 2 ^ pairs.now.entries.rank }
-    requires before { AreCelled pairs.now block cells.old out.old joined.old from }
-    requires room { from + 2 ^ pairs.now.entries.rank < 2 ^ 16 }
-    ensures { AreCelled pairs.now (block + 1) cells.new out.new joined.new result }
-{
-    let masks = pairs.masks;
-    let x = pairs.x;
-    let classes = masks.len();
-    let step = 1usize << pairs.rank();
-    let Block { low, high } = pairs.entries.block(block);
-    let mut count = from;
-    for i in 0..step {
-        let pair = (low[i], high[i]);
-        let cell = pair.0 as usize * classes + pair.1 as usize;
-        let mut next = u32::from(cells[cell]);
-        if next == 0 {
-            joined[count as usize] = join_mask(masks, x, pair);
-            count += 1;
-            next = count;
-            cells[cell] = next as u16;
-        }
-        out[block * step + i] = next - 1;
-    }
-    count
-}
-
-/// Numbers the pairs of a block as `number_block` does, without a branch on whether a pair is new:
-/// the mask of each pair is written.
-#[inline(always)]
-fn number_block_evenly(
+fn number_block<const EVENLY: bool>(
     pairs: &MaskedPairs<'_>,
     block: usize,
     cells: &mut [u16],
@@ -81,8 +42,10 @@ fn number_block_evenly(
         let cell = pair.0 as usize * classes + pair.1 as usize;
         let next = u32::from(cells[cell]);
         let number = if next == 0 { count } else { next - 1 };
-        cells[cell] = (number + 1) as u16;
-        joined[count as usize] = join_mask(masks, x, pair);
+        if EVENLY || next == 0 {
+            cells[cell] = (number + 1) as u16;
+            joined[count as usize] = join_mask(masks, x, pair);
+        }
         out[block * step + i] = number;
         if next == 0 {
             count += 1;
@@ -105,9 +68,7 @@ fn number_blocks(
     requires empty { (k : ℕ) → k < length cells.old → slice_index cells.old k ≡ 0 }
     requires out { length out.old ≡ length pairs.now.entries.numbers / 2 }
     requires joined { length joined.old ≡ length pairs.now.entries.numbers / 2 }
-    ensures { IfSome result (λ count. NumbersPairs pairs.now.masks.now pairs.now.x
-        (places.pairs pairs.now.entries.numbers (2 ^ pairs.now.entries.rank))
-        out.new (take count joined.new)) }
+    ensures { IfSome result (λ count. NumbersMasked pairs.now out.new (take count joined.new)) }
 {
     let rank = pairs.rank();
     let step = 1usize << rank;
@@ -117,9 +78,9 @@ fn number_blocks(
             return None;
         }
         count = if 4 * count as usize > block * step {
-            number_block_evenly(pairs, block, cells, out, joined, count)
+            number_block::<true>(pairs, block, cells, out, joined, count)
         } else {
-            number_block(pairs, block, cells, out, joined, count)
+            number_block::<false>(pairs, block, cells, out, joined, count)
         };
     }
     Some(count)
@@ -135,10 +96,8 @@ pub(crate) fn number_pairs_by_cells(
 ) -> Result<Option<Numbered>, AllocError>
     requires cells { length cells.old ≡ length pairs.now.masks.now * length pairs.now.masks.now }
     requires empty { (k : ℕ) → k < length cells.old → slice_index cells.old k ≡ 0 }
-    ensures { IfOk result (λ o. IfSome o
-        (λ v. NumbersPairs pairs.now.masks.now pairs.now.x
-        (places.pairs pairs.now.entries.numbers (2 ^ pairs.now.entries.rank)) v.numbers.items
-        v.masks.items)) }
+    ensures { IfOk result
+        (λ o. IfSome o (λ v. NumbersMasked pairs.now v.numbers.items v.masks.items)) }
 {
     let half = pairs.entries.len();
     let mut joined = vec![in alloc; 0u16; half]?;

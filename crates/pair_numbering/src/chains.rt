@@ -60,7 +60,7 @@ fn chain(entries: &EntryPairs<'_>, heads: &mut [u32], next: &mut [u32])
 }
 
 /// The numbers of the pairs, from the first pair equal to each.
-fn number_firsts(
+pub(crate) fn number_firsts(
     alloc: Global,
     entries: &EntryPairs<'_>,
     first: &[u32],
@@ -173,17 +173,15 @@ pub fn first_pairs(
     first_occurrences(&chains, stamps, marks, first);
 }
 
-/// The numbers of the pairs, by chains and marks. All classes are below `classes`.
-pub(crate) fn number_pairs_by_chains(
+/// The first pair equal to each pair, by chains and marks. All classes are below `classes`.
+pub(crate) fn find_first_pairs(
     alloc: Global,
     entries: &EntryPairs<'_>,
     classes: usize,
-) -> Result<NumberedPairs, AllocError>
+) -> Result<Vec<u32>, AllocError>
     requires table { IsPairTable entries.now.numbers entries.now.rank classes }
     requires few { classes ≤ 2 ^ 20 }
-    ensures { IfOk result
-        (λ v. ArePairsNumbered entries.now.numbers entries.now.rank v.numbers.items
-        v.pairs.items) }
+    ensures { IfOk result (λ v. AreFirsts entries.now v.items) }
 {
     let half = entries.len();
     let mut heads = vec![in alloc; 0u32; classes]?;
@@ -199,5 +197,5 @@ pub(crate) fn number_pairs_by_chains(
         &mut marks,
         &mut first,
     );
-    number_firsts(alloc, entries, &first)
+    Ok(first)
 }

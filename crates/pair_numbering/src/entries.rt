@@ -104,7 +104,7 @@ impl<'a> EntryPairs<'a> {
         }
     }
 
-    /// The entries of a block are so many powers of 2.
+    /// The rank: a block has 2 ^ rank pairs.
     #[inline(always)]
     pub(crate) fn rank(&self) -> u32
         ensures rank { result ≡ self.now.rank }

@@ -45,8 +45,8 @@ fn join_blocks(entries: &EntryPairs<'_>, rank: u32, base: u32, joined: &mut [u32
     }
 }
 
-/// The keys of pairs of keys below `base`. The small ranks, which are frequent, are loops of their
-/// own.
+/// The keys of pairs of keys below `base`. Each small rank, since these are frequent, has its own
+/// loop.
 fn join_keys(alloc: Global, entries: &EntryPairs<'_>, base: u32) -> Result<Vec<u32>, AllocError>
     requires below { AllBelow entries.now.numbers base }
     requires base { base ≤ 256 }

@@ -16,4 +16,4 @@ pub use chains::first_pairs;
 pub use entries::EntryPairs;
 pub use keys::{PairKeys, label_pairs};
 pub use masks::{MaskedPairs, join_masks};
-pub use numbering::{Numbered, NumberedPairs, number_pairs, number_with_masks};
+pub use numbering::{Numbered, NumberedPairs, number_entries, number_with_masks};

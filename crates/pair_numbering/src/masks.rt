@@ -68,7 +68,7 @@ impl<'e> MaskedPairs<'e> {
         }
     }
 
-    /// The entries of a block are so many powers of 2.
+    /// The rank: a block has 2 ^ rank pairs.
     #[inline(always)]
     pub fn rank(&self) -> u32
         ensures rank { result ≡ self.now.entries.rank }

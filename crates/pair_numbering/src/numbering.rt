@@ -1,12 +1,12 @@
 //! Numbers of pairs by first occurrence, and their masks, in the fastest of several ways.
 
 ghost use Rattle.std.specs.Prelude.{◌≡◌, ℕ, ◌*◌, ◌^◌, ◌<◌, ◌≤◌, length, IfOk};
-ghost use Rattle.subfunction_classes.specs.Places as places;
-ghost use Rattle.subfunction_classes.specs.PairTables.{IsPairTable, NumbersPairs};
+ghost use Rattle.subfunction_classes.specs.PairTables.{IsPairTable};
 ghost use Rattle.pair_numbering.specs.Numbers.{ArePairsNumbered};
+ghost use Rattle.pair_numbering.specs.MaskedNumbers.{NumbersMasked};
 
 use crate::cells::number_pairs_by_cells;
-use crate::chains::number_pairs_by_chains;
+use crate::chains::{find_first_pairs, number_firsts};
 use crate::entries::EntryPairs;
 use crate::masks::{MaskedPairs, join_masks};
 use crate::slots::number_pairs_by_slots;
@@ -27,9 +27,9 @@ pub struct NumberedPairs {
     pub pairs: Vec<(u32, u32)>,
 }
 
-/// The numbers of the pairs: by slots, or by chains if slots are crowded. All classes are below
-/// `classes`.
-fn number_entries(
+/// The numbers of the pairs of entries: by slots, or by chains if slots are crowded. All classes
+/// are below `classes`.
+pub fn number_entries(
     alloc: Global,
     entries: &EntryPairs<'_>,
     classes: usize,
@@ -40,19 +40,17 @@ fn number_entries(
         (λ v. ArePairsNumbered entries.now.numbers entries.now.rank v.numbers.items
         v.pairs.items) }
 {
-    match number_pairs_by_slots(alloc, entries, classes)? {
-        Some(numbered) => Ok(numbered),
-        None => number_pairs_by_chains(alloc, entries, classes),
+    if let Some(numbered) = number_pairs_by_slots(alloc, entries, classes)? {
+        return Ok(numbered);
     }
+    let first = find_first_pairs(alloc, entries, classes)?;
+    number_firsts(alloc, entries, &first)
 }
 
 /// The numbers of the pairs, and the masks of the numbers, from those of the classes: by a cell for
 /// each pair of classes if these are few, else by slots or chains.
 pub fn number_with_masks(alloc: Global, pairs: &MaskedPairs<'_>) -> Result<Numbered, AllocError>
-    ensures { IfOk result
-        (λ v. NumbersPairs pairs.now.masks.now pairs.now.x
-        (places.pairs pairs.now.entries.numbers (2 ^ pairs.now.entries.rank)) v.numbers.items
-        v.masks.items) }
+    ensures { IfOk result (λ v. NumbersMasked pairs.now v.numbers.items v.masks.items) }
 {
     prove!(pairs.rank() < 16);
     let classes = pairs.masks.len();
@@ -70,20 +68,4 @@ pub fn number_with_masks(alloc: Global, pairs: &MaskedPairs<'_>) -> Result<Numbe
         numbers: numbered.numbers,
         masks: joined,
     })
-}
-
-/// The numbers of the pairs of a table's entries. All classes are below `classes`.
-pub fn number_pairs(
-    alloc: Global,
-    numbers: &[u32],
-    rank: u32,
-    classes: usize,
-) -> Result<NumberedPairs, AllocError>
-    requires table { IsPairTable numbers.now rank classes }
-    requires few { classes ≤ 2 ^ 20 }
-    ensures { IfOk result (λ v. ArePairsNumbered numbers.now rank v.numbers.items v.pairs.items) }
-{
-    let entries = EntryPairs::of_table(numbers, rank);
-    let numbered = number_entries(alloc, &entries, classes)?;
-    Ok(numbered)
 }

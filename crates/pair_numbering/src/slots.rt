@@ -14,6 +14,9 @@ use std::alloc::{AllocError, Global};
 /// How many slots are tried for a pair.
 const TRIES: usize = 64;
 
+/// How many slots there are for each pair.
+const SLOTS_PER_PAIR: usize = 4;
+
 /// Where the search for a pair's slot begins.
 #[inline(always)]
 fn home(homes: usize, pair: (u32, u32)) -> usize
@@ -116,9 +119,10 @@ fn number_blocks(
 /// The most pairs that are numbered by slots of 16 bits.
 const MOST_PAIRS: usize = 1 << 15;
 
-/// The numbers of the pairs. A pair's slot is the first free one from its home on; an empty slot
-/// has a number too large for a pair. All classes are below `classes`. Nothing if there are more
-/// pairs than slots of 16 bits can name, or too many of them have homes close together.
+/// The numbers of the pairs. A pair's slot is the first free one from its home on; a free slot has
+/// the number of pairs, which is no pair's number. All classes are below `classes`. Nothing if
+/// there are more pairs than slots of 16 bits can name, or too many of them have homes close
+/// together.
 pub(crate) fn number_pairs_by_slots(
     alloc: Global,
     entries: &EntryPairs<'_>,
@@ -134,7 +138,7 @@ pub(crate) fn number_pairs_by_slots(
         return Ok(None);
     }
     let counts = count_lowers(alloc, entries, classes)?;
-    let mut slots = vec![in alloc; half as u16; 4 * half + TRIES]?;
+    let mut slots = vec![in alloc; half as u16; SLOTS_PER_PAIR * half + TRIES]?;
     let mut keys = vec![in alloc; (0u32, 0u32); half]?;
     let mut out = vec![in alloc; 0u32; half]?;
     let pairs = CountedPairs {

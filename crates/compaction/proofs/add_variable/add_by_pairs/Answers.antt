@@ -38,8 +38,8 @@ of_strips-pairs-requires-clause-strips c =
       below = grind arith;
     })
 
-pub returns : goal.returns
-returns c =
+pub returns-clause-grows : goal.returns-clause-grows
+returns-clause-grows c =
     let t = c.table.inside in
     let table = c.table.invariant in
     let outer = t.outer.now in

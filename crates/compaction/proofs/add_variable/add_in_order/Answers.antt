@@ -29,8 +29,8 @@ of_table-pairs-requires-clause-table c =
       below = table.below;
     }
 
-pub returns : goal.returns
-returns c =
+pub returns-clause-grows : goal.returns-clause-grows
+returns-clause-grows c =
     let t = c.table.inside in
     let table = c.table.invariant in
     let own = subst (λ (z : StripTableOf). AreOwn z.outer) (sym c.table.view_is) c.requires.own in

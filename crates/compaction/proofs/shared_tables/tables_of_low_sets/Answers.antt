@@ -6,15 +6,15 @@ use Rattle.compaction.specs.Strips.{AreOfFirstSets, CanTakeLow, low_variables}
 use Rattle.compaction.proofs.FirstSets.{can_take, with_larger}
 use Rattle.compaction.proofs.shared_tables.tables_of_low_sets.Goals as goal
 
-pub with_low-requires : goal.with_low-requires
-with_low-requires c =
+pub with_low-requires-clause-low : goal.with_low-requires-clause-low
+with_low-requires-clause-low g c =
     let x = c.loop-largest.largest in
     let low : x < low_variables c.args.problem.now = (let t = c.loop-largest-test.true in let l = c.low_variables-largest-end.ensures in omega arith) in
     subst (All (CanTakeLow x)) (sym c.deref.ensures.value)
     (can_take c.args.problem.now c.loop-largest.tables.items x c.loop-largest.invariant.1 c.loop-largest.invariant.0 low)
 
 pub loop-largest-preserved : goal.loop-largest-preserved
-loop-largest-preserved c =
+loop-largest-preserved g c =
     let x = c.loop-largest.largest in
     let tables = c.loop-largest.tables.items in
     let more = c.in_ok-larger.ensures ∙ ap (map (λ t. with_variable t x)) c.deref.ensures.value in

@@ -1,9 +1,14 @@
 use Rattle.std.proofs.Common.{arith, rules}
 use Rattle.compaction_tests.proofs.numberings.numbers_pairs.Goals as goal
 
-pub number_pairs-requires-clause-table : goal.number_pairs-requires-clause-table
-number_pairs-requires-clause-table g c = record {
-  paired = record { small_rank = omega arith; short = omega arith; whole = (3, omega arith) };
-  few = omega arith;
-  below = search rules;
-}
+pub of_table-requires : goal.of_table-requires
+of_table-requires g c = record { small_rank = omega arith; short = omega arith; whole = (3, omega arith) }
+
+pub number_entries-requires-clause-table : goal.number_entries-requires-clause-table
+number_entries-requires-clause-table g c =
+    rw (c.of_table.ensures.numbers, c.of_table.ensures.rank)
+    (record {
+      paired = record { small_rank = omega arith; short = omega arith; whole = (3, omega arith) };
+      few = omega arith;
+      below = search rules;
+    })

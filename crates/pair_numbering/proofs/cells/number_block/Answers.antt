@@ -1,58 +1,58 @@
-use Rattle.std.proofs.Common.{◌≡◌, ◌+◌, ◌-◌, ◌*◌, ◌^◌, ◌<◌, length, sym, subst, ◌∙◌, arith}
+use Rattle.std.proofs.Common.{◌≡◌, ◌+◌, ◌*◌, ◌^◌, ◌<◌, length, sym, subst, ◌∙◌, arith}
 use Rattle.subfunction_classes.proofs.Index.{length-pairs}
 use Rattle.pair_numbering.proofs.InBlocks.{in_step, place_is, place_small, step_is}
-use Rattle.pair_numbering.proofs.CellSteps.{fronted_block, pair_classes, place_inside, cell_inside, fronted_new, fronted_old}
+use Rattle.pair_numbering.proofs.CellSteps.{fronted_block, pair_classes, place_inside, cell_inside, fronted_new, fronted_again, fronted_old}
 use Rattle.pair_numbering.proofs.cells.number_block.Goals as goal
-use Rattle.pair_numbering.proofs.cells.number_block.Goals.{then-next-eq0, else-next-eq0}
+use Rattle.pair_numbering.proofs.cells.number_block.Goals.{then-next-eq0, else-next-eq0, then-this-ne0, else-this-ne0+else-next-eq0-2, then-next-eq0-3, else-next-eq0-3}
 
 pub loop-i-init : goal.loop-i-init
-loop-i-init c =
+loop-i-init g c =
     let e : c.args.block * 2 ^ c.args.pairs.now.entries.rank + 0 ≡ c.args.block * 2 ^ c.args.pairs.now.entries.rank = omega arith in
     record { fronted = rw e c.requires.before; few = omega arith }
 
 pub bounds-cells-cell : goal.bounds-cells-cell
-bounds-cells-cell c =
+bounds-cells-cell g c =
+    let w = in_step c.rank.ensures.table.paired c.rank.ensures.rank c.requires.block c.loop-i-test.true in
+    cell_inside c.rank.ensures.table c.loop-i.invariant.fronted w (c.block.ensures.pairs c.loop-i.i w.early)
+
+pub bounds-cells-cell-then-this-ne0 : goal.bounds-cells-cell-then-this-ne0
+bounds-cells-cell-then-this-ne0 g c =
     let w = in_step c.rank.ensures.table.paired c.rank.ensures.rank c.requires.block c.loop-i-test.true in
     cell_inside c.rank.ensures.table c.loop-i.invariant.fronted w (c.block.ensures.pairs c.loop-i.i w.early)
 
 pub join_mask-requires-clause-lower : goal.join_mask-requires-clause-lower
-join_mask-requires-clause-lower c =
+join_mask-requires-clause-lower g c =
     let w = in_step c.rank.ensures.table.paired c.rank.ensures.rank c.requires.block c.loop-i-test.true in
     (pair_classes c.rank.ensures.table c.loop-i.invariant.fronted w (c.block.ensures.pairs c.loop-i.i w.early)).0
 
 pub join_mask-requires-clause-upper : goal.join_mask-requires-clause-upper
-join_mask-requires-clause-upper c =
+join_mask-requires-clause-upper g c =
     let w = in_step c.rank.ensures.table.paired c.rank.ensures.rank c.requires.block c.loop-i-test.true in
     (pair_classes c.rank.ensures.table c.loop-i.invariant.fronted w (c.block.ensures.pairs c.loop-i.i w.early)).1
 
-pub bounds-cells-cell-then-next-eq0 : goal.bounds-cells-cell-then-next-eq0
-bounds-cells-cell-then-next-eq0 c =
-    let w = in_step c.rank.ensures.table.paired c.rank.ensures.rank c.requires.block c.loop-i-test.true in
-    cell_inside c.rank.ensures.table c.loop-i.invariant.fronted w (c.block.ensures.pairs c.loop-i.i w.early)
-
 pub bounds-out-block : goal.bounds-out-block
-bounds-out-block c =
+bounds-out-block g c =
     let w = in_step c.rank.ensures.table.paired c.rank.ensures.rank c.requires.block c.loop-i-test.true in
     let k = place_inside c.rank.ensures.table c.loop-i.invariant.fronted w (c.block.ensures.pairs c.loop-i.i w.early) in
     subst (λ z. z < length c.loop-i.out) (sym (place_is c.rank.ensures.table.paired c.args.block c.loop-i.i c.rank.ensures.rank)) k
 
 pub overflow_mul-out : goal.overflow_mul-out
-overflow_mul-out c =
-    let w = place_small _ _ _ _ (bounds-out-block c) c.loop-i.invariant.fronted.celled.made.long c.rank.ensures.table.paired.short in
+overflow_mul-out g c =
+    let w = place_small _ _ _ _ (bounds-out-block g c) c.loop-i.invariant.fronted.celled.made.long c.rank.ensures.table.paired.short in
     omega arith
 
 pub overflow_add-out : goal.overflow_add-out
-overflow_add-out c =
-    let w = place_small _ _ _ _ (bounds-out-block c) c.loop-i.invariant.fronted.celled.made.long c.rank.ensures.table.paired.short in
+overflow_add-out g c =
+    let w = place_small _ _ _ _ (bounds-out-block g c) c.loop-i.invariant.fronted.celled.made.long c.rank.ensures.table.paired.short in
     omega arith
 
 pub offset_bounds-out-block : goal.offset_bounds-out-block
-offset_bounds-out-block c =
-    let w = place_small _ _ _ _ (bounds-out-block c) c.loop-i.invariant.fronted.celled.made.long c.rank.ensures.table.paired.short in
+offset_bounds-out-block g c =
+    let w = place_small _ _ _ _ (bounds-out-block g c) c.loop-i.invariant.fronted.celled.made.long c.rank.ensures.table.paired.short in
     omega arith
 
 pub bounds-joined-count : goal.bounds-joined-count
-bounds-joined-count c =
+bounds-joined-count g c =
     let w = in_step c.rank.ensures.table.paired c.rank.ensures.rank c.requires.block c.loop-i-test.true in
     let k = place_inside c.rank.ensures.table c.loop-i.invariant.fronted w (c.block.ensures.pairs c.loop-i.i w.early) in
     let few = c.loop-i.invariant.fronted.few in
@@ -62,7 +62,7 @@ bounds-joined-count c =
     omega arith
 
 pub overflow_add-count : goal.overflow_add-count
-overflow_add-count c =
+overflow_add-count g c =
     let w = in_step c.rank.ensures.table.paired c.rank.ensures.rank c.requires.block c.loop-i-test.true in
     let early = w.early in
     let few = c.loop-i.invariant.few in
@@ -70,26 +70,39 @@ overflow_add-count c =
     omega arith
 
 pub loop-i-preserved : goal.loop-i-preserved
-loop-i-preserved c =
+loop-i-preserved g c =
     let w = in_step c.rank.ensures.table.paired c.rank.ensures.rank c.requires.block c.loop-i-test.true in
     let is = c.block.ensures.pairs c.loop-i.i w.early in
     let e = place_is c.rank.ensures.table.paired c.args.block c.loop-i.i c.rank.ensures.rank in
     elim c.if-next-eq0.branch [
-      | then-next-eq0 v ↦
-          let next : c.if-next-eq0.next ≡ c.loop-i.count + 1 = omega arith in
-          let number : c.loop-i.count + 1 - 1 ≡ c.loop-i.count = omega arith in
-          record {
-            fronted = rw (e, v.cells-is, v.joined-is, v.count-is, next, number)
-                (fronted_new c.rank.ensures.table c.loop-i.invariant.fronted w is v.join_mask.result v.join_mask.ensures
+      | then-next-eq0 v ↦ elim c.if-next-eq0-3.branch [
+        | then-next-eq0-3 u ↦ elim c.if-this-ne0.branch [
+          | then-this-ne0 t ↦ record {
+            fronted = rw (e, t.cells-is, t.joined-is, v.number-is, u.count-is)
+                (fronted_new c.rank.ensures.table c.loop-i.invariant.fronted w is t.join_mask.result t.join_mask.ensures
                 (sym c.from-next.ensures ∙ v.if-next-eq0.true));
-            few = omega (arith, v.count-is, c.loop-i.invariant.few);
+            few = omega (arith, u.count-is, c.loop-i.invariant.few);
           }
-      | else-next-eq0 v ↦ record {
-        fronted = rw (e, v.cells-is, v.joined-is, v.count-is, v.next-is, c.from-next.ensures)
-            (fronted_old c.rank.ensures.table c.loop-i.invariant.fronted w is (λ z. v.if-next-eq0.false (c.from-next.ensures ∙ z)));
-        few = omega (arith, v.count-is, c.loop-i.invariant.few);
-      }
+          | else-this-ne0+else-next-eq0-2 t ↦ absurd (t.if-next-eq0-2.false v.if-next-eq0.true)
+        ]
+        | else-next-eq0-3 u ↦ absurd (u.if-next-eq0-3.false v.if-next-eq0.true)
+      ]
+      | else-next-eq0 v ↦ elim c.if-next-eq0-3.branch [
+        | then-next-eq0-3 u ↦ absurd (v.if-next-eq0.false u.if-next-eq0-3.true)
+        | else-next-eq0-3 u ↦ elim c.if-this-ne0.branch [
+          | then-this-ne0 t ↦ record {
+            fronted = rw (e, t.cells-is, t.joined-is, v.number-is, u.count-is, c.from-next.ensures)
+                (fronted_again c.rank.ensures.table c.loop-i.invariant.fronted w is t.join_mask.result (λ z. v.if-next-eq0.false (c.from-next.ensures ∙ z)));
+            few = omega (arith, u.count-is, c.loop-i.invariant.few);
+          }
+          | else-this-ne0+else-next-eq0-2 t ↦ record {
+            fronted = rw (e, t.cells-is, t.joined-is, v.number-is, u.count-is, c.from-next.ensures)
+                (fronted_old c.rank.ensures.table c.loop-i.invariant.fronted w is (λ z. v.if-next-eq0.false (c.from-next.ensures ∙ z)));
+            few = omega (arith, u.count-is, c.loop-i.invariant.few);
+          }
+        ]
+      ]
     ]
 
 pub returns : goal.returns
-returns c = grind (arith, fronted_block, step_is)
+returns g c = grind (arith, fronted_block, step_is)

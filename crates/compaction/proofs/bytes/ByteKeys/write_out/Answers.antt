@@ -1,5 +1,4 @@
 use Rattle.std.proofs.Common.{◌≡◌, ℕ, ◌<◌, ◌*◌, ◌%◌, ◌^◌, ap, ◌∙◌, arith}
-use Rattle.std.proofs.lemmas.Grind.{common_steps}
 use Rattle.std.proofs.lemmas.Nat.{one_shl}
 use Rattle.subfunction_classes.proofs.OneMoreVariable.{free_le}
 use Rattle.subfunction_classes.proofs.StripLengths.{length_named}
@@ -20,6 +19,3 @@ unroll-requires-clause-named c = grind (arith, free_le, row_long)
 
 pub of_parts-requires : goal.of_parts-requires
 of_parts-requires c = grind (arith, free_le, row_long)
-
-pub invariant_of-parts : goal.invariant_of-parts
-invariant_of-parts c = grind (arith, common_steps)

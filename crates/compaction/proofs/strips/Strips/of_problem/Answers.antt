@@ -16,7 +16,8 @@ of_parts-requires c =
     let l = c.low_variables.ensures in
     let outer = c.in_ok-outer.field-0.outer.items in
     let numbers = c.in_ok-outer.field-0.numbers.items in
-    subst (HoldsStrips (classes_of p 0) (low_variables p) outer numbers)
+    rw (c.new-parts.ensures.outer, c.new-parts.ensures.numbers, c.new-parts.ensures.masks)
+    (subst (HoldsStrips (classes_of p 0) (low_variables p) outer numbers)
     (sym (c.in_ok-masks.ensures.items_if_clones_equal (λ y e. e)))
     (holds_values p (omega arith) (omega arith) (omega arith) (low_variables p) outer numbers
-    (subst (λ k. HoldsValues p outer numbers (2 ^ k)) l c.in_ok-outer.ensures))
+    (subst (λ k. HoldsValues p outer numbers (2 ^ k)) l c.in_ok-outer.ensures)))

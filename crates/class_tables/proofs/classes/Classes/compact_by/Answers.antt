@@ -4,7 +4,7 @@ use Rattle.subfunction_classes.specs.PairTables.{NumbersPairs}
 use Rattle.subfunction_classes.specs.Places as places
 use Rattle.subfunction_classes.specs.Table.{ClassesOf, HoldsClasses, classes_of, free_below}
 use Rattle.subfunction_classes.proofs.OneMoreVariable.{is_ready, ready_table, holds_more}
-use Rattle.class_tables.proofs.classes.Classes.compact_indexed.Goals as goal
+use Rattle.class_tables.proofs.classes.Classes.compact_by.Goals as goal
 
 pub of_table-pairs-requires-clause-table : goal.of_table-pairs-requires-clause-table
 of_table-pairs-requires-clause-table c = grind (arith, is_ready, ready_table)
