@@ -16,3 +16,4 @@ pub mod Texts
 pub mod PairTexts
 pub mod OrderFaults
 pub mod OrderedGraphs
+pub mod RefNumbers

@@ -17,7 +17,8 @@ use Rattle.definitions.proofs.Functions.Tables.{table_same}
 use Rattle.sifting.specs.declared.levels.Level.{Level}
 use Rattle.sifting.specs.Managed.{truth_tables_of}
 use Rattle.sifting.specs.LevelLists.{nodes_of, problem_at}
-use Rattle.sifting.specs.Cuts.{code_of, ref_of, split_ref, ref_at, is_true, Splits, Numbers, IsBuilt}
+use Rattle.definitions.specs.RefNumbers.{ref_named}
+use Rattle.sifting.specs.Cuts.{code_of, split_ref, ref_at, is_true, Splits, Numbers, IsBuilt}
 use Rattle.sifting.proofs.Paths.{place_inside}
 use Rattle.sifting.proofs.ManagerFields.{twice}
 use Rattle.sifting.proofs.SplitCuts.{half, ref_code, code_ref, Stands, split_value, split_stands, split_tells}
@@ -25,7 +26,7 @@ use Rattle.definitions.proofs.Sifting.Placements.{own_place}
 
 -- ---- lists
 
-ref_at-map : (codes : List ℕ) (k : ℕ) → k < length codes → ref_at (map ref_of codes) k ≡ ref_of (get_or codes k 0)
+ref_at-map : (codes : List ℕ) (k : ℕ) → k < length codes → ref_at (map ref_named codes) k ≡ ref_named (get_or codes k 0)
 ref_at-map [] k h = absurd (omega arith)
 ref_at-map (c ∷ codes) zero h = refl
 ref_at-map (c ∷ codes) (suc k) h = ref_at-map codes k (omega arith)
@@ -109,16 +110,16 @@ module _ (order : List ℕ) (o : IsOrder (length order) order) (d : Graph) (ok :
   }
     where
       long : length cut ≡ length n.codes
-      long = ap length n.cut_is ∙ length-map n.codes ref_of
+      long = ap length n.cut_is ∙ length-map n.codes ref_named
 
-      at_is : (k : ℕ) → k < length n.codes → ref_at cut k ≡ ref_of (get_or n.codes k 0)
+      at_is : (k : ℕ) → k < length n.codes → ref_at cut k ≡ ref_named (get_or n.codes k 0)
       at_is k h = ap (λ c. ref_at c k) n.cut_is ∙ ref_at-map n.codes k h
 
       codes_same : (j k : ℕ) → j < length n.codes → k < length n.codes → ref_at cut j ≡ ref_at cut k → get_or n.codes j 0 ≡ get_or n.codes k 0
       codes_same j k a b e = sym (code_ref (get_or n.codes j 0)) ∙ ap code_of (sym (at_is j a) ∙ e ∙ at_is k b) ∙ code_ref (get_or n.codes k 0)
 
       root_is : (j : ℕ) → j < length d.roots → ref_at cut (get_or numbers j 0) ≡ ref_at d.roots j
-      root_is j h = at_is (get_or numbers j 0) (n.first.inside j h) ∙ ap ref_of (n.first.numbered j h) ∙ ref_code (ref_at d.roots j)
+      root_is j h = at_is (get_or numbers j 0) (n.first.inside j h) ∙ ap ref_named (n.first.numbered j h) ∙ ref_code (ref_at d.roots j)
 
   -- one level more
   pub built_more : (done : ℕ) (levels : List (List Children)) (cut next : List Ref) (L : List Children) → done < length order →
@@ -147,9 +148,9 @@ module _ (order : List ℕ) (o : IsOrder (length order) order) (d : Graph) (ok :
       x = get_or order done 0
 
       long : length next ≡ length s.codes
-      long = ap length s.next_is ∙ length-map s.codes ref_of
+      long = ap length s.next_is ∙ length-map s.codes ref_named
 
-      at_is : (k : ℕ) → k < length s.codes → ref_at next k ≡ ref_of (get_or s.codes k 0)
+      at_is : (k : ℕ) → k < length s.codes → ref_at next k ≡ ref_named (get_or s.codes k 0)
       at_is k h = ap (λ c. ref_at c k) s.next_is ∙ ref_at-map s.codes k h
 
       codes_same : (j k : ℕ) → j < length s.codes → k < length s.codes → ref_at next j ≡ ref_at next k → get_or s.codes j 0 ≡ get_or s.codes k 0
@@ -160,9 +161,9 @@ module _ (order : List ℕ) (o : IsOrder (length order) order) (d : Graph) (ok :
           (child c (at L k) < length s.codes)
           × (ref_at next (child c (at L k)) ≡ half c (split_ref d.nodes (get_or order done 0) (ref_at cut k)))
       child_is k h true = let i = (s.split.inside k h).1 in
-          (i, at_is (at L k).1 i ∙ ap ref_of (s.split.on k h) ∙ ref_code (split_ref d.nodes (get_or order done 0) (ref_at cut k)).1)
+          (i, at_is (at L k).1 i ∙ ap ref_named (s.split.on k h) ∙ ref_code (split_ref d.nodes (get_or order done 0) (ref_at cut k)).1)
       child_is k h false = let i = (s.split.inside k h).0 in
-          (i, at_is (at L k).0 i ∙ ap ref_of (s.split.off k h) ∙ ref_code (split_ref d.nodes (get_or order done 0) (ref_at cut k)).0)
+          (i, at_is (at L k).0 i ∙ ap ref_named (s.split.off k h) ∙ ref_code (split_ref d.nodes (get_or order done 0) (ref_at cut k)).0)
 
       level : IsLevel (length (map is_true next)) L
       level = record {

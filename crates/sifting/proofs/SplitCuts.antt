@@ -13,20 +13,21 @@ use Rattle.definitions.specs.Functions.{Point, bit}
 use Rattle.definitions.specs.Orders.{place_in}
 use Rattle.definitions.specs.Diagrams.{Graph, AreNodes, IsDiagram, IsBefore, IsOrdered, IsReduced, value}
 use Rattle.definitions.proofs.Nodes.Paths.{before_more, child_before, value_place, StandsFrom, stands_less, child_stands}
-use Rattle.sifting.specs.Cuts.{code_of, ref_of, split_ref, split_node}
+use Rattle.definitions.specs.RefNumbers.{ref_named}
+use Rattle.sifting.specs.Cuts.{code_of, split_ref, split_node}
 
 -- the half that a value takes
 abbrev pub half : Bool → Ref × Ref → Ref
 half b h = cond b h.1 h.0
 
-pub ref_code : (r : Ref) → ref_of (code_of r) ≡ r
-unfolding ref_of code_of
+pub ref_code : (r : Ref) → ref_named (code_of r) ≡ r
+unfolding ref_named code_of
 ref_code (Terminal false) = refl
 ref_code (Terminal true) = refl
-ref_code (Place k) = let e : k + 2 ≡ suc (suc k) = omega arith in ap ref_of e
+ref_code (Place k) = let e : k + 2 ≡ suc (suc k) = omega arith in ap ref_named e
 
-pub code_ref : (c : ℕ) → code_of (ref_of c) ≡ c
-unfolding ref_of code_of
+pub code_ref : (c : ℕ) → code_of (ref_named c) ≡ c
+unfolding ref_named code_of
 code_ref zero = refl
 code_ref (suc zero) = refl
 code_ref (suc (suc k)) = omega arith
@@ -182,14 +183,14 @@ pub split_else : (nodes : List Node) (x : ℕ) (r : Ref) (k : ℕ) (v : Node) �
 unfolding split_ref
 split_else nodes x r k v e h ne = grind (arith, node_at, place_inside, ne_eqb)
 
-pub ref_small : (c : ℕ) → c < 2 → Terminal (nat_eq c 1) ≡ ref_of c
-unfolding ref_of
+pub ref_small : (c : ℕ) → c < 2 → Terminal (nat_eq c 1) ≡ ref_named c
+unfolding ref_named
 ref_small zero h = refl
 ref_small (suc zero) h = refl
 ref_small (suc (suc k)) h = absurd (omega arith)
 
-pub ref_large : (c : ℕ) → 2 ≤ c → Place (c - 2) ≡ ref_of c
-unfolding ref_of
+pub ref_large : (c : ℕ) → 2 ≤ c → Place (c - 2) ≡ ref_named c
+unfolding ref_named
 ref_large zero h = absurd (omega arith)
 ref_large (suc zero) h = absurd (omega arith)
 ref_large (suc (suc k)) h = let e : suc (suc k) - 2 ≡ k = omega arith in ap Place e

@@ -1,14 +1,15 @@
 -- The refs that paths come to between two levels of a diagram.
---     code_of r, ref_of c      a ref as a number, and back
+--     code_of r      a ref as a number
 --     split_ref nodes x r      the two refs below a variable: the children of a node that tests it, else the ref itself
 --     NumbersFirst      nodes whose children are numbered by first occurrence of their keys
 --     IsBuilt      levels whose functions are those of a diagram's roots
-use Rattle.std.specs.Prelude.{◌≡◌, ℕ, zero, suc, ◌+◌, ◌<◌, ◌≤◌, Bool, true, false, if◌then◌else◌, List, length, map, slice_index, get_or, slice_get, nat_eq}
+use Rattle.std.specs.Prelude.{◌≡◌, ℕ, ◌+◌, ◌<◌, ◌≤◌, Bool, false, if◌then◌else◌, List, length, map, slice_index, get_or, slice_get, nat_eq}
 use Rattle.std.specs.declared.option.Option.{Option}
 use Rattle.std.specs.declared.option.Option.TheVariants.{Some, None}
 use Rattle.definitions.specs.declared.refs.Ref.{Ref}
 use Rattle.definitions.specs.declared.refs.Ref.TheVariants.{Terminal, Place}
 use Rattle.definitions.specs.declared.refs.Node.{Node}
+use Rattle.definitions.specs.RefNumbers.{ref_named}
 use Rattle.definitions.specs.Functions.{SameFunction}
 use Rattle.definitions.specs.Diagrams.{value}
 use Rattle.sifting.specs.Leveled.{Children, function_at, NumbersFirst}
@@ -18,12 +19,6 @@ use Rattle.sifting.specs.LevelLists.{IsLeveled}
 unfoldable pub code_of : Ref → ℕ
 code_of (Terminal b) = if b then 1 else 0
 code_of (Place k) = k + 2
-
--- the ref with a number
-unfoldable pub ref_of : ℕ → Ref
-ref_of zero = Terminal false
-ref_of (suc zero) = Terminal true
-ref_of (suc (suc k)) = Place k
 
 -- the two refs below a variable, from a ref and the node that stands there
 abbrev pub split_node : ℕ → Ref → Option Node → Ref × Ref
@@ -49,7 +44,7 @@ SplitsFirst done nodes x cut level codes =
 pub record Splits (nodes : List Node) (x : ℕ) (cut : List Ref) (level : List Children) (next : List Ref) : Type 0 where
   pub codes : List ℕ
   pub split : SplitsFirst (length cut) nodes x cut level codes
-  pub next_is : next ≡ map ref_of codes
+  pub next_is : next ≡ map ref_named codes
 
 -- the first roots with their numbers, and the codes of the cut above all levels
 pub record RootsFirst (done : ℕ) (roots : List Ref) (numbers : List ℕ) (codes : List ℕ) : Type 0 where
@@ -64,7 +59,7 @@ pub record RootsFirst (done : ℕ) (roots : List Ref) (numbers : List ℕ) (code
 pub record Numbers (roots : List Ref) (numbers : List ℕ) (cut : List Ref) : Type 0 where
   pub codes : List ℕ
   pub first : RootsFirst (length roots) roots numbers codes
-  pub cut_is : cut ≡ map ref_of codes
+  pub cut_is : cut ≡ map ref_named codes
 
 -- whether a ref is terminal 1
 abbrev pub is_true : Ref → Bool

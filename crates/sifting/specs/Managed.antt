@@ -2,6 +2,7 @@
 --     Managed      an order, the truth tables of the functions, and the pairs that the order keeps
 --     truth_tables_of d      the truth tables of a diagram's roots
 --     size_of m, count_of m i      the size and the level counts of the functions under the order
+--     sifted_order m      the order that one pass of sifting gives
 --     SiftedOrder, IsSiftedOrder      an order with its size and level counts, and that they are true
 --     IsNoLarger from to      another order of the same functions and pairs, of no more nodes
 use Rattle.std.specs.Prelude.{◌≡◌, ℕ, ◌<◌, ◌≤◌, List, length, map, slice_index}
@@ -12,6 +13,7 @@ use Rattle.definitions.specs.Pairs.{Pair, Keeps}
 use Rattle.definitions.specs.Problems.{TruthTables, functions}
 use Rattle.definitions.specs.Diagrams.{value}
 use Rattle.definitions.specs.OrderedGraphs.{OrderedGraph}
+use Rattle.definitions.specs.Sifting.{sifted}
 
 -- an order, the truth tables of the functions, and the pairs that the order keeps
 pub record Managed : Type 0 where
@@ -34,6 +36,10 @@ size_of m = size_under m.problem.inputs (functions m.problem) m.order
 abbrev pub count_of : Managed → ℕ → ℕ
 count_of m i = level_count m.problem.inputs (functions m.problem) m.order i
 
+-- the order that one pass of sifting gives
+abbrev pub sifted_order : Managed → List ℕ
+sifted_order m = sifted m.problem.inputs (functions m.problem) m.pairs m.order
+
 -- an order of all variables that keeps the pairs
 pub record IsManagedOrder (m : Managed) : Type 0 where
   pub inputs : m.problem.inputs ≡ length m.order
@@ -55,12 +61,12 @@ pub record HasTrueSize (m : Managed) (size : ℕ) (levels : List ℕ) : Type 0 w
   pub counts : (i : ℕ) → i < length m.order → slice_index levels i ≡ count_of m i
   pub others : (i : ℕ) → length m.order ≤ i → slice_index levels i ≡ 0
 
--- the same, under an order that keeps the pairs
+-- the size and the level counts are true, and the order keeps the pairs
 pub record IsSifted (m : Managed) (size : ℕ) (levels : List ℕ) : Type 0 where
   pub managed : IsManagedOrder m
   pub true_size : HasTrueSize m size levels
 
--- the same, of what a contract sees of a sifted order
+-- the size and the level counts of a sifted order are true, and it keeps the pairs
 abbrev pub IsSiftedOrder : SiftedOrder → Type 0
 IsSiftedOrder s = IsSifted (record { order = s.order; problem = s.problem; pairs = s.pairs }) s.size s.levels
 

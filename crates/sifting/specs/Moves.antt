@@ -85,11 +85,11 @@ pub record WalksUp (m : Managed) (from : ℕ) (w : Walk) : Type 0 where
   pub moved : IsMoved from w.place m w.manager
   pub upward : w.place ≤ from
   pub stops : StopsAbove w.manager.pairs w.manager.order w.place
-  pub best : FindsBest m from w.place from w.best w.least
+  pub best : FindsBest m from w.place from w.best.place w.best.size
 
 -- what moving it down finds
 pub record WalksDown (m : Managed) (from : ℕ) (w : Walk) : Type 0 where
   pub moved : IsMoved from w.place m w.manager
   pub within : w.place < length m.order
   pub stops : StopsBelow w.manager.pairs w.manager.order w.place
-  pub best : FindsBest m from from w.place w.best w.least
+  pub best : FindsBest m from from w.place w.best.place w.best.size

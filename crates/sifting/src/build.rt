@@ -6,7 +6,8 @@ ghost use Rattle.definitions.specs.Orders.{IsOrder};
 ghost use Rattle.definitions.specs.Diagrams.{AreNodes, IsBefore, IsOrdered, IsReduced};
 ghost use Rattle.definitions.specs.OrderedGraphs.{IsDiagramUnder};
 ghost use Rattle.sifting.specs.LevelLists.{nodes_of};
-ghost use Rattle.sifting.specs.Cuts.{code_of, ref_of, split_ref, is_true, RootsFirst, Splits, SplitsFirst, Numbers, IsBuilt};
+ghost use Rattle.definitions.specs.RefNumbers.{ref_named};
+ghost use Rattle.sifting.specs.Cuts.{code_of, split_ref, is_true, RootsFirst, Splits, SplitsFirst, Numbers, IsBuilt};
 
 use crate::levels::{Children, Level};
 use indexmap::IndexSet;
@@ -27,7 +28,7 @@ fn code(r: Ref) -> usize
 
 /// The ref with a number.
 fn reference(code: usize) -> Ref
-    ensures { result ≡ ref_of code }
+    ensures { result ≡ ref_named code }
 {
     if code < 2 {
         Ref::Terminal(code == 1)
@@ -38,7 +39,7 @@ fn reference(code: usize) -> Ref
 
 /// The refs with some numbers.
 fn references(alloc: Global, codes: &[usize]) -> Result<Vec<Ref>, AllocError>
-    ensures { IfOk result (λ v. v.items ≡ map ref_of codes.now) }
+    ensures { IfOk result (λ v. v.items ≡ map ref_named codes.now) }
 {
     let mut refs = Vec::with_capacity(alloc, codes.len())?;
     for code in codes {

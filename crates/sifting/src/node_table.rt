@@ -32,7 +32,7 @@ fn home(homes: usize, node: Children) -> usize
     ((high * homes as u64) >> 32) as usize
 }
 
-/// The number in a slot, if it is that of one of so many nodes.
+/// The number in a slot, if it is that of one of `count` nodes.
 #[inline(always)]
 fn number_in(slot: u32, base: u32, count: usize) -> Option<usize>
     ensures some { IfSome result (HasNumber base count slot) }
@@ -100,7 +100,7 @@ impl NodeTable {
         self.nodes = lower.nodes;
     }
 
-    /// A list without nodes, with room for so many.
+    /// A list without nodes, with room for `most`.
     pub fn spare_list(&mut self, alloc: Global, most: usize) -> Result<Vec<Children>, AllocError>
         ensures { IfOk result (λ v. v.items ≡ []) }
     {
@@ -110,7 +110,7 @@ impl NodeTable {
         Ok(list)
     }
 
-    /// Begins a level of at most so many nodes.
+    /// Begins a level of at most `most` nodes.
     pub fn begin(&mut self, most: usize) -> Result<(), AllocError>
         requires { 2 * most ≤ 2 ^ 32 }
         ensures table { OnOk result (IsNodeTable self.new) }

@@ -3,8 +3,8 @@
 
 ghost use Rattle.std.specs.Prelude.{◌≡◌, ◌<◌, ◌≤◌, length, IfOk};
 ghost use Rattle.definitions.specs.Problems.{functions};
-ghost use Rattle.definitions.specs.Sifting.{best as best_order, sifted};
-ghost use Rattle.sifting.specs.Managed.{size_of};
+ghost use Rattle.definitions.specs.Sifting.{best as best_order};
+ghost use Rattle.sifting.specs.Managed.{size_of, sifted_order};
 ghost use Rattle.sifting.specs.Moves.{IsMoved, PassesBelow, WalksUp, WalksDown};
 
 use crate::manager::Manager;
@@ -59,14 +59,8 @@ fn walk_both<R: Threads>(
 
 /// Who sifts.
 pub(crate) trait Sifter {
-    /// What `Manager::put_best` does, in a pass that began with a diagram of that size.
-    fn put_best(
-        &self,
-        alloc: Global,
-        manager: Manager,
-        x: VarIx,
-        size: u32,
-    ) -> Result<Manager, AllocError>
+    /// What `Manager::put_best` does.
+    fn put_best(&self, alloc: Global, manager: Manager, x: VarIx) -> Result<Manager, AllocError>
         requires { x < length manager.order }
         ensures order { IfOk result
             (λ m. m.order ≡ best_order manager.problem.inputs (functions manager.problem)
@@ -80,7 +74,7 @@ pub(crate) trait Sifter {
 #[derive(Drop)]
 pub(crate) struct CallingThread;
 
-/// The threads of so many workers.
+/// The threads of some workers.
 #[derive(Drop)]
 pub(crate) struct WorkerThreads<'r, R> {
     pub(crate) rt: &'r R,
@@ -88,36 +82,24 @@ pub(crate) struct WorkerThreads<'r, R> {
 }
 
 impl Sifter for CallingThread {
-    fn put_best(
-        &self,
-        alloc: Global,
-        manager: Manager,
-        x: VarIx,
-        _size: u32,
-    ) -> Result<Manager, AllocError> {
+    fn put_best(&self, alloc: Global, manager: Manager, x: VarIx) -> Result<Manager, AllocError> {
         manager.put_best(alloc, x)
     }
 }
 
 impl<'r, R: Threads> Sifter for WorkerThreads<'r, R> {
-    /// By two threads if there are so many workers and the diagram is large.
-    fn put_best(
-        &self,
-        alloc: Global,
-        manager: Manager,
-        x: VarIx,
-        size: u32,
-    ) -> Result<Manager, AllocError> {
-        if self.workers.count() == 1 || size < LEAST_NODES {
+    /// By two threads if there are two workers or more and the diagram is large.
+    fn put_best(&self, alloc: Global, manager: Manager, x: VarIx) -> Result<Manager, AllocError> {
+        if self.workers.count() == 1 || manager.size() < LEAST_NODES {
             return manager.put_best(alloc, x);
         }
         let place = manager.order().place_of(x);
         let (up, down) = walk_both(self.rt, alloc, manager, place)?;
-        if up.least <= down.least {
-            let manager = lower(alloc, up.manager, up.place, up.best)?;
+        if up.best.size <= down.best.size {
+            let manager = lower(alloc, up.manager, up.place, up.best.place)?;
             return Ok(manager);
         }
-        let manager = lift(alloc, down.manager, down.place, down.best)?;
+        let manager = lift(alloc, down.manager, down.place, down.best.place)?;
         Ok(manager)
     }
 }
@@ -125,32 +107,27 @@ impl<'r, R: Threads> Sifter for WorkerThreads<'r, R> {
 impl Manager {
     /// What `sift` does, whoever sifts.
     pub(crate) fn sift_by<S: Sifter>(self, sifter: &S, alloc: Global) -> Result<Sifted, AllocError>
-        ensures order { IfOk result
-            (λ s. s.order ≡ sifted self.problem.inputs (functions self.problem) self.pairs
-            self.order) }
+        ensures order { IfOk result (λ s. s.order ≡ sifted_order self) }
         ensures functions { IfOk result (λ s. s.problem ≡ self.problem) }
         ensures pairs { IfOk result (λ s. s.pairs ≡ self.pairs) }
         ensures size { IfOk result (λ s. s.size ≤ size_of self) }
     {
         let variables = self.by_count(alloc)?;
-        let size = self.size();
         let mut manager = self;
         for x in &variables {
-            manager = sifter.put_best(alloc, manager, *x, size)?;
+            manager = sifter.put_best(alloc, manager, *x)?;
         }
         Ok(Sifted::of(manager))
     }
 
-    /// What `sift` does, by two threads if there are so many workers and the diagram is large.
+    /// What `sift` does, by two threads if there are two workers or more and the diagram is large.
     pub fn sift_by_threads<R: Threads>(
         self,
         rt: &R,
         alloc: Global,
         workers: Workers,
     ) -> Result<Sifted, AllocError>
-        ensures order { IfOk result
-            (λ s. s.order ≡ sifted self.problem.inputs (functions self.problem) self.pairs
-            self.order) }
+        ensures order { IfOk result (λ s. s.order ≡ sifted_order self) }
         ensures functions { IfOk result (λ s. s.problem ≡ self.problem) }
         ensures pairs { IfOk result (λ s. s.pairs ≡ self.pairs) }
         ensures size { IfOk result (λ s. s.size ≤ size_of self) }

@@ -1,5 +1,5 @@
 use Rattle.std.proofs.Common.{◌∙◌, ap, map}
-use Rattle.sifting.specs.Cuts.{ref_of}
+use Rattle.definitions.specs.RefNumbers.{ref_named}
 use Rattle.sifting.proofs.build.split.Goals as goal
 
 pub returns : goal.returns
@@ -7,5 +7,5 @@ returns c =
     record {
       codes = c.number_halves.new.codes.keys;
       split = c.in_ok-number_halves.ensures;
-      next_is = c.in_ok-next.ensures ∙ ap (map ref_of) c.as_slice.ensures.keys;
+      next_is = c.in_ok-next.ensures ∙ ap (map ref_named) c.as_slice.ensures.keys;
     }

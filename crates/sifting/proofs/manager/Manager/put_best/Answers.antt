@@ -14,11 +14,11 @@ lift-requires-clause-lawful c =
     let up = subst (λ k. IsMoved k top self raised) place c.in_ok-manager.ensures.moved in
     let upward = subst (λ k. top ≤ k) place c.in_ok-manager.ensures.upward in
     let walk = c.in_ok-down.ensures in
-    passes_back self raised down.manager c.args.x top down.place down.best down.least c.order.ensures.managed c.requires up upward
+    passes_back self raised down.manager c.args.x top down.place down.best.place down.best.size c.order.ensures.managed c.requires up upward
     c.in_ok-manager.ensures.stops
     (moved_on (place_in self.order c.args.x) top down.place self raised down.manager upward up walk.moved)
     (subst (λ n. down.place < n) up.length_stays walk.within) walk.stops
-    (finds_from (place_in self.order c.args.x) top top down.place down.best down.least self raised upward up walk.best)
+    (finds_from (place_in self.order c.args.x) top top down.place down.best.place down.best.size self raised upward up walk.best)
 
 pub returns-clause-order : goal.returns-clause-order
 returns-clause-order c =
@@ -30,9 +30,9 @@ returns-clause-order c =
     let up = subst (λ k. IsMoved k top self raised) place c.in_ok-manager.ensures.moved in
     let upward = subst (λ k. top ≤ k) place c.in_ok-manager.ensures.upward in
     let walk = c.in_ok-down.ensures in
-    best_is self raised down.manager c.args.x top down.place down.best down.least c.order.ensures.managed c.requires up upward
+    best_is self raised down.manager c.args.x top down.place down.best.place down.best.size c.order.ensures.managed c.requires up upward
     c.in_ok-manager.ensures.stops
     (moved_on (place_in self.order c.args.x) top down.place self raised down.manager upward up walk.moved)
     (subst (λ n. down.place < n) up.length_stays walk.within) walk.stops
-    (finds_from (place_in self.order c.args.x) top top down.place down.best down.least self raised upward up walk.best)
+    (finds_from (place_in self.order c.args.x) top top down.place down.best.place down.best.size self raised upward up walk.best)
     c.in_ok-manager-2.manager c.in_ok-manager-2.ensures
