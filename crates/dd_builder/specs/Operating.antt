@@ -5,7 +5,7 @@
 --     IsSettled operation a b settled      such an id, if there is one
 --     IsCut s level id low high      an id as a node of a level, with two children below
 --     IsCombined s from operation a b id      the id of an operation, which lies at a level or below it
---     AreCombined s s' operation a b id      the same for each level at which or below which both ids lay
+--     AreCombined s s' operation a b id      the id lies at each level at which or below which both ids lay, or below it
 use Rattle.std.specs.Prelude.{◌≡◌, ℕ, ◌<◌, ◌≤◌, ◌⊎◌, Bool, true, false, Option, Some, None}
 use Rattle.definitions.specs.Functions.{Point}
 use Rattle.node_words.specs.declared.operation.Operation.{Operation}
@@ -52,7 +52,7 @@ pub record IsCombined (s : Knowledge) (from : ℕ) (operation : Operation) (a b 
   pub means : Means s id (combined_in s operation a b)
   pub level : from ≤ depth_in s id
 
--- the same in a session that went on, for each level at which or below which both ids lay
+-- in a session that went on, the id of an operation on two ids lies no higher than the level at which or below which both lay
 abbrev pub AreCombined : Knowledge → Knowledge → Operation → ℕ → ℕ → ℕ → Type 0
 AreCombined s s' operation a b id = (from : ℕ) → from ≤ levels_of s.store.plan → IsFrom s from a → IsFrom s from b →
     IsCombined s' from operation a b id

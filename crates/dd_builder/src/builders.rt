@@ -84,8 +84,8 @@ fn ends_of_workers<R: Threads + Sync, G: Gate>(
     Ok(ended)
 }
 
-/// Builds all parts, by workers of their own threads: a session that knows them, or one that knows
-/// a full store if a worker met it.
+/// Builds all parts, by workers that each have a thread: a session that knows the parts, or one
+/// that knows a full store if a worker met it.
 fn parts_by_workers<R: Threads + Sync, G: Gate>(
     crew: &Crew<'_, R, G>,
     alloc: Global,
@@ -271,9 +271,9 @@ pub fn build_from<R: Threads + Sync, G: Gate>(
     }
 }
 
-/// Whether a cover has so many terms that its truth tables are the shorter way to its diagram: more
-/// than one for 64 points. Each term takes nodes of the store that the diagram has no use for, and
-/// covers with somewhat more terms fill it.
+/// Whether a diagram is built faster from the truth tables of a cover than from its terms: it has
+/// more than one term for 64 points. Each term takes nodes of the store that the diagram has no use
+/// for, and covers with somewhat more terms fill it.
 fn has_many_terms(cover: &Cover) -> bool {
     cover.terms().len() > (1usize << cover.inputs()) / 64
 }

@@ -40,7 +40,7 @@ impl Model for Workers {
 }
 
 impl Workers {
-    /// That many workers, if there may be so many.
+    /// The number of workers, if it is from 1 to 64.
     pub fn new(count: u8) -> Option<Workers>
         ensures some { IsSome result ↔ ((1 ≤ count) × (count ≤ 64)) }
         ensures value { IfSome result (λ w. w ≡ count) }

@@ -10,7 +10,7 @@ use order_model::{
 use std::alloc::Global;
 use std::process::Abort;
 
-/// How many workers there are, if there may be so many.
+/// How many workers there are, if the number is from 1 to 64.
 fn counted(count: u8) -> Option<u8> {
     Some(Workers::new(count)?.count())
 }

@@ -49,7 +49,7 @@ pub fn start(places: usize, word: u64) -> usize
     (((second >> 32) * places as u64) >> 32) as usize
 }
 
-/// The place that a search comes to after it passed so many others.
+/// The place that a search comes to after it passed `passed` others.
 pub fn probe(start: usize, passed: usize, places: usize) -> usize
     requires start { start < places }
     requires passed { passed < places }

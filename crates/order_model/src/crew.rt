@@ -14,7 +14,7 @@ pub struct Crew<'a, R, G> {
 }
 
 impl<'a, R, G> Crew<'a, R, G> {
-    /// A crew of so many workers, whose threads the runtime starts and who call the gate.
+    /// A crew of `workers` workers, whose threads the runtime starts and who call the gate.
     pub fn new(rt: &'a R, workers: Workers, gate: &'a G) -> Crew<'a, R, G>
         ensures starts { result.rt.now ≡ rt.now }
         ensures workers { result.workers ≡ workers }

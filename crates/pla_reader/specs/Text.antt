@@ -6,7 +6,7 @@ use Rattle.std.specs.Prelude.{ℕ, Bool, true, false, not, if◌then◌else◌, 
 use Rattle.std.specs.List.{slice_split, onto_first, list_all}
 use Rattle.std.specs.Char.{is_ascii_graphic}
 
--- the bytes that have a meaning of their own
+-- the bytes that have a meaning
 abbrev pub line_feed : ℕ
 line_feed = 10
 

@@ -13,7 +13,7 @@ use crate::statements::statement_of;
 use counted_io::{CountedRead, Refused, read_all};
 use std::alloc::Global;
 
-/// The most bytes that an input may have.
+/// The most bytes that an input may have: 16 MiB.
 pub const MOST_BYTES: usize = 16_777_216;
 
 /// The cover of the bytes of an input, or its first fault.

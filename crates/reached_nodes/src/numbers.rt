@@ -9,7 +9,7 @@ use std::marker::Model;
 /// How many places have one page.
 const PAGE: usize = 64;
 
-/// A number for each place, 0 at first. Places in use have their numbers on pages of their own, and
+/// A number for each place, 0 at first. The places in use stand on pages that are allocated, and
 /// all others share a page of zeros, so that the memory is that of the places in use.
 #[derive(Drop)]
 pub(crate) struct Numbers {

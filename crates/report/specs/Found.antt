@@ -36,7 +36,7 @@ pub record IsSiftingOf (m : Managed) (s : Sifting) : Type 0 where
   pub functions : s.bound.problem ≡ m.problem
   pub pairs : s.bound.pairs ≡ m.pairs
 
--- the same of the diagram under the first order
+-- the order sifted from the first order that keeps the pairs, its size, and an order of the same functions that keeps the same pairs
 pub record IsSiftingFor (i : Instance) (s : Sifting) : Type 0 where
   pub sifted : IsSiftedFromFirst i.cover.now i.tables.now i.pairs.now.pairs s.sifted s.size
   pub functions : s.bound.problem ≡ i.tables.now

@@ -32,7 +32,7 @@ pub struct Room {
 }
 
 impl Room {
-    /// Room for so many bytes, by calls that take much.
+    /// Room for `bytes` bytes, by calls that take many bytes.
     pub fn of(bytes: usize) -> Room {
         Room {
             bytes,

@@ -15,7 +15,8 @@ static CERTIFICATE: &[u8] =
 
 static LINE: &[u8] = b"valid 3\n";
 
-/// Whether a check ends so, with these bytes in its writer, which takes so many.
+/// Whether a check has the outcome that is wanted, with `line` in its writer, which takes `room`
+/// bytes.
 fn ends<T: AllocGlobal + Threads + Sync, C: Read + Drop>(
     rt: &T,
     certificate: C,

@@ -40,7 +40,7 @@ IsCertified cover P false text = text ≡ None
 IsCertified cover P true None = ⊥
 IsCertified cover P true (Some text) = IsCertificate cover P (string_bytes text)
 
--- the same of an order, by truth tables
+-- an order's certificate if one is asked for, by truth tables
 abbrev pub IsCertifiedBy : TruthTables → List Pair → List ℕ → Bool → Option (String Global) → Type 0
 IsCertifiedBy t P order false text = text ≡ None
 IsCertifiedBy t P order true None = ⊥

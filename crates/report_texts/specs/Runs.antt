@@ -135,7 +135,7 @@ EndsWell words before after =
     ((line : CommandLine) × IsLineOf words line × (cover : NamedCover) × (text : List ℕ) × IsCover cover
     × IsTextOf line.plan cover text × Appends before after text)
 
--- the same of the report alone
+-- what a run writes to its output, and how it ends
 abbrev pub DeliversReport : RunPlan → (NamedCover → Type 0) → Option (List ℕ) → Option (List ℕ) → Outcome → Type 0
 DeliversReport plan IsRead before after Done = (cover : NamedCover) × (text : List ℕ) × IsRead cover
     × IsTextOf plan cover text × Appends before after text

@@ -40,7 +40,7 @@ report_text cover best other =
     order_lines cover.input_names best ++ counts_lines (levels_under cover best)
     ++ sizes_lines other (nodes_under cover other) (nodes_under cover (variables cover.inputs))
 
--- the same seven lines, by the truth tables of the cover and the sifted order's size
+-- the seven lines of a report, by the truth tables of the cover and the sifted order's size
 abbrev pub report_parts : NamedCover → TruthTables → List ℕ → List ℕ → ℕ → List ℕ
 report_parts cover t best other size =
     order_lines cover.input_names best ++ counts_lines (level_counts t.inputs (functions t) best)

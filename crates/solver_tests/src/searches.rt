@@ -204,7 +204,7 @@ fn open_gate(rt: &impl Abort, alloc: Global) -> Meet {
     }
 }
 
-/// Whether both workers came and met, and each of so many items came once.
+/// Whether both workers came and met, and each of `items` items came once.
 fn saw_each(gate: &Meet, items: u64) -> bool {
     gate.came.load(Ordering::SeqCst) == 0b11
         && gate.calls.load(Ordering::SeqCst) == items

@@ -40,7 +40,7 @@ fn worked(
     (done.seat, count)
 }
 
-/// The cells of a layer, by a lone worker at a board of its own.
+/// The cells of a layer, by a lone worker at a new board.
 fn cells_by_one(
     rt: &impl Abort,
     alloc: Global,

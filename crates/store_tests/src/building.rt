@@ -100,7 +100,7 @@ fn tables_size<R: Abort + Threads + Sync, G: Gate>(
     built.ok().expect(rt, "a diagram").size()
 }
 
-/// Whether a text's cover has a diagram of so many nodes, from its terms and from its truth tables.
+/// Whether a text's cover has a diagram of `size` nodes, from its terms and from its truth tables.
 fn has_size<R: Abort + Threads + Sync>(
     rt: &R,
     alloc: Global,

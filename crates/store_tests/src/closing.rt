@@ -85,8 +85,8 @@ fn publish_some(
     }
 }
 
-/// Makes the two functions and publishes so many of them; with a node that no root reaches, if that
-/// is wanted.
+/// Makes the two functions and publishes the first `published` of them. If `further` is true it also
+/// makes a node that no root reaches.
 fn make_and_publish(
     rt: &impl Abort,
     store: &Store,
@@ -106,8 +106,8 @@ fn make_and_publish(
     }
 }
 
-/// How a store is closed for which so many of the two functions were published; with a node that no
-/// root reaches, if that is wanted.
+/// How a store closes after the first `published` of the two functions were published. If `further`
+/// is true it has a node that no root reaches.
 fn close_both(
     rt: &impl Abort,
     alloc: Global,

@@ -42,7 +42,7 @@ fn make_one(
     true
 }
 
-/// Makes a node of the level for each pair of unequal ids, until there are so many or the store is
+/// Makes a node of the level for each pair of unequal ids, until there are enough or the store is
 /// full, and adds their ids.
 pub(crate) fn make_all(
     rt: &impl Abort,

@@ -109,7 +109,7 @@ impl Layer {
         })
     }
 
-    /// A copy of the layer, in memory of its own.
+    /// A copy of the layer.
     pub fn try_clone(&self, alloc: Global) -> Result<Layer, AllocError>
         ensures same { IfOk result (λ l. l ≡ self.now) }
         ensures few { IfOk result (λ l. l.inputs ≤ 16) }

@@ -32,7 +32,7 @@ impl Selection {
         Ok(Selection { numbers, places })
     }
 
-    /// A copy of the selection, in memory of its own.
+    /// A copy of the selection.
     pub fn try_clone(&self, alloc: Global) -> Result<Selection, AllocError>
         ensures { IfOk result (λ s. s.numbers.items ≡ self.now.numbers.items) }
     {

@@ -25,7 +25,7 @@ impl Model for Session {
     ghost invariant = { IsSession };
 }
 
-/// How much of a store a session has: so many of 2 ^ halvings equal units. A session with all of
+/// How much of a store a session has: `units` of 2 ^ halvings equal units. A session with all of
 /// them is the store's only one. No value of it is made.
 pub struct Stake {
     pub units: u64,

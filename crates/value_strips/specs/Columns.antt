@@ -1,8 +1,8 @@
 -- Runs of 256 points, four words each, of which equal ones are kept once.
 --     AreChainedRuns kept next heads      the kept runs are chained: a head, or a run's next, is one more than an earlier run's number, or 0 at the end
---     IsChained columns      the same of columns
+--     IsChained columns      the kept runs of columns are chained
 --     KeepsRuns values outer kept count      `outer` names a kept run for each run of the values
---     KeepsValues columns values      the same of columns
+--     KeepsValues columns values      columns name a kept run for each run of the values
 --     AddsRuns old new words      the runs of some words stand behind the others
 --     AreByteRows first rows      the numbers of each byte's values stand in its row
 --     low_numbers first word count, packed_numbers first words count      the numbers of the values in a word's lowest bits; those in words
