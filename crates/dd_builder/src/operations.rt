@@ -1,6 +1,6 @@
 //! Operations on the functions of two ids.
 
-ghost use Rattle.std.specs.Prelude.{◌≡◌, ℕ, ◌+◌, ◌-◌, ◌<◌, ◌≤◌, IfOk, IfSome, IfNone, OnErr, min};
+ghost use Rattle.std.specs.Prelude.{◌≡◌, ◌==◌, ℕ, ◌+◌, ◌-◌, ◌<◌, ◌≤◌, if◌then◌else◌, IfOk, IfSome, IfNone, None, OnErr, Some, min};
 ghost use Rattle.unique_table.specs.Plans.{levels_of};
 ghost use Rattle.unique_table.specs.Sessions.{Knows, Follows, HasUniqueIds, LiesNoHigher, combined_in, depth_in};
 ghost use Rattle.dd_builder.specs.Building.{KnowsFull};
@@ -10,18 +10,30 @@ ghost use Rattle.dd_builder.specs.Operating.{AreOperands, IsFrom, IsSettled, IsC
 use op_cache::{recall, remember};
 use unique_table::{NodeId, Operation, Session, Store, StoreFull};
 
+/// The other operand, if one of them is neutral.
+fn beside_neutral(neutral: NodeId, first: NodeId, second: NodeId) -> Option<NodeId>
+    ensures { result ≡ (if first == neutral then Some second
+        else if second == neutral then Some first else None) }
+{
+    if first == neutral {
+        Some(second)
+    } else if second == neutral {
+        Some(first)
+    } else {
+        None
+    }
+}
+
 /// What a conjunction is if an operand is a terminal, or both are one.
 fn terminal_case_of_and(first: NodeId, second: NodeId) -> Option<NodeId>
     ensures { IsSettled Operation.And first second result }
 {
     if first == 0 || second == 0 {
         Some(0)
-    } else if first == 1 || first == second {
-        Some(second)
-    } else if second == 1 {
+    } else if first == second {
         Some(first)
     } else {
-        None
+        beside_neutral(1, first, second)
     }
 }
 
@@ -31,12 +43,10 @@ fn terminal_case_of_or(first: NodeId, second: NodeId) -> Option<NodeId>
 {
     if first == 1 || second == 1 {
         Some(1)
-    } else if first == 0 || first == second {
-        Some(second)
-    } else if second == 0 {
+    } else if first == second {
         Some(first)
     } else {
-        None
+        beside_neutral(0, first, second)
     }
 }
 
@@ -46,12 +56,8 @@ fn terminal_case_of_xor(first: NodeId, second: NodeId) -> Option<NodeId>
 {
     if first == second {
         Some(0)
-    } else if first == 0 {
-        Some(second)
-    } else if second == 0 {
-        Some(first)
     } else {
-        None
+        beside_neutral(0, first, second)
     }
 }
 

@@ -6,6 +6,10 @@ use Rattle.node_words.specs.Meaning.{value, IsSame, depth}
 pub le_or_lt : (a b : ℕ) → (a ≤ b) ⊎ (b < a)
 le_or_lt a b = grind arith
 
+-- the terminals are told apart by whether they are 1
+pub one_or_zero : (a b : ℕ) → a < 2 → b < 2 → (a == 1) ≡ (b == 1) → a ≡ b
+one_or_zero a b h k l = grind arith
+
 choose : (b : Bool) (x y : Bool) → b ≡ true → (if b then x else y) ≡ x
 choose b x y e = ap (λ (c : Bool). if c then x else y) e
 
@@ -177,15 +181,6 @@ module _ (levels : ℕ) (ws : List ℕ) (nodes : AreNodeWords levels ws) where
 
   is_terminal : (id : ℕ) → IsKnown ws id → levels ≤ depth levels ws id → id < 2
   is_terminal id known most = ⊎_elim (λ (node : 2 ≤ id). let n = shallow id node known in absurd (omega arith)) (λ (small : id < 2). small) (le_or_lt 2 id)
-
-  one_or_zero : (a b : ℕ) → a < 2 → b < 2 → (a == 1) ≡ (b == 1) → a ≡ b
-  one_or_zero zero zero x y e = refl
-  one_or_zero zero (suc zero) x y e = cc
-  one_or_zero (suc zero) zero x y e = cc
-  one_or_zero (suc zero) (suc zero) x y e = refl
-  one_or_zero (suc (suc a)) b x y e = absurd (omega arith)
-  one_or_zero zero (suc (suc b)) x y e = absurd (omega arith)
-  one_or_zero (suc zero) (suc (suc b)) x y e = absurd (omega arith)
 
   terminals : (a b : ℕ) → a < 2 → b < 2 → IsSame levels ws a b → a ≡ b
   terminals a b x y same = one_or_zero a b x y (sym (value_terminal levels ws a (λ j. true) x) ∙ (same (λ j. true) ∙ value_terminal levels ws b (λ j. true) y))

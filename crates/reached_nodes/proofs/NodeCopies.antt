@@ -12,7 +12,7 @@ use Rattle.definitions.proofs.Nodes.Appended.{get_left, get_right}
 use Rattle.node_words.specs.Nodes.{IsKnown, Grows, AreNodeWords, level_of, low_of, high_of}
 use Rattle.node_words.specs.Meaning.{depth}
 use Rattle.node_words.proofs.OneMoreNode.{grows_trans, grows_full}
-use Rattle.node_words.proofs.Meaning.{depth_node, le_or_lt}
+use Rattle.node_words.proofs.Meaning.{depth_node, le_or_lt, one_or_zero}
 use Rattle.node_words.proofs.Functions.{depth_below}
 use Rattle.reached_nodes.specs.Copies.{ref_of, node_of, IsEarlier, IsCopied, blank, blanks, AreCopied, HasPath, here, below, Extends, Copies}
 
@@ -35,9 +35,6 @@ ref_grows xs ys id g known = grind (arith, ⊎_elim, ref_place, ref_terminal, le
 -- a ref of an earlier copy is before
 pub ref_before : (numbers : List ℕ) (p id : ℕ) → IsEarlier numbers p id → IsBefore (get_or numbers p 0 - 1) (ref_of numbers id)
 ref_before numbers p id e = grind (arith, ⊎_elim, ref_place, ref_terminal, le_or_lt)
-
-one_or_zero : (a b : ℕ) → a < 2 → b < 2 → (a == 1) ≡ (b == 1) → a ≡ b
-one_or_zero a b h k l = grind arith
 
 -- ids of one ref are one id
 pub ref_one : (numbers : List ℕ) → ((p q : ℕ) → get_or numbers p 0 ≢ 0 → get_or numbers p 0 ≡ get_or numbers q 0 → p ≡ q) → (a b : ℕ) →

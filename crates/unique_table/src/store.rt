@@ -111,7 +111,7 @@ impl Store {
         self.pieces
     }
 
-    /// The number of the first piece that is an output.
+    /// How many pieces are no outputs: the outputs follow, so this is the number of the first one.
     pub fn roots(&self) -> usize
         ensures value { result ≡ self.now.plan.roots }
         ensures plan { IsPlan self.now.plan }
@@ -317,20 +317,16 @@ impl Store {
         ensures last { IsFinalStore session result }
     {
         let store = Snapshot::of(&self);
-        let Store {
-            table,
-            places,
-            entries,
-            roots,
-            pieces,
-            order,
-        } = self;
+        let places = self.places;
+        let first = places + self.entries + self.roots;
+        let roots = (self.pieces - self.roots) as u8;
+        let Store { table, order, .. } = self;
         let Session { seat } = session;
         ClosedStore {
             closed: table.close_with(seat),
             places,
-            first: places + entries + roots,
-            roots: (pieces - roots) as u8,
+            first,
+            roots,
             order,
             store,
         }
