@@ -4,20 +4,13 @@
 --     IsNumberOf base keys u c      the number of the ref that has the refs of a pair as its children
 --     Seeks base x u keys keys' nodes nodes' c      such a ref is found, or put behind the others
 --     IsNumbered x old pairs keys nodes numbers, IsLevelAbove x old below nodes above      the refs of a level
-use Rattle.std.specs.Prelude.{◌≡◌, ◌≢◌, ℕ, zero, suc, ◌+◌, ◌<◌, ◌≤◌, ◌⊎◌, false, true, List, [], ◌∷◌, ◌++◌, length, map, slice_index, get_or, slice_get}
+use Rattle.std.specs.Prelude.{◌≡◌, ◌≢◌, ℕ, ◌+◌, ◌<◌, ◌≤◌, ◌⊎◌, List, [], ◌∷◌, ◌++◌, length, map, slice_index, get_or, slice_get}
 use Rattle.std.specs.List.{IsDistinct}
 use Rattle.std.specs.declared.option.Option.TheVariants.{Some}
 use Rattle.definitions.specs.Widths.{same_pair}
-use Rattle.definitions.specs.declared.refs.Ref.{Ref}
-use Rattle.definitions.specs.declared.refs.Ref.TheVariants.{Terminal, Place}
 use Rattle.definitions.specs.declared.refs.Node.{Node}
+unfoldable pub use Rattle.definitions.specs.RefNumbers.{ref_named}
 use Rattle.truth_table.specs.Numberings.{pairs_of}
-
--- 0 and 1 are the terminals, k + 2 is the node at place k
-unfoldable pub ref_named : ℕ → Ref
-ref_named zero = Terminal false
-ref_named (suc zero) = Terminal true
-ref_named (suc (suc k)) = Place k
 
 -- the node of variable x with the two refs of a pair
 abbrev pub node_over : ℕ → ℕ × ℕ → Node

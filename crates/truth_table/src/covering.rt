@@ -91,7 +91,7 @@ fn add_term(words: &mut [[u64; 16]; 32], term: &Term, group: usize)
 }
 
 /// The values of all outputs at the points of a group of 32 words: only terms that may hold there
-/// are asked word by word.
+/// are evaluated word by word.
 fn group_words(terms: &[Term], group: usize) -> [[u64; 16]; 32]
     requires { group < 32 }
     ensures { AreGroupWords terms.now group result }
@@ -142,9 +142,12 @@ fn lay_out(
     Ok(words)
 }
 
-/// How many groups are worth a thread if so many terms are asked in each.
+/// How many terms a thread has to try in all to be worth its start.
+const TERMS_WORTH_A_THREAD: usize = 8_192;
+
+/// How many groups are worth a thread if `terms` terms are tried in each.
 fn least_groups(terms: usize) -> usize {
-    if terms == 0 { 8_192 } else { 8_192 / terms }
+    TERMS_WORTH_A_THREAD / terms.max(1)
 }
 
 /// The packed truth tables of m outputs of terms of n inputs, one table after the other.
