@@ -97,7 +97,7 @@ pub(crate) fn cell_line(line: &[u8], n: u8, last: Option<u32>) -> Result<ListedC
     Ok(ListedCell { mask, cost })
 }
 
-/// The format that the first line says.
+/// The format in the first line.
 pub(crate) fn title_line(line: &[u8]) -> Result<u8, LineFault>
     ensures { Says title_fault line.now
         (λ format. format ≡ number_of (get_or (words line.now) 1 [])) result }

@@ -129,7 +129,7 @@ impl<'a> Lines<'a> {
         self.take(|line| number_line(line, name, least, most))
     }
 
-    /// Takes the first line, which says the format.
+    /// Takes the first line, which has the format.
     pub(crate) fn title(&mut self) -> Result<u8, CertFault>
         requires { FitsCount self.old }
         ensures line { TakesLine title_fault self.old self.new

@@ -25,7 +25,7 @@ fn fault_of_bytes(refused: Refused) -> Fault
     }
 }
 
-/// Reads a certificate to its end, and decides what it says.
+/// Reads a certificate to its end, and parses it.
 fn read_certificate<C: CountedRead>(alloc: Global, cert: &mut C) -> Result<Certificate, Fault>
     ensures cert { IfOk result (λ c. IfSome (C.remaining cert.old) (λ text. SpellsWithin text c)) }
     ensures refused { IfErr result

@@ -11,7 +11,7 @@ use clap::{Arg, ArgAction, ArgMatches, Command, value_parser};
 use order_model::Workers;
 use std::alloc::{AllocError, Global};
 
-/// What is asked of a run.
+/// What a run has to do.
 #[derive(Clone, Copy, Debug)]
 pub struct RunPlan<'a> {
     /// How many workers share the work. A count makes no use of them.

@@ -10,7 +10,7 @@ use std::alloc::AllocError;
 /// Why a command line gives no plan. The text of help and of a fault is clap's.
 #[derive(Debug, Drop)]
 pub enum Usage {
-    /// Help was asked for.
+    /// Help was requested.
     Help(Error),
     /// The words are not as the program takes them.
     Refused(Error),

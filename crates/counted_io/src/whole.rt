@@ -19,8 +19,9 @@ pub enum Refused {
     OutOfMemory,
 }
 
-/// Room that is asked for at first, enough for most files. Pages of it that are never written cost
-/// nothing, and once it is given back the C library keeps memory of that size for the next table.
+/// The first allocation for a file's bytes, enough for most files. Pages of it that are never
+/// written cost nothing, and once it is freed the C library keeps memory of that size for the next
+/// table.
 const FIRST_ROOM: usize = 1 << 22;
 
 /// The bytes of a device, read to its end; one with more than the limit is too long.

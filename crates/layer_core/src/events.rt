@@ -4,10 +4,10 @@ use crate::results::CellResult;
 use order_model::Mask;
 use subset_layers::Cell;
 
-/// What a worker asks. Workers are numbered from 1.
+/// A step of a worker. Workers are numbered from 1.
 #[derive(Drop)]
 pub enum Event {
-    /// The worker asks for the next block.
+    /// The worker claims the next block.
     Claim(u8),
     /// The worker fills the cell of a mask.
     Post(u8, CellResult),

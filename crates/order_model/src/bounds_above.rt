@@ -142,7 +142,7 @@ impl<'a> BoundsAbove<'a> {
         }
     }
 
-    /// The most nodes that the width of a member of a set asks for, or `least` if they are fewer.
+    /// The most nodes that the width of a member of a set requires, or `least` if they are fewer.
     fn most_asked(&self, mask: Mask, widths: &WidthRow, least: u64) -> u64
         requires { least < 2 ^ 33 }
         ensures few { result < 2 ^ 33 }
@@ -160,7 +160,7 @@ impl<'a> BoundsAbove<'a> {
         most
     }
 
-    /// The nodes above a set that the width of a member asks for.
+    /// The nodes above a set that the width of a member requires.
     fn nodes_for_width(&self, mask: Mask, x: VarIx, width: u32) -> u64
         requires { x < self.now.problem.inputs }
         ensures few { result < 2 ^ 33 }

@@ -18,7 +18,7 @@ pub enum Fault {
     OutOfMemory,
     /// A file was not opened or made, or a read or a write failed.
     Device,
-    /// A store for building from truth tables was full; no run is refused so.
+    /// A store for building from truth tables was full. No run is refused for this reason.
     StoreFull,
     /// The pairs that the order has to keep are refused.
     Pairs(PairsFault),
@@ -31,7 +31,7 @@ pub enum Fault {
 /// How a run ends.
 #[derive(Clone, Copy, Debug, PartialEq, Eq)]
 pub enum Outcome {
-    /// All that was asked is written; of a check, that the certificate is valid.
+    /// All texts are written; of a check, that the certificate is valid.
     Done,
     /// The certificate is not valid, and the reason is written.
     Invalid,

@@ -168,7 +168,7 @@ impl Progress {
         }
     }
 
-    /// Whether an output `-` says nothing.
+    /// Whether an output may be `-`, which has no meaning.
     fn takes_dont_cares(&self) -> bool
         ensures { result ≡ is_f self.now.logical_type }
     {
@@ -234,7 +234,7 @@ impl Progress {
         }
     }
 
-    /// Takes what the next line says.
+    /// Takes the statement of the next line.
     pub(crate) fn take(&mut self, alloc: Global, statement: Statement) -> Result<(), LineError>
         requires { IsSoundState (state_of self.old) }
         ensures { Takes self.old (line_of statement.entry) self.new result }

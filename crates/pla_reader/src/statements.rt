@@ -8,7 +8,7 @@ ghost use Rattle.pla_reader.specs.Statements.{line_of};
 
 use crate::lines::{content, next_word};
 
-/// What a line says, with the text after its directive, or that of its term.
+/// The statement of a line, with the text after its directive, or that of its term.
 #[derive(Drop)]
 pub(crate) enum Statement<'a> {
     Empty,
@@ -40,7 +40,7 @@ fn is_directive(word: &[u8]) -> bool
     }
 }
 
-/// What a directive says, with the text after it.
+/// The statement of a directive, with the text after it.
 #[tactic(auto, unfolding(crate::specs::Lines::directive))]
 fn directive<'a>(word: &[u8], given: &'a [u8]) -> Statement<'a>
     ensures { line_of result ≡ directive_of word.now (words given.now) }
@@ -64,7 +64,7 @@ fn directive<'a>(word: &[u8], given: &'a [u8]) -> Statement<'a>
     }
 }
 
-/// What a line says.
+/// The statement of a line.
 #[tactic(auto, unfolding(crate::specs::Lines::line_said, crate::specs::Lines::meaning))]
 pub(crate) fn statement_of(line: &[u8]) -> Statement<'_>
     ensures { line_of result ≡ line_said line.now }

@@ -8,7 +8,7 @@ use pla_reader::Cover;
 use truth_table::Tables;
 
 /// What a run searches: a cover with its truth tables, the pairs that the order has to keep,
-/// whether what a certificate lists is asked for, and by how many workers.
+/// whether the entries of a certificate are wanted, and the number of workers.
 #[derive(Drop)]
 pub(crate) struct Instance<'a> {
     pub cover: &'a Cover,

@@ -15,7 +15,7 @@ use std::fs;
 use std::rt::Files;
 use std::thread::Threads;
 
-/// Opens the file, makes the certificate's, and does what the plan asks. A count makes no
+/// Opens the file, makes that of the certificate, and carries out the plan. A count makes no
 /// certificate.
 fn run_on_files<'a, R: Files + AllocGlobal + Threads + Sync, W: CountedWrite>(
     rt: &R,

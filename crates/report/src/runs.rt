@@ -13,7 +13,7 @@ use report_texts::{RunTexts, counts_of, write_texts};
 use std::alloc::Global;
 use std::thread::Threads;
 
-/// What the plan asks to be written of a cover; a certificate only if it has a writer.
+/// The texts of a cover that the plan wants; a certificate only if it has a writer.
 fn planned_texts<'a, R: Threads + Sync>(
     rt: &R,
     alloc: Global,
@@ -44,9 +44,9 @@ fn planned_texts<'a, R: Threads + Sync>(
     }
 }
 
-/// Reads a PLA file and writes what is asked of it: with `count`, the level counts and the size
-/// under the file order, else the first order of the fewest nodes that keeps the pairs, beside the
-/// sifted one, and its certificate if this has a writer.
+/// Reads a PLA file and writes the texts that the plan wants: with `count`, the level counts and
+/// the size under the file order, else the first order of the fewest nodes that keeps the pairs,
+/// beside the sifted one, and its certificate if this has a writer.
 ///
 /// The file is read to its end before anything is decided, and both texts are made whole before the
 /// first byte is written. The certificate goes out first. A count leaves the certificate's writer

@@ -162,7 +162,7 @@ fn search_small(
 }
 
 /// Searches, from the diagram under the first order that keeps the pairs: the first order of the
-/// fewest nodes, with what its certificate lists if that is asked for.
+/// fewest nodes, with the entries of its certificate if these are wanted.
 pub(crate) fn search<R: Threads + Sync>(
     rt: &R,
     alloc: Global,

@@ -8,7 +8,7 @@ ghost use Rattle.report_texts.specs.Runs.{GetsText, Sends, failures_in, held, pa
 use counted_io::{CountedWrite, Refused, write_whole};
 use outcomes::{Fault, Outcome};
 
-/// The texts that a run writes of a cover: its report, and its certificate if one is asked for.
+/// The texts that a run writes of a cover: its report, and its certificate if one is wanted.
 #[derive(Drop)]
 pub struct RunTexts {
     pub report: String,

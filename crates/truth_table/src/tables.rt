@@ -140,9 +140,9 @@ impl Tables {
         self.values(alloc, self.problem.outputs(), &points)
     }
 
-    /// The level counts under an order, top first, by plain cofactors: the subfunctions below each
-    /// level are told apart, from the bottom level up, and those that depend on the level's
-    /// variable are counted.
+    /// The level counts under an order, top first, by plain cofactors: the distinct subfunctions
+    /// below each level are numbered, from the bottom level up, and those that depend on the
+    /// level's variable are counted.
     pub fn widths_of(&self, alloc: Global, order: &Order) -> Result<Vec<u32>, AllocError>
         requires { length order.now ≡ self.now.inputs }
         ensures { IfOk result

@@ -12,8 +12,8 @@ pub fn equal_functions_have_equal_ids()
     ensures functions { EqualIdsHaveEqualFunctions }
 {}
 
-/// Each step on a word keeps the rule, changes the words as its kind says, and its session's view
-/// gains what its kind says.
+/// Each step on a word keeps the rule, changes the words as its kind allows, and adds to its
+/// session's view what its kind allows.
 pub fn steps_are_of_their_kinds()
     ensures look { Looks }
     ensures put { Puts }
