@@ -10,14 +10,14 @@ ghost use Rattle.pla_reader.specs.Masks.{Fits, ReadsInput, ReadsOutput};
 
 use crate::errors::LineFault;
 use crate::lines::is_separator;
-use order_model::Term;
+use order_model::{Mask, Term};
 
 /// The masks of a term while it is read.
 #[derive(Clone, Copy)]
 pub(crate) struct Masks {
-    care: u16,
-    value: u16,
-    outs: u16,
+    care: Mask,
+    value: Mask,
+    outs: Mask,
 }
 
 /// The masks with the literal of an input character.
@@ -42,7 +42,7 @@ fn with_input(masks: Masks, at: u8, b: u8) -> Result<Masks, LineFault>
     Ok(new)
 }
 
-/// The masks with what an output character says.
+/// The masks with the output of a character.
 fn with_output(masks: Masks, at: u8, b: u8, takes_dont_cares: bool) -> Result<Masks, LineFault>
     requires small { at < 16 }
     requires none { bit_at masks.outs at ≡ 0 }
