@@ -10,6 +10,9 @@ use order_model::{Mask, VarIx, contains};
 use pair_numbering::{EntryPairs, NumberedPairs, number_entries};
 use std::alloc::{AllocError, Global};
 
+/// The pairs of more names than these aren't numbered beforehand.
+const MOST_NAMES: usize = 1 << 12;
+
 /// Names of strips, and the numbers of their pairs by one variable.
 #[derive(Drop)]
 pub(crate) struct NamePairs {
@@ -46,7 +49,7 @@ impl NamePairs {
     fn of(alloc: Global, names: &[u32], rank: u32) -> Result<Option<NamePairs>, AllocError>
         requires rank { rank < 16 }
     {
-        if names.len() > 1 << 12 || !are_whole(names.len(), rank) || are_in_order(names) {
+        if names.len() > MOST_NAMES || !are_whole(names.len(), rank) || are_in_order(names) {
             return Ok(None);
         }
         if !are_below(names, names.len()) {

@@ -14,6 +14,9 @@ use subfunction_classes::join_mask;
 /// A cell of 16 bits is 0 or one more than a number, so there are no more numbers than these.
 const MOST_NUMBERS: usize = 65_535;
 
+/// If more than one of this many pairs was new so far a branch on it would often be mispredicted.
+const MANY_NEW: usize = 4;
+
 /// Numbers the pairs of a block. The answer is how many numbers there are then. If `EVENLY` is true
 /// the mask of each pair is written, without a branch on whether the pair is new.
 #[inline(always)]
@@ -77,7 +80,7 @@ fn number_blocks(
         if count as usize + step > MOST_NUMBERS {
             return None;
         }
-        count = if 4 * count as usize > block * step {
+        count = if MANY_NEW * count as usize > block * step {
             number_block::<true>(pairs, block, cells, out, joined, count)
         } else {
             number_block::<false>(pairs, block, cells, out, joined, count)

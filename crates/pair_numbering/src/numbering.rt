@@ -13,6 +13,9 @@ use crate::slots::number_pairs_by_slots;
 use definitions::Mask;
 use std::alloc::{AllocError, Global};
 
+/// Pairs are numbered by cells if there are no more cells than this for each pair.
+const MOST_CELLS_PER_PAIR: usize = 16;
+
 /// The number of each pair, and the mask of each number.
 #[derive(Drop)]
 pub struct Numbered {
@@ -56,7 +59,7 @@ pub fn number_with_masks(alloc: Global, pairs: &MaskedPairs<'_>) -> Result<Numbe
     let classes = pairs.masks.len();
     let half = pairs.entries.len();
     let cells = classes * classes;
-    if cells <= 16 * half {
+    if cells <= MOST_CELLS_PER_PAIR * half {
         let mut cells = vec![in alloc; 0u16; cells]?;
         if let Some(numbered) = number_pairs_by_cells(alloc, pairs, &mut cells)? {
             return Ok(numbered);
