@@ -175,6 +175,7 @@ impl Manager {
         ensures value { result.now ≡ self.now.order }
         ensures managed { IsManagedOrder self.now }
     {
+        // The read recalls the invariant of the type.
         let _ = &self.levels;
         &self.order
     }
@@ -198,6 +199,7 @@ impl Manager {
         ensures inputs { result.now.inputs ≡ length self.now.order }
         ensures value { result.now.pairs ≡ self.now.pairs }
     {
+        // The read recalls the invariant of the type.
         let _ = &self.levels;
         &self.pairs
     }
