@@ -15,10 +15,10 @@ use rayon::prelude::*;
 use std::alloc::{AllocError, Global};
 use std::thread::Threads;
 
-/// The sets are shared out among tasks by so many of their highest variables.
+/// How many of the highest variables tell the tasks apart that share the sets.
 const PART_VARIABLES: u8 = 6;
 
-/// The tables of sets of so many of the highest variables are made once for all tasks.
+/// How many of the highest variables have the tables of their sets made once for all tasks.
 const SHARED_VARIABLES: u8 = 2;
 
 /// The part at a place. Parts of few variables take longest; laying the low bits over the high ones

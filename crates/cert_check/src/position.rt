@@ -15,7 +15,7 @@ pub(crate) type Edge = (Mask, VarIx);
 pub(crate) struct Edges<'a> {
     pub(crate) problem: &'a Problem,
     pub(crate) values: &'a [u32],
-    pub(crate) judged: &'a [u16],
+    pub(crate) judged: &'a [Mask],
     ghost tables: { AreEdgeTables problem.now.inputs values.now judged.now },
 }
 

@@ -33,7 +33,7 @@ fn needed_widths(alloc: Global, edges: Edges, set: Mask) -> Result<Vec<u32>, All
 }
 
 /// Whether an edge is judged into some set after `set`, of 2 ^ y sets.
-fn has_later(judged: &[u16], set: Mask, y: VarIx) -> bool
+fn has_later(judged: &[Mask], set: Mask, y: VarIx) -> bool
     requires variable { y ≤ 16 }
     requires within { set + 2 ^ y ≤ length judged.now }
     requires few { length judged.now ≤ 2 ^ 16 }
@@ -58,7 +58,8 @@ fn is_hardly_listed(edges: Edges, set: Mask) -> bool
     u64::from(edges.values[set as usize]) + u64::from(outside) >= u64::from(total)
 }
 
-/// Whether the lower classes of the table show that no edge into a set of the upper half fails.
+/// Whether lower bounds on the widths, from the lower classes of the table, show that no edge into
+/// a set of the upper half fails.
 fn passes_by_lower_classes(alloc: Global, at: Position) -> Result<bool, AllocError>
     requires { 0 < at.free }
     ensures { IfOk result (λ none. IsTrue none → IsFirstEdge (FailsInUpper at.entry) None) }

@@ -9,7 +9,7 @@ use std::alloc::{AllocError, Global};
 /// An odd number whose multiples spread over the words of 64 bits.
 const SPREAD: u64 = 0x9E37_79B9_7F4A_7C15;
 
-/// The bucket of a row, of so many.
+/// The bucket of a row.
 fn bucket_of(row: &[u32], buckets: usize) -> usize
     requires some { 0 < buckets }
     ensures within { result < buckets }
@@ -43,7 +43,8 @@ fn is_kept(kept: &[u32], place: usize, row: &[u32]) -> bool
     before == row
 }
 
-/// Whether one of the first half of the rows of 2 ^ y entries is seen to come again among these.
+/// Whether two equal rows of 2 ^ y entries are found in the first half of a table. Any answer is
+/// right: a table without a repeat is kept as it is.
 fn has_repeat(alloc: Global, numbers: &[u32], y: VarIx) -> Result<bool, AllocError>
     requires variable { y ≤ 16 }
     requires few { length numbers.now ≤ 2 ^ 20 }

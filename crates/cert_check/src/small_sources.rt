@@ -18,7 +18,11 @@ fn smallest_source(set: Mask) -> Mask
 }
 
 /// The judged edges, but for those into sets into which each edge leads from a set past `last`.
-pub(crate) fn edges_up_to(alloc: Global, judged: &[u16], last: Mask) -> Result<Vec<u16>, AllocError>
+pub(crate) fn edges_up_to(
+    alloc: Global,
+    judged: &[Mask],
+    last: Mask,
+) -> Result<Vec<Mask>, AllocError>
     requires { length judged.now ≤ 65536 }
     ensures { IfOk result (λ v. AreFewer (IsPast last) judged.entry.now v.items) }
 {

@@ -80,9 +80,9 @@ pub(crate) fn top_tables<'t>(
     Ok(tops)
 }
 
-/// The first edge that fails among those into the sets that differ from `part` in variables below
-/// `end` alone, from the table of the variables of `part` from `y` on, if it was made, or that of
-/// the empty set.
+/// The first edge that fails among those into the sets of a part: `part` with any variables below
+/// `end`. The walk begins at the table among `tops` of the variables of `part` from `y` on, or at
+/// that of the empty set if none was made.
 pub(crate) fn first_from_tops(
     alloc: Global,
     root: Position,
