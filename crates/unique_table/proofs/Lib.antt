@@ -8,3 +8,7 @@ pub mod OpenedStores
 pub mod Parts
 pub mod Roots
 pub mod KindLaws
+pub mod FoundWords
+pub mod NodeCopies
+pub mod CopiedDiagrams
+pub mod PageNumbers

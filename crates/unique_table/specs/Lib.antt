@@ -8,3 +8,5 @@ pub mod Seats
 pub mod Closing
 pub mod Closed
 pub mod Steps
+pub mod Copies
+pub mod Pages

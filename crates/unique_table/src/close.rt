@@ -7,10 +7,10 @@ ghost use Rattle.definitions.specs.Problems.{functions};
 ghost use Rattle.unique_table.specs.Plans.{order_of, levels_of};
 ghost use Rattle.unique_table.specs.Closing.{HasAllRoots, LacksRoot, root_id, root_word, roots_count};
 
+use crate::reached_nodes::reached_nodes;
 use crate::store::Store;
 use atomic_table::Closed;
 use order_model::{Diagram, Order};
-use reached_nodes::reached_nodes;
 use std::alloc::Global;
 use std::marker::Model;
 use std::snapshot::Snapshot;

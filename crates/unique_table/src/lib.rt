@@ -8,6 +8,11 @@ mod plan;
 mod session;
 mod store;
 
+// The diagram of a closed store: the nodes that its roots reach.
+mod node_copies;
+mod page_numbers;
+mod reached_nodes;
+
 // The words that the store lies in, the rule that they keep, and the kinds of steps on them.
 mod atomic_steps;
 pub mod laws;

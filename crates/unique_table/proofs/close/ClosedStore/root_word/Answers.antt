@@ -1,6 +1,6 @@
 use Rattle.std.proofs.Common.{◌≡◌, ℕ, ◌+◌, ◌^◌, ◌≤◌, get_or, ◌∙◌, sym, ap, subst, arith}
 use Rattle.std.specs.Slots.{slots_items}
-use Rattle.reached_nodes.proofs.Words.{get_or_found}
+use Rattle.unique_table.proofs.FoundWords.{get_or_found}
 use Rattle.unique_table.specs.Closed.{closed_store}
 use Rattle.unique_table.specs.Closing.{ClosedStoreOf, root_word}
 use Rattle.unique_table.proofs.Roots.{root_small}

@@ -1,6 +1,6 @@
 use Rattle.std.proofs.Common.{set, arith}
-use Rattle.reached_nodes.proofs.PageNumbers.{numbers_long, in_places, part_in, numbers_set}
-use Rattle.reached_nodes.proofs.numbers.Numbers.set.Goals as goal
+use Rattle.unique_table.proofs.PageNumbers.{numbers_long, in_places, part_in, numbers_set}
+use Rattle.unique_table.proofs.page_numbers.Numbers.set.Goals as goal
 
 pub open_page-requires-clause-part : goal.open_page-requires-clause-part
 open_page-requires-clause-part c = grind (arith, in_places, part_in)

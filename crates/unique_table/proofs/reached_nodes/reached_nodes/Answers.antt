@@ -3,10 +3,10 @@ use Rattle.std.proofs.lemmas.List.{length-replicate}
 use Rattle.std.specs.Slots.{slots_items}
 use Rattle.definitions.specs.declared.refs.Ref.{Ref}
 use Rattle.definitions.specs.declared.refs.Node.{Node}
-use Rattle.reached_nodes.specs.Copies.{words_in, AreCopied, AreRefs, AreReached}
-use Rattle.reached_nodes.proofs.NodeCopies.{copied_none}
-use Rattle.reached_nodes.proofs.CopiedDiagrams.{more_reached, more_refs, reduced_of}
-use Rattle.reached_nodes.proofs.diagram.reached_nodes.Goals as goal
+use Rattle.unique_table.specs.Copies.{words_in, AreCopied, AreRefs, AreReached}
+use Rattle.unique_table.proofs.NodeCopies.{copied_none}
+use Rattle.unique_table.proofs.CopiedDiagrams.{more_reached, more_refs, reduced_of}
+use Rattle.unique_table.proofs.reached_nodes.reached_nodes.Goals as goal
 
 pub loop-id-init : goal.loop-id-init
 loop-id-init c =

@@ -1,7 +1,7 @@
 use Rattle.std.proofs.Common.{arith}
 use Rattle.std.proofs.lemmas.List.{get_or_default}
-use Rattle.reached_nodes.proofs.PageNumbers.{in_places, number_is, part_in, number_in}
-use Rattle.reached_nodes.proofs.numbers.Numbers.get.Goals as goal
+use Rattle.unique_table.proofs.PageNumbers.{in_places, number_is, part_in, number_in}
+use Rattle.unique_table.proofs.page_numbers.Numbers.get.Goals as goal
 
 pub index-requires : goal.index-requires
 index-requires c = grind (arith, in_places, part_in)

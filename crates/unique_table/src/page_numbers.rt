@@ -1,7 +1,7 @@
 //! A number for each of many places, of which few are in use.
 
 ghost use Rattle.std.specs.Prelude.{◌≡◌, ◌≢◌, ℕ, ◌+◌, ◌*◌, ◌<◌, ◌≤◌, length, slice_index, slice_set, vec_len, replicate, IfOk, OnOk};
-ghost use Rattle.reached_nodes.specs.Pages.{number_at, ArePages};
+ghost use Rattle.unique_table.specs.Pages.{number_at, ArePages};
 
 use std::alloc::{AllocError, Global};
 use std::marker::Model;
@@ -20,7 +20,7 @@ pub(crate) struct Numbers {
 
 impl Model for Numbers {
     ghost use Rattle.std.specs.Prelude.{◌≤◌, ◌*◌, ℕ, List, length};
-    ghost use Rattle.reached_nodes.specs.Pages.{numbers_of, ArePages};
+    ghost use Rattle.unique_table.specs.Pages.{numbers_of, ArePages};
 
     ghost Value = { List ℕ };
 

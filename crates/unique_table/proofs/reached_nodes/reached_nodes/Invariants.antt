@@ -1,6 +1,6 @@
 use Rattle.std.proofs.Common.{◌≡◌, length}
-use Rattle.reached_nodes.specs.Copies.{words_in, AreCopied, AreRefs, AreReached}
-use Rattle.reached_nodes.proofs.diagram.reached_nodes.Given as goal
+use Rattle.unique_table.specs.Copies.{words_in, AreCopied, AreRefs, AreReached}
+use Rattle.unique_table.proofs.reached_nodes.reached_nodes.Given as goal
 
 abbrev pub invariant-loop-id : goal.invariant-loop-id
 invariant-loop-id l = record {

@@ -5,24 +5,24 @@ ghost use Rattle.std.specs.List.{All};
 ghost use Rattle.definitions.specs.Orders.{IsOrder};
 ghost use Rattle.node_words.specs.Nodes.{AreUnequal, IsKnown};
 ghost use Rattle.node_words.specs.Meaning.{function_of};
-ghost use Rattle.reached_nodes.specs.Copies.{words_in, HasNodes, IsReducedOf};
+ghost use Rattle.unique_table.specs.Copies.{words_in, HasNodes, IsReducedOf};
 
-use crate::copies::copy;
-use crate::numbers::Numbers;
+use crate::node_copies::copy;
+use crate::page_numbers::Numbers;
 use atomic_table::Closed;
 use order_model::{Node, Ref, VarIx};
 use std::alloc::{AllocError, Global};
 
 /// Nodes, each after its children, and a ref for each root.
 #[derive(Drop)]
-pub struct Reached {
+pub(crate) struct Reached {
     pub nodes: Vec<Node>,
     pub roots: Vec<Ref>,
 }
 
 /// The reduced diagram of the functions that some ids denote, of the node words in the first places
 /// of a closed table.
-pub fn reached_nodes(
+pub(crate) fn reached_nodes(
     alloc: Global,
     closed: &Closed<(), Global>,
     places: usize,

@@ -3,9 +3,9 @@
 ghost use Rattle.std.specs.Prelude.{◌≡◌, ◌^◌, ◌<◌, ◌≤◌, ◌+◌, ◌++◌, ◌∷◌, [], IfOk, OnOk, vec_len, length, slice_index, slice_set};
 ghost use Rattle.std.specs.Slots.{slots_len, IsFull};
 ghost use Rattle.node_words.specs.Nodes.{IsKnown};
-ghost use Rattle.reached_nodes.specs.Copies.{words_in, HasNodes, AreCopied, Copies};
+ghost use Rattle.unique_table.specs.Copies.{words_in, HasNodes, AreCopied, Copies};
 
-use crate::numbers::Numbers;
+use crate::page_numbers::Numbers;
 use atomic_table::Closed;
 use node_words::node_parts;
 use order_model::{Node, Ref, VarIx};

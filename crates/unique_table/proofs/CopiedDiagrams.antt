@@ -16,8 +16,8 @@ use Rattle.node_words.specs.Nodes.{IsKnown, Grows, AreNodeWords, AreUnequal, IsB
 use Rattle.node_words.specs.Meaning.{depth, function_of, branch}
 use Rattle.node_words.proofs.Meaning.{below_low, below_high, shallow, le_or_lt}
 use Rattle.node_words.proofs.Functions.{function_child, function_terminal}
-use Rattle.reached_nodes.specs.Copies.{ref_of, node_of, IsEarlier, IsCopied, AreCopied, HasPath, here, below, Extends, AreRefs, AreReached, IsReducedOf}
-use Rattle.reached_nodes.proofs.NodeCopies.{ref_terminal, ref_place, ref_grows, ref_before, ref_one}
+use Rattle.unique_table.specs.Copies.{ref_of, node_of, IsEarlier, IsCopied, AreCopied, HasPath, here, below, Extends, AreRefs, AreReached, IsReducedOf}
+use Rattle.unique_table.proofs.NodeCopies.{ref_terminal, ref_place, ref_grows, ref_before, ref_one}
 
 -- ---- what is reached
 

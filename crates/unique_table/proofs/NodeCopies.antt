@@ -14,7 +14,7 @@ use Rattle.node_words.specs.Meaning.{depth}
 use Rattle.node_words.proofs.OneMoreNode.{grows_trans, grows_full}
 use Rattle.node_words.proofs.Meaning.{depth_node, le_or_lt, one_or_zero}
 use Rattle.node_words.proofs.Functions.{depth_below}
-use Rattle.reached_nodes.specs.Copies.{ref_of, node_of, IsEarlier, IsCopied, blank, blanks, AreCopied, HasPath, here, below, Extends, Copies}
+use Rattle.unique_table.specs.Copies.{ref_of, node_of, IsEarlier, IsCopied, blank, blanks, AreCopied, HasPath, here, below, Extends, Copies}
 
 choose : (b : Bool) (x y : Ref) → b ≡ true → (if b then x else y) ≡ x
 choose b x y e = ap (λ (c : Bool). if c then x else y) e

@@ -1,8 +1,8 @@
 use Rattle.std.proofs.Common.{sym, ◌∙◌}
 use lib.Seq.{get_or-take}
 use Rattle.std.specs.Slots.{slots_items}
-use Rattle.reached_nodes.proofs.Words.{get_or_found}
-use Rattle.reached_nodes.proofs.copies.word_at.Goals as goal
+use Rattle.unique_table.proofs.FoundWords.{get_or_found}
+use Rattle.unique_table.proofs.node_copies.word_at.Goals as goal
 
 pub returns : goal.returns
 returns c =

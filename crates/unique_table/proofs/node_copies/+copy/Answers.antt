@@ -1,8 +1,8 @@
 use Rattle.std.proofs.Common.{◌-◌, ◌∙◌}
-use Rattle.reached_nodes.specs.Copies.{words_in}
-use Rattle.reached_nodes.proofs.NodeCopies.{copies_step}
-use Rattle.reached_nodes.proofs.PageNumbers.{read_as}
-use Rattle.reached_nodes.proofs.copies.+copy.Goals as goal
+use Rattle.unique_table.specs.Copies.{words_in}
+use Rattle.unique_table.proofs.NodeCopies.{copies_step}
+use Rattle.unique_table.proofs.PageNumbers.{read_as}
+use Rattle.unique_table.proofs.node_copies.+copy.Goals as goal
 
 pub returns-clause-copies : goal.returns-clause-copies
 returns-clause-copies t c =

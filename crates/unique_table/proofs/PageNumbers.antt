@@ -8,7 +8,7 @@ use Rattle.std.proofs.Common.{◌≡◌, ◌≢◌, ℕ, ◌+◌, ◌*◌, ◌/�
 use Rattle.std.proofs.lemmas.Bool.{cases_eq, cases_lt}
 use Rattle.std.proofs.lemmas.List.{ext_get_or, get_or-set_same, get_or-set_other, get_or-replicate, get_or_default, get_or_past, length-replicate, length-set}
 use Rattle.std.proofs.lemmas.List.FromFn.{get_or-map-range_with_len, length-map-range_with_len}
-use Rattle.reached_nodes.specs.Pages.{number_at, numbers_of, ArePages}
+use Rattle.unique_table.specs.Pages.{number_at, numbers_of, ArePages}
 
 pub numbers_long : (places : ℕ) (pages numbers : List ℕ) → length (numbers_of places pages numbers) ≡ places
 unfolding numbers_of

@@ -1,7 +1,7 @@
 use Rattle.std.proofs.Common.{◌∙◌, ap}
-use Rattle.reached_nodes.specs.Pages.{numbers_of}
-use Rattle.reached_nodes.proofs.PageNumbers.{numbers_none}
-use Rattle.reached_nodes.proofs.numbers.Numbers.zeros.Goals as goal
+use Rattle.unique_table.specs.Pages.{numbers_of}
+use Rattle.unique_table.proofs.PageNumbers.{numbers_none}
+use Rattle.unique_table.proofs.page_numbers.Numbers.zeros.Goals as goal
 
 pub returns : goal.returns
 returns c =

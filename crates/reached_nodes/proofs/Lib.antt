@@ -1,4 +1,0 @@
-pub mod Words
-pub mod NodeCopies
-pub mod CopiedDiagrams
-pub mod PageNumbers
