@@ -116,32 +116,18 @@ impl Manager {
         ensures functions { IfOk result (λ m. m.problem ≡ self.problem) }
         ensures pairs { IfOk result (λ m. m.pairs ≡ self.pairs) }
     {
-        let Manager {
-            mut order,
-            roots,
-            mut levels,
-            terminals,
-            pairs,
-            mut table,
-        } = self;
+        let mut manager = self;
         let (upper, lower) = swap_levels(
             alloc,
-            &mut table,
-            &levels[level].nodes,
-            &levels[level + 1].nodes,
+            &mut manager.table,
+            &manager.levels[level].nodes,
+            &manager.levels[level + 1].nodes,
         )?;
-        let upper = mem::replace(&mut levels[level], upper);
-        let lower = mem::replace(&mut levels[level + 1], lower);
-        table.reuse(upper, lower);
-        order.swap(level);
-        Ok(Manager {
-            order,
-            roots,
-            levels,
-            terminals,
-            pairs,
-            table,
-        })
+        let upper = mem::replace(&mut manager.levels[level], upper);
+        let lower = mem::replace(&mut manager.levels[level + 1], lower);
+        manager.table.reuse(upper, lower);
+        manager.order.swap(level);
+        Ok(manager)
     }
 
     /// How many nodes the reduced diagram has. Each level knows its own number, so none is counted

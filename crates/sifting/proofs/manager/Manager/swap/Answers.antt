@@ -14,24 +14,24 @@ index-requires-2 c = grind (arith, length-nodes)
 
 pub swap_levels-requires-clause-few : goal.swap_levels-requires-clause-few
 swap_levels-requires-clause-few c =
-    let s = c.self.inside in
-    let inside = subst (λ (m : Managed). c.args.level + 1 < length m.order) (sym c.self.view_is) c.requires.below in
+    let s = c.manager.inside in
+    let inside = subst (λ (m : Managed). c.args.level + 1 < length m.order) (sym c.manager.view_is) c.requires.below in
     let d = c.index.result.now in
-    let upper = upper_is s.levels.items s.terminals.items s.order s.roots.items s.pairs c.self.invariant c.args.level inside d
+    let upper = upper_is s.levels.items s.terminals.items s.order s.roots.items s.pairs c.manager.invariant c.args.level inside d
     ∙ ap (λ (l : Level). l.nodes.items) (sym c.index.ensures) ∙ sym c.deref.ensures.value in
-    upper_few s.levels.items s.terminals.items s.order s.roots.items s.pairs c.self.invariant c.args.level inside c.deref.result.now upper
+    upper_few s.levels.items s.terminals.items s.order s.roots.items s.pairs c.manager.invariant c.args.level inside c.deref.result.now upper
 
 pub swap_levels-requires-clause-inside : goal.swap_levels-requires-clause-inside
 swap_levels-requires-clause-inside c =
-    let s = c.self.inside in
-    let inside = subst (λ (m : Managed). c.args.level + 1 < length m.order) (sym c.self.view_is) c.requires.below in
+    let s = c.manager.inside in
+    let inside = subst (λ (m : Managed). c.args.level + 1 < length m.order) (sym c.manager.view_is) c.requires.below in
     let d = c.index.result.now in
     let d2 = c.index-2.result.now in
-    let upper = upper_is s.levels.items s.terminals.items s.order s.roots.items s.pairs c.self.invariant c.args.level inside d
+    let upper = upper_is s.levels.items s.terminals.items s.order s.roots.items s.pairs c.manager.invariant c.args.level inside d
     ∙ ap (λ (l : Level). l.nodes.items) (sym c.index.ensures) ∙ sym c.deref.ensures.value in
-    let lower = lower_is s.levels.items s.terminals.items s.order s.roots.items s.pairs c.self.invariant c.args.level inside d2
+    let lower = lower_is s.levels.items s.terminals.items s.order s.roots.items s.pairs c.manager.invariant c.args.level inside d2
     ∙ ap (λ (l : Level). l.nodes.items) (sym c.index-2.ensures) ∙ sym c.deref-2.ensures.value in
-    upper_inside s.levels.items s.terminals.items s.order s.roots.items s.pairs c.self.invariant c.args.level inside c.deref.result.now
+    upper_inside s.levels.items s.terminals.items s.order s.roots.items s.pairs c.manager.invariant c.args.level inside c.deref.result.now
     c.deref-2.result.now upper lower
 
 pub index_mut-requires : goal.index_mut-requires
@@ -41,25 +41,25 @@ pub index_mut-requires-2 : goal.index_mut-requires-2
 index_mut-requires-2 c = grind (arith, length-nodes)
 
 pub swap-requires : goal.swap-requires
-swap-requires c = subst (λ (m : Managed). c.args.level + 1 < length m.order) (sym c.self.view_is) c.requires.below
+swap-requires c = subst (λ (m : Managed). c.args.level + 1 < length m.order) (sym c.manager.view_is) c.requires.below
 
-pub invariant_of-result : goal.invariant_of-result
-invariant_of-result c =
-    let s = c.self.inside in
-    let inside = subst (λ (m : Managed). c.args.level + 1 < length m.order) (sym c.self.view_is) c.requires.below in
+pub invariant_of-manager : goal.invariant_of-manager
+invariant_of-manager c =
+    let s = c.manager.inside in
+    let inside = subst (λ (m : Managed). c.args.level + 1 < length m.order) (sym c.manager.view_is) c.requires.below in
     let lawful =
     subst (λ (m : Managed). has_pair m.pairs (get_or m.order c.args.level 0) (get_or m.order (c.args.level + 1) 0) ≡ false)
-    (sym c.self.view_is) c.requires.lawful in
+    (sym c.manager.view_is) c.requires.lawful in
     let d = c.index.result.now in
     let d2 = c.index-2.result.now in
-    let upper = upper_is s.levels.items s.terminals.items s.order s.roots.items s.pairs c.self.invariant c.args.level inside d
+    let upper = upper_is s.levels.items s.terminals.items s.order s.roots.items s.pairs c.manager.invariant c.args.level inside d
     ∙ ap (λ (l : Level). l.nodes.items) (sym c.index.ensures) ∙ sym c.deref.ensures.value in
-    let lower = lower_is s.levels.items s.terminals.items s.order s.roots.items s.pairs c.self.invariant c.args.level inside d2
+    let lower = lower_is s.levels.items s.terminals.items s.order s.roots.items s.pairs c.manager.invariant c.args.level inside d2
     ∙ ap (λ (l : Level). l.nodes.items) (sym c.index-2.ensures) ∙ sym c.deref-2.ensures.value in
     let exchanges = subst (λ z. z)
     (λ i. Exchanges c.deref.result.now c.deref-2.result.now (sym c.replace-upper.ensures.after i).nodes.items
     (sym c.replace-lower.ensures.after i).nodes.items) c.in_ok-upper.ensures in
-    exchanged_held s.levels.items s.terminals.items s.order s.roots.items s.pairs c.self.invariant c.args.level inside c.deref.result.now
+    exchanged_held s.levels.items s.terminals.items s.order s.roots.items s.pairs c.manager.invariant c.args.level inside c.deref.result.now
     c.deref-2.result.now upper lower lawful
     c.replace-upper.new.dest c.replace-lower.new.dest exchanges c.swap.new.self c.swap.ensures
 
