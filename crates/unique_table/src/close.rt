@@ -1,6 +1,7 @@
 //! Closing a store.
 
 ghost use Rattle.std.specs.Prelude.{◌≡◌, ◌^◌, ◌<◌, ◌≤◌, length, slice_index, IfOk, IfErr, OnOk, map};
+ghost use Rattle.std.specs.Slots.{slots_len};
 ghost use Rattle.std.specs.List.{range_with_len};
 ghost use Rattle.definitions.specs.Diagrams.{Represents, IsReduced};
 ghost use Rattle.definitions.specs.Problems.{functions};
@@ -47,14 +48,7 @@ impl Model for ClosedStore {
 
 impl Drop for ClosedStore {
     fn drop(self) {
-        let ClosedStore {
-            closed,
-            places: _,
-            first: _,
-            roots: _,
-            order: _,
-            store: _,
-        } = self;
+        let (closed, _) = self.take_apart();
         closed.free();
     }
 }
@@ -81,6 +75,16 @@ impl ClosedStore {
         let Ok(reached) = made else {
             return Err((self, CloseFault::OutOfMemory));
         };
+        let (closed, order) = self.take_apart();
+        closed.free();
+        Ok(Diagram::new(order, reached.nodes, reached.roots))
+    }
+
+    /// The words and the order.
+    fn take_apart(self) -> (Closed<(), Global>, Order)
+        ensures slots { slots_len result.0.slots ≡ 0 }
+        ensures order { result.1 ≡ order_of self.plan }
+    {
         let ClosedStore {
             closed,
             places: _,
@@ -89,8 +93,7 @@ impl ClosedStore {
             order,
             store: _,
         } = self;
-        closed.free();
-        Ok(Diagram::new(order, reached.nodes, reached.roots))
+        (closed, order)
     }
 
     /// The ids in the root words.
