@@ -105,7 +105,7 @@ fn with_low_by_threads<'a, R: Threads + Sync>(
 
 /// Who makes tables of larger sets.
 trait TableMaker {
-    // What the maker asks for.
+    // What the maker requires.
     ghost ready: { Self → Type 0 };
 
     /// Tables with one more low variable in each set.
