@@ -1,6 +1,6 @@
 //! The first order of the fewest nodes, and what its certificate lists.
 
-ghost use Rattle.std.specs.Prelude.{◌≡◌, IfOk};
+ghost use Rattle.std.specs.Prelude.{◌≡◌, IfOk, Some};
 ghost use Rattle.report.specs.Bests.{IsBestFor};
 
 use order_model::{ListedCell, NoGate, Pairs, Problem, SizedOrder, Workers};
@@ -14,6 +14,19 @@ use std::thread::Threads;
 pub(crate) struct Best {
     pub optimum: SizedOrder,
     pub cells: Option<Vec<ListedCell>>,
+}
+
+impl Best {
+    /// The order and the cells of a solution.
+    fn of(solution: Solution) -> Best
+        ensures optimum { result.optimum ≡ solution.optimum }
+        ensures cells { result.cells ≡ Some solution.cells }
+    {
+        Best {
+            optimum: solution.optimum,
+            cells: Some(solution.cells),
+        }
+    }
 }
 
 /// The first order of the fewest nodes among those that keep the pairs of a sifted order, and the
@@ -30,15 +43,8 @@ pub(crate) fn best_order<R: Threads + Sync>(
     ensures { IfOk result (IsBestFor prepared.entry.problem bound.pairs certify) }
 {
     if certify {
-        let Solution {
-            optimum,
-            cells,
-            widths: _,
-        } = solve(rt, alloc, prepared, bound, workers, &NoGate)?;
-        return Ok(Best {
-            optimum,
-            cells: Some(cells),
-        });
+        let solution = solve(rt, alloc, prepared, bound, workers, &NoGate)?;
+        return Ok(Best::of(solution));
     }
     let optimum = find_optimum(rt, alloc, prepared, bound, workers, &NoGate)?;
     Ok(Best {
@@ -59,15 +65,8 @@ pub(crate) fn small_best(
     ensures { IfOk result (IsBestFor problem.now pairs.now.pairs certify) }
 {
     if certify {
-        let Solution {
-            optimum,
-            cells,
-            widths: _,
-        } = small_search::solve(alloc, problem, pairs)?;
-        return Ok(Best {
-            optimum,
-            cells: Some(cells),
-        });
+        let solution = small_search::solve(alloc, problem, pairs)?;
+        return Ok(Best::of(solution));
     }
     let optimum = small_search::find_optimum(alloc, problem, pairs)?;
     Ok(Best {
