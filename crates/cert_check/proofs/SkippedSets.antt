@@ -1,15 +1,14 @@
 -- Sets that need not be judged, since an exchange of variables leads to greater ones.
 --     leads_on      a set whose image is greater leads on
 --     none_lost      if no edge fails among those that are left, none fails at all
-use Rattle.std.proofs.Common.{◌≡◌, ℕ, zero, suc, ◌+◌, ◌-◌, ◌^◌, ◌<◌, ◌≤◌, true, ◌&&◌, inl, inr, List, slice_index, eqb, eqb-true, eq-eqb, refl, sym, ap, ◌∙◌, arith}
+use Rattle.std.proofs.Common.{◌≡◌, ℕ, zero, suc, ◌+◌, ◌-◌, ◌^◌, ◌<◌, ◌≤◌, true, inl, inr, List, slice_index, eqb-true, eq-eqb, refl, sym, ap, ◌∙◌, arith}
 use Rattle.std.specs.Int.{bit_at}
 use Rattle.std.proofs.lemmas.Bool.{cases_eq}
 use Rattle.std.proofs.lemmas.Nat.Bits.{bit_at-lt, same_from_bits_below}
 use Rattle.definitions.specs.Functions.{Function}
 use Rattle.definitions.specs.Orders.{has, members}
 use Rattle.definitions.specs.Widths.{width}
-use Rattle.definitions.proofs.Lists.Orders.{has_variables}
-use Rattle.definitions.proofs.Bits.Masks.{has_members, members_without}
+use Rattle.definitions.proofs.Bits.Masks.{members_without}
 use Rattle.definitions.proofs.Widths.Recurrence.{has_without, absent_without}
 use Rattle.cert_check.specs.Edges.{EdgeFails, AreEdgeTables}
 use Rattle.symmetries.specs.Exchanges.{IsExchange}

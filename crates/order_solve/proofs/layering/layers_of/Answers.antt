@@ -1,4 +1,4 @@
-use Rattle.std.proofs.Common.{ℕ, ◌+◌, ◌<◌, ◌≡◌, List, [], ◌∷◌, length, length-append, slice_get, sym, ap, ◌∙◌, subst, arith}
+use Rattle.std.proofs.Common.{ℕ, ◌+◌, List, [], ◌∷◌, length, length-append, slice_get, sym, ap, ◌∙◌, subst}
 use Rattle.subset_layers.specs.Costs.{CostsOf}
 use Rattle.solutions.specs.LayerCosts.{IsLayerFor}
 use Rattle.solutions.proofs.Layers.{layers_done, layers_push}

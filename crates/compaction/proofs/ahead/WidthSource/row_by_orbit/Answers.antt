@@ -1,4 +1,4 @@
-use Rattle.std.proofs.Common.{◌≤◌, ◌∙◌, subst, sym, arith}
+use Rattle.std.proofs.Common.{◌≤◌, ◌∙◌, subst, arith}
 use Rattle.definitions.specs.Problems.{TruthTables}
 use Rattle.symmetries.specs.Orbits.{KeepsWidths}
 use Rattle.compaction.proofs.ahead.WidthSource.row_by_orbit.Goals as goal

@@ -1,4 +1,4 @@
-use Rattle.std.proofs.Common.{◌≡◌, ◌∙◌, ◌/◌, ◌<◌, ℕ, List, [], ap, arith, cond, eqb, get_or, length, slice_index, subst, sym}
+use Rattle.std.proofs.Common.{◌≡◌, ◌∙◌, ◌/◌, ◌<◌, ℕ, List, [], ap, arith, cond, eqb, get_or, length, slice_index, subst}
 use Rattle.std.specs.Int.{bit_at}
 use Rattle.compaction.specs.Rows.{RowsOf}
 use Rattle.compaction.proofs.ImageRows.{row_of_image}
