@@ -12,7 +12,7 @@ has CITATION.cff "version: $version"
 has include/minorder.h "#define MINORDER_VERSION \"$version\""
 has bindings/python/minorder/__init__.py "__version__ = \"$version\""
 has bindings/rust/Cargo.toml "version = \"$version\""
-for line in line:minorder check_line:ordercheck; do
+for line in line:minorder ordercheck_line:ordercheck; do
     grep -qF "\"${line#*:} $version " "crates/command_line/src/${line%:*}.rt" || { echo "--help of ${line#*:} is not of version $version" >&2; status=1; }
 done
 grep -qF "    $((${version%%.*} * 10000 + $(cut -d. -f2 VERSION) * 100 + ${version##*.}))" <(tr -d _ < crates/minorder_c/src/version.rt) ||

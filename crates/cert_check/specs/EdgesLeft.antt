@@ -5,7 +5,7 @@ use Rattle.std.specs.Prelude.{ℕ, List, Option, Result, Ok, Err}
 use Rattle.definitions.specs.Functions.{Function}
 use Rattle.definitions.specs.Certificates as certs
 use Rattle.cert_check.specs.declared.verdict.Reason.{Reason}
-use Rattle.cert_check.specs.declared.checking.EdgesLeft.{EdgesLeft}
+use Rattle.cert_check.specs.declared.decision.EdgesLeft.{EdgesLeft}
 use Rattle.cert_check.specs.Edges.{AreEdgeTables, EdgeFails, IsFirstEdge}
 use Rattle.cert_check.specs.Verdicts.{Judges, edge_verdict, reason_of}
 

@@ -5,21 +5,21 @@
 //! orders, the numbering of pairs of classes and the counting of those that depend on a variable.
 #![tactic(auto)]
 
-mod checking;
 mod class_table;
+mod decision;
 mod edges;
 mod fewer_edges;
 mod head;
 mod lower_classes;
 mod parallel;
 mod position;
-mod pruning;
 mod repeats;
 mod small_sources;
 mod top_tables;
+mod upper_halves;
 mod values;
 mod verdict;
 mod walk;
 
-pub use checking::{check, check_alone};
+pub use decision::{check, check_alone};
 pub use verdict::{Reason, Verdict};

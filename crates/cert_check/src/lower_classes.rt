@@ -7,7 +7,7 @@ ghost use Rattle.subfunction_classes.specs.Places as places;
 ghost use Rattle.cert_check.specs.LowerClasses.{AreLowerMasks, pairs_with};
 
 use order_model::{Mask, VarIx};
-use pair_chains::pair_at;
+use pair_buckets::pair_at;
 use std::alloc::{AllocError, Global};
 use subfunction_classes::{count_with, join_mask};
 

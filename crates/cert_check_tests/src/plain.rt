@@ -126,7 +126,7 @@ impl Plain {
         }
     }
 
-    fn bound_above(&self, cert: &Certificate, set: Mask) -> u32 {
+    fn lower_bound(&self, cert: &Certificate, set: Mask) -> u32 {
         if cert.format() == 1 {
             0
         } else {
@@ -138,13 +138,13 @@ impl Plain {
         if set == self.all {
             return cert.total();
         }
-        let left = cert.total().saturating_sub(self.bound_above(cert, set));
+        let left = cert.total().saturating_sub(self.lower_bound(cert, set));
         listed_cost(cert, set).unwrap_or(left)
     }
 
     /// Whether the cost of a listed cell, with the nodes that must stand above its set, is above the total.
     fn is_too_big(&self, cert: &Certificate, cell: &ListedCell) -> bool {
-        cell.cost.saturating_add(self.bound_above(cert, cell.mask)) > cert.total()
+        cell.cost.saturating_add(self.lower_bound(cert, cell.mask)) > cert.total()
     }
 
     /// Whether an edge between lawful sets, from a listed one, has a width that is too small.

@@ -8,7 +8,7 @@ use Rattle.certificate.specs.Faults.{LineTest, said, inputs_said, field_fault, h
 use Rattle.certificate.specs.Decoded.{numbers_of}
 use Rattle.certificate.specs.Parsing.{FailsFirst, Asks, outcome}
 use Rattle.certificate.specs.Heads.{TakesHead}
-use Rattle.certificate.specs.declared.parsing.Head.{Head}
+use Rattle.certificate.specs.declared.parser.Head.{Head}
 use Rattle.certificate.specs.declared.faults.CertFault.TheVariants as found
 use Rattle.certificate.proofs.LineTests.{IsFrom, field_is}
 

@@ -5,7 +5,7 @@ use Rattle.definitions.specs.Pairs.{Pair}
 use Rattle.definitions.specs.declared.listed_cells.ListedCell.{ListedCell}
 use Rattle.certificate.specs.declared.faults.CertFault.{CertFault}
 use Rattle.certificate.specs.declared.faults.CertFault.TheVariants as found
-use Rattle.certificate.specs.declared.parsing.Head.{Head}
+use Rattle.certificate.specs.declared.parser.Head.{Head}
 use Rattle.certificate.specs.Spelling.{HasSpelling, spelling}
 use Rattle.certificate.specs.Faults.{said, number_said, inputs_said, head_judges, judges, trailing, faults}
 use Rattle.certificate.specs.Decoded.{cert_of}

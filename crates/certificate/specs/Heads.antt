@@ -9,7 +9,7 @@ use Rattle.std.specs.Prelude.{Vec}
 use Rattle.definitions.specs.Pairs.{Pair}
 use Rattle.definitions.specs.Listed.{listed}
 use Rattle.definitions.specs.declared.listed_cells.ListedCell.{ListedCell}
-use Rattle.certificate.specs.declared.parsing.Head.{Head}
+use Rattle.certificate.specs.declared.parser.Head.{Head}
 use Rattle.certificate.specs.declared.faults.CertFault.{CertFault}
 use Rattle.certificate.specs.declared.faults.CertFault.TheVariants as found
 use Rattle.certificate.specs.Faults.{FirstCertFault, LineTest, said, number_said, inputs_said, head_judges, pairs_judges, cells_judges, fixed_fault}

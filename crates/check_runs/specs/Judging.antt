@@ -11,7 +11,7 @@ use Rattle.certificate.specs.Faults.{FirstCertFault}
 use Rattle.certificate.specs.Heads.{most_bytes}
 use Rattle.pla_reader.specs.Covers.{NamedCover, functions_of}
 use Rattle.pla_reader.specs.Reading.{FirstFault}
-use Rattle.command_line.specs.declared.check_line.CheckLine.{CheckLine}
+use Rattle.command_line.specs.declared.ordercheck_line.CheckLine.{CheckLine}
 use Rattle.command_line.specs.Lines.{IsCheckLineOf, ordercheck}
 use Rattle.command_line.specs.Usages.{AsksForHelp}
 use Rattle.counted_io.specs.Counts.{one_more}

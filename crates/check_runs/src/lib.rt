@@ -2,14 +2,14 @@
 #![tactic(auto)]
 
 // The program, from words to a status.
-mod check_program;
+mod program;
 
 // Checks over readers and a writer.
-mod checks;
+mod check_run;
 pub mod laws;
 
 // The lines of verdicts.
 mod verdict_texts;
 
-pub use check_program::ordercheck;
-pub use checks::run_check;
+pub use check_run::run_check;
+pub use program::ordercheck;

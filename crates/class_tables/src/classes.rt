@@ -8,7 +8,7 @@ ghost use Rattle.definitions.specs.Widths.{class_numbers, width as width_over};
 ghost use Rattle.subfunction_classes.specs.Table.{free_below};
 ghost use Rattle.class_tables.specs.Scratch.{most_entries};
 
-use crate::numbering::number_by;
+use crate::indexed_pairs::number_by;
 use crate::scratch::Scratch;
 use compaction::Tally;
 use order_model::{Mask, Problem, VarIx, contains};

@@ -3,7 +3,7 @@
 #![tactic(auto)]
 
 mod classes;
-mod numbering;
+mod indexed_pairs;
 mod scratch;
 
 pub use classes::Classes;

@@ -12,7 +12,7 @@ use Rattle.std.specs.Str.Parse.{IsNumeral, digits_value, without_leading_plus}
 use Rattle.clap.specs.Words.{App, Kinds, Rule, Text, fault_of, first_of, one_of, matches_of, new_app, new_rule, with_rule}
 use Rattle.clap.specs.declared.builder.action.ArgAction.TheVariants.{SetTrue}
 use Rattle.clap.specs.declared.builder.value_parser.ValueParser.TheVariants as parser
-use Rattle.command_line.specs.declared.check_line.CheckLine.{CheckLine}
+use Rattle.command_line.specs.declared.ordercheck_line.CheckLine.{CheckLine}
 use Rattle.command_line.specs.declared.line.Line.{Line}
 
 -- an option with one value

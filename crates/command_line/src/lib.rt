@@ -2,10 +2,10 @@
 #![tactic(auto)]
 
 mod arguments;
-mod check_line;
 mod line;
+mod ordercheck_line;
 mod usage;
 
-pub use check_line::CheckLine;
 pub use line::{Line, RunPlan};
+pub use ordercheck_line::CheckLine;
 pub use usage::Usage;

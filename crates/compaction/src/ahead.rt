@@ -9,10 +9,10 @@ ghost use Rattle.compaction.specs.Rows.{AreWidthRows, HoldsRows, IsWidthRow, wan
 ghost use Rattle.compaction.specs.Walks.{AreAsked, AreRowsOf, Counts, HasRoom};
 
 use crate::blocks::BlockWidths;
+use crate::high_walk::{ByteRows, walked_rows};
 use crate::request::{Wanted, WidthRequest};
 use crate::shared_tables::SharedTables;
 use crate::tally::{Tallies, Tally, count_wanted};
-use crate::walking::{ByteRows, walked_rows};
 use order_model::{Mask, Pairs, Problem, WidthRow};
 use std::alloc::{AllocError, Global};
 use std::marker::Model;

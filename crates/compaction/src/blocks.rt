@@ -6,10 +6,10 @@ ghost use Rattle.subset_layers.specs.Layers.{block_masks};
 ghost use Rattle.compaction.specs.Requests.{Asks};
 ghost use Rattle.compaction.specs.Rows.{AreWidthRows, AreMembers, HoldsRows, wanted_count, most_compactions};
 
+use crate::high_walk::{ByteRows, walked_rows};
 use crate::request::WidthRequest;
 use crate::shared_tables::SharedTables;
 use crate::tally::Tally;
-use crate::walking::{ByteRows, walked_rows};
 use order_model::{Mask, Problem, WidthRow, contains};
 use std::alloc::{AllocError, Global};
 use std::marker::Model;

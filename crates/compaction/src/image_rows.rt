@@ -7,7 +7,7 @@ ghost use Rattle.symmetries.specs.Orbits.{KeepsWidths};
 ghost use Rattle.compaction.specs.Requests.{AreMembersOf};
 ghost use Rattle.compaction.specs.Rows.{HoldsRows, IsWidthRow};
 
-use crate::walking::ByteRows;
+use crate::high_walk::ByteRows;
 use order_model::{Mask, VarIx, WidthRow, contains};
 use symmetries::Image;
 

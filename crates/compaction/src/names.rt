@@ -36,7 +36,7 @@ fn are_below(names: &[u32], limit: usize) -> bool
 }
 
 /// Whether `count` names are whole blocks of pairs.
-fn are_whole(count: usize, rank: u32) -> bool
+fn are_whole_blocks(count: usize, rank: u32) -> bool
     requires { rank < 16 }
     ensures { IsTrue result → (blocks : ℕ) × (count ≡ blocks * (2 * 2 ^ rank)) }
 {
@@ -49,7 +49,7 @@ impl NamePairs {
     fn of(alloc: Global, names: &[u32], rank: u32) -> Result<Option<NamePairs>, AllocError>
         requires rank { rank < 16 }
     {
-        if names.len() > MOST_NAMES || !are_whole(names.len(), rank) || are_in_order(names) {
+        if names.len() > MOST_NAMES || !are_whole_blocks(names.len(), rank) || are_in_order(names) {
             return Ok(None);
         }
         if !are_below(names, names.len()) {

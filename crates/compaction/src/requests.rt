@@ -27,7 +27,11 @@ fn members_of_image(image: &Image, members: Mask) -> Mask {
 
 impl Requests {
     /// All members of the sets of which rows are to be found.
-    pub fn of_sets(alloc: Global, inputs: u8, wanted: &Wanted<'_, '_>) -> Result<Requests, AllocError>
+    pub fn of_sets(
+        alloc: Global,
+        inputs: u8,
+        wanted: &Wanted<'_, '_>,
+    ) -> Result<Requests, AllocError>
         requires { inputs ≤ 16 }
     {
         let mut bytes = Vec::with_capacity(alloc, 256)?;

@@ -5,7 +5,7 @@ ghost use Rattle.std.specs.Io.KnownBytes.{Appends, IsAtEnd};
 ghost use Rattle.counted_io.specs.Counts.{one_more};
 ghost use Rattle.counted_io.specs.Reading.{Refuses};
 
-use crate::counting::{CountedRead, CountedWrite};
+use crate::counters::{CountedRead, CountedWrite};
 use std::alloc::Global;
 
 /// Why the bytes of a device aren't there.

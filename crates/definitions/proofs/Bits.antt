@@ -6,4 +6,4 @@ pub mod Words
 pub mod Tables
 pub mod Problems
 pub mod Ones
-pub mod BoundsAbove
+pub mod LowerBounds

@@ -10,4 +10,4 @@ pub mod Cells
 pub mod Clipped
 pub mod Outside
 pub mod Splits
-pub mod BoundsAbove
+pub mod LowerBounds

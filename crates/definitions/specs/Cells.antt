@@ -12,16 +12,16 @@ use Rattle.definitions.specs.Functions.{Function}
 use Rattle.definitions.specs.Orders.{has, members, without}
 use Rattle.definitions.specs.Pairs.{Pair, is_lawful, tops}
 use Rattle.definitions.specs.Widths.{width, cost, least_of, least, least_with_top}
-use Rattle.definitions.specs.BoundsAbove.{nodes_above}
-use Rattle.definitions.specs.declared.limits.BoundAbove.{BoundAbove}
-use Rattle.definitions.specs.declared.limits.BoundAbove.TheVariants.{Variables, Widths}
+use Rattle.definitions.specs.LowerBounds.{nodes_above}
+use Rattle.definitions.specs.declared.limits.LowerBound.{LowerBound}
+use Rattle.definitions.specs.declared.limits.LowerBound.TheVariants.{Variables, Widths}
 
 -- the first of some variables, and 0 of none
 abbrev pub first_of : List ℕ → ℕ
 first_of xs = slice_index xs 0
 
 -- whether S is lawful, and its least cost and the lower bound on the nodes above it are at most the bound
-unfoldable pub is_within : ℕ → List Function → List Pair → BoundAbove → ℕ → List ℕ → Bool
+unfoldable pub is_within : ℕ → List Function → List Pair → LowerBound → ℕ → List ℕ → Bool
 is_within n F P r bound S = is_lawful P S && nat_le (least n F P S + nodes_above n F r S) bound
 
 -- the smallest of the members that give a lawful S its least cost on top
@@ -29,13 +29,13 @@ unfoldable pub best_top : ℕ → List Function → List Pair → List ℕ → �
 best_top n F P S = first_of (filter (λ x. nat_eq (least_with_top n F P S x) (least n F P S)) (tops P S))
 
 -- the cell of a set that is not empty: within the bound its least cost and its best top, else one more than the bound and its smallest member
-unfoldable pub cell_of : ℕ → List Function → List Pair → BoundAbove → ℕ → ℕ → ℕ × ℕ
+unfoldable pub cell_of : ℕ → List Function → List Pair → LowerBound → ℕ → ℕ → ℕ × ℕ
 cell_of n F P r bound mask =
     if is_within n F P r bound (members n mask) then (least n F P (members n mask), best_top n F P (members n mask))
     else (bound + 1, first_of (members n mask))
 
 -- the cost of a set: its cell's, and 0 for the empty set
-unfoldable pub cell_cost : ℕ → List Function → List Pair → BoundAbove → ℕ → ℕ → ℕ
+unfoldable pub cell_cost : ℕ → List Function → List Pair → LowerBound → ℕ → ℕ → ℕ
 cell_cost n F P r bound mask = if nat_eq mask 0 then 0 else (cell_of n F P r bound mask).0
 
 -- the members without which the cost is within the bound
@@ -43,12 +43,12 @@ unfoldable pub candidates : ℕ → ℕ → ℕ → (ℕ → ℕ) → List ℕ
 candidates n bound mask costs = filter (λ x. nat_le (costs x) bound) (members n mask)
 
 -- the members whose widths the cell takes: these, or all members if the bound is by widths and there is any such
-unfoldable pub asked : ℕ → BoundAbove → ℕ → ℕ → (ℕ → ℕ) → List ℕ
+unfoldable pub asked : ℕ → LowerBound → ℕ → ℕ → (ℕ → ℕ) → List ℕ
 asked n Variables bound mask costs = candidates n bound mask costs
 asked n Widths bound mask costs = if nat_eq (length (candidates n bound mask costs)) 0 then [] else members n mask
 
 -- the costs of the sets without one member, and for a lawful set the widths that its cell takes
-pub record AreForCell (n : ℕ) (F : List Function) (P : List Pair) (r : BoundAbove) (bound mask : ℕ) (costs widths : ℕ → ℕ) : Type 0 where
+pub record AreForCell (n : ℕ) (F : List Function) (P : List Pair) (r : LowerBound) (bound mask : ℕ) (costs widths : ℕ → ℕ) : Type 0 where
   pub are_costs : (x : ℕ) → IsTrue (has (members n mask) x) → costs x ≡ cell_cost n F P r bound (mask - 2 ^ x)
   pub are_widths : IsTrue (is_lawful P (members n mask)) → (x : ℕ) → IsTrue (has (asked n r bound mask costs) x) →
       widths x ≡ width n F (without x (members n mask)) x
@@ -82,28 +82,28 @@ pub record IsFirstLeast (S : List ℕ) (bound : ℕ) (costs widths : ℕ → ℕ
   pub first : (y : ℕ) → y < x → IsTrue (has S y) → costs y ≤ bound → costs y + widths y ≢ costs x + widths x
 
 -- an order read off cells, from a set downward: the cell's variable stands next from the top
-unfoldable pub IsReadFrom : ℕ → List Function → List Pair → BoundAbove → ℕ → ℕ → List ℕ → Type 0
+unfoldable pub IsReadFrom : ℕ → List Function → List Pair → LowerBound → ℕ → ℕ → List ℕ → Type 0
 IsReadFrom n F P r bound mask [] = mask ≡ 0
 IsReadFrom n F P r bound mask (x ∷ order) = IsTrue (has (members n mask) x) × (x ≡ (cell_of n F P r bound mask).1)
     × IsReadFrom n F P r bound (mask - 2 ^ x) order
 
 -- no cell that is met on the way is clipped: each has the cost of the variables that are still to come
-unfoldable pub AreUnclipped : ℕ → List Function → List Pair → BoundAbove → ℕ → ℕ → List ℕ → Type 0
+unfoldable pub AreUnclipped : ℕ → List Function → List Pair → LowerBound → ℕ → ℕ → List ℕ → Type 0
 AreUnclipped n F P r bound mask [] = Unit {0}
 AreUnclipped n F P r bound mask (x ∷ order) =
     ((cell_of n F P r bound mask).0 ≡ cost n F (x ∷ order)) × (cost n F (x ∷ order) ≤ bound)
     × AreUnclipped n F P r bound (mask - 2 ^ x) order
 
 -- the members without which a lawful set is lawful, and its cost within the bound
-unfoldable pub open_tops : ℕ → List Function → List Pair → BoundAbove → ℕ → ℕ → List ℕ
+unfoldable pub open_tops : ℕ → List Function → List Pair → LowerBound → ℕ → ℕ → List ℕ
 open_tops n F P r bound mask = filter
     (λ x. is_lawful P (members n mask) && nat_le (cell_cost n F P r bound (mask - 2 ^ x)) bound) (tops P (members n mask))
 
 -- the members of a set whose widths its cell takes: these, or all members if the bound is by widths and there is any such
-unfoldable pub wanted : ℕ → List Function → List Pair → BoundAbove → ℕ → ℕ → List ℕ
+unfoldable pub wanted : ℕ → List Function → List Pair → LowerBound → ℕ → ℕ → List ℕ
 wanted n F P Variables bound mask = open_tops n F P Variables bound mask
 wanted n F P Widths bound mask = if nat_eq (length (open_tops n F P Widths bound mask)) 0 then [] else members n mask
 
 -- how many widths the cells of all sets take
-unfoldable pub widths_taken : ℕ → List Function → List Pair → BoundAbove → ℕ → ℕ
+unfoldable pub widths_taken : ℕ → List Function → List Pair → LowerBound → ℕ → ℕ
 widths_taken n F P r bound = sum (map (λ mask. length (wanted n F P r bound mask)) (range_with_len 0 (2 ^ n)))

@@ -1,6 +1,6 @@
 -- Certificates that no order has fewer nodes, and the checker's verdict.
 --     Certificate, Cell      the parts of a certificate
---     bound_above n F cert mask, set_value n F cert mask      a lower bound on the nodes above a set; the value that a certificate gives it
+--     lower_bound n F cert mask, set_value n F cert mask      a lower bound on the nodes above a set; the value that a certificate gives it
 --     IsGood n F cert      what the checker accepts
 --     Reason, Applies n F cert reason, IsFirstReason n F cert reason      why it is not good; the first reason that applies
 --     certificate_of n F P order, IsCertOf n F P cert      the certificate that the tool writes
@@ -34,14 +34,14 @@ pub record Certificate : Type 0 where
   pub cells : List Cell
 
 -- the lower bound on the nodes above a set: in format 1 none, in format 2 one for each essential variable outside
-unfoldable pub bound_above : ℕ → List Function → Certificate → ℕ → ℕ
-bound_above n F cert mask = if nat_eq cert.format 1 then 0 else essentials_outside n F (members n mask)
+unfoldable pub lower_bound : ℕ → List Function → Certificate → ℕ → ℕ
+lower_bound n F cert mask = if nat_eq cert.format 1 then 0 else essentials_outside n F (members n mask)
 
 -- the value of a set: its listed cost; if it is unlisted, the total without the nodes above it; the total for all variables
 unfoldable pub set_value : ℕ → List Function → Certificate → ℕ → ℕ
 set_value n F cert mask =
     if nat_eq mask (2 ^ cert.inputs - 1) then cert.total
-    else option_map_or (λ (c : Cell). c.cost) (find (λ (c : Cell). nat_eq c.mask mask) cert.cells) (cert.total - bound_above n F cert mask)
+    else option_map_or (λ (c : Cell). c.cost) (find (λ (c : Cell). nat_eq c.mask mask) cert.cells) (cert.total - lower_bound n F cert mask)
 
 -- a set and the set with x are both lawful
 abbrev pub AreBothLawful : ℕ → List Pair → ℕ → ℕ → Type 0
@@ -56,7 +56,7 @@ pub record IsGood (n : ℕ) (F : List Function) (cert : Certificate) : Type 0 wh
   pub levels : cert.levels ≡ level_counts n F cert.order
   pub total : cert.total ≡ sum cert.levels
   pub start : set_value n F cert 0 ≡ 0
-  pub cells : All (λ (c : Cell). c.cost + bound_above n F cert c.mask ≤ cert.total) cert.cells
+  pub cells : All (λ (c : Cell). c.cost + lower_bound n F cert c.mask ≤ cert.total) cert.cells
   pub edges : All (λ (c : Cell). (x : ℕ) → x < n → IsFalse (has (members n c.mask) x) →
       AreBothLawful n cert.pairs c.mask x →
       set_value n F cert (c.mask + 2 ^ x) ≤ set_value n F cert c.mask + width n F (members n c.mask) x) cert.cells
@@ -74,7 +74,7 @@ Applies n F cert Pairs = IsFalse (keeps cert.pairs cert.order)
 Applies n F cert Levels = cert.levels ≢ level_counts n F cert.order
 Applies n F cert Total = cert.total ≢ sum cert.levels
 Applies n F cert Start = set_value n F cert 0 ≢ 0
-Applies n F cert CellTooBig = (c : Cell) × Contains cert.cells c × (cert.total < c.cost + bound_above n F cert c.mask)
+Applies n F cert CellTooBig = (c : Cell) × Contains cert.cells c × (cert.total < c.cost + lower_bound n F cert c.mask)
 Applies n F cert (Edge mask x) =
     (c : Cell) × Contains cert.cells c × (c.mask ≡ mask) × (x < n) × IsFalse (has (members n mask) x)
     × AreBothLawful n cert.pairs mask x ×

@@ -4,7 +4,7 @@ pub mod Pairs
 pub mod Diagrams
 pub mod Levels
 pub mod Widths
-pub mod BoundsAbove
+pub mod LowerBounds
 pub mod Cells
 pub mod Sifting
 pub mod Certificates

@@ -15,7 +15,7 @@ mod listed_cells;
 mod refs;
 
 pub use faults::{BadOrder, PairsFault};
-pub use limits::{BoundAbove, Limit};
+pub use limits::{Limit, LowerBound};
 pub use listed_cells::ListedCell;
 pub use problem::Problem;
 pub use refs::{Node, Ref};

@@ -3,7 +3,7 @@
 /// The rule of the lower bound on the nodes above a set of variables, if the set is the bottom part
 /// of an order.
 #[derive(Clone, Copy, Debug, PartialEq, Eq)]
-pub enum BoundAbove {
+pub enum LowerBound {
     /// One for each variable outside on which a function depends.
     Variables,
     /// These, or as many as the width of some member needs if that is more.
@@ -14,5 +14,5 @@ pub enum BoundAbove {
 #[derive(Clone, Copy, Debug, PartialEq, Eq)]
 pub struct Limit {
     pub bound: u32,
-    pub bound_above: BoundAbove,
+    pub lower_bound: LowerBound,
 }

@@ -11,7 +11,7 @@ use Rattle.atomic_table.specs.Table.{State, Me, Step}
 use Rattle.subset_layers.specs.Layers.{LayerOf, masks_of, blocks_of}
 use Rattle.layer_core.specs.Machine.{World, Worker, Reply, Claimed, NoMore, Posted, Double, Seen, Empty, claims_block, ends, learns, claimed, knows}
 use Rattle.layer_core.specs.Rights.{Right, total}
-use Rattle.layer_core.specs.Instances.{Instance, cell_for, layout_of}
+use Rattle.layer_core.specs.Instances.{InstanceOf, cell_for, layout_of}
 use Rattle.layer_board.specs.Views.{BriefOf, SeatView, fresh, after}
 
 -- the cell that a word stands for: none for 0
@@ -44,7 +44,7 @@ state_shown l words views = record {
   workers = map worker_of views;
 }
 
-abbrev pub IsCellAt : Instance → ℕ → ℕ × ℕ → Type 0
+abbrev pub IsCellAt : InstanceOf → ℕ → ℕ × ℕ → Type 0
 IsCellAt t mask cell = cell ≡ cell_for t mask
 
 -- each seat stands for at least one of the workers, and together they stand for no more than there are, so the counter does not wrap

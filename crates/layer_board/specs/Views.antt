@@ -3,14 +3,14 @@
 --     BoardId, ClosedBoardOf, SeatOf, ClaimOf      a board, a closed one, a seat, a claim
 use Rattle.std.specs.Prelude.{ℕ, ◌+◌, Bool, false, List, [], length, slice_index, Option, Some, None, if◌then◌else◌}
 use Rattle.atomic_table.specs.Seated.{TableId}
-use Rattle.definitions.specs.declared.limits.BoundAbove.TheVariants.{Variables}
+use Rattle.definitions.specs.declared.limits.LowerBound.TheVariants.{Variables}
 use Rattle.subset_layers.specs.Layers.{LayerOf, BlockOf, masks_of, blocks_of}
 use Rattle.layer_core.specs.Machine.{Worker, unmarked, claimed, knows, place_of, ends, learns}
-use Rattle.layer_core.specs.Instances.{Instance, layout_of}
+use Rattle.layer_core.specs.Instances.{InstanceOf, layout_of}
 
 -- what a board is for: the cells of a layer, for some workers
 pub record BriefOf : Type 0 where
-  pub instance : Instance
+  pub instance : InstanceOf
   pub layer : LayerOf
   pub workers : ℕ
 
@@ -116,7 +116,7 @@ found_empty s mask = found_empty_at s (place_of (layout_of s.board.brief.layer) 
 abbrev pub nothing_known : SeatView
 nothing_known = record {
   brief = record {
-    instance = record { problem = record { inputs = 0; tables = [] }; pairs = record { inputs = 0; pairs = [] }; bound_above = Variables; bound = 0 };
+    instance = record { problem = record { inputs = 0; tables = [] }; pairs = record { inputs = 0; pairs = [] }; lower_bound = Variables; bound = 0 };
     layer = record { inputs = 0; size = 0 };
     workers = 0;
   };

@@ -5,8 +5,8 @@ use Rattle.definitions.specs.Functions.{Function}
 use Rattle.definitions.specs.Pairs.{Pair}
 use Rattle.definitions.specs.Orders.{has, members}
 use Rattle.definitions.specs.Widths.{least}
-use Rattle.definitions.specs.BoundsAbove.{nodes_above}
-use Rattle.definitions.specs.declared.limits.BoundAbove.{BoundAbove}
+use Rattle.definitions.specs.LowerBounds.{nodes_above}
+use Rattle.definitions.specs.declared.limits.LowerBound.{LowerBound}
 use Rattle.definitions.specs.Cells.{cell_of, first_of, is_within, best_top}
 use Rattle.definitions.proofs.Lists.Orders.{has_filter}
 use Rattle.definitions.proofs.Bits.Masks.{members_small}
@@ -22,7 +22,7 @@ first_small (x ∷ xs) n all = omega (arith, all x (ap (λ (b : Bool). b || has 
 sum_le : (a b c : ℕ) → nat_le (a + b) c ≡ true → a ≤ c
 sum_le a b c e = grind arith
 
-module _ (n : ℕ) (F : List Function) (P : List Pair) (r : BoundAbove) (bound mask : ℕ) where
+module _ (n : ℕ) (F : List Function) (P : List Pair) (r : LowerBound) (bound mask : ℕ) where
   abbrev S : List ℕ
   S = members n mask
 

@@ -1,5 +1,5 @@
 -- What cells are for, a layer as the machine has it, and what contracts see of a result.
---     Instance, instance_of problem pairs limit, cell_for t mask      what cells are for; the cell of a mask
+--     InstanceOf, instance_of problem pairs limit, cell_for t mask      what cells are for; the cell of a mask
 --     layout_of l      the masks and blocks of a layer
 --     ResultOf      the cell of a mask
 use Rattle.std.specs.Prelude.{ℕ, map, length}
@@ -7,24 +7,24 @@ use Rattle.std.specs.List.{range_with_len}
 use Rattle.definitions.specs.Cells.{cell_of}
 use Rattle.definitions.specs.Problems.{TruthTables, functions}
 use Rattle.definitions.specs.declared.limits.Limit.{Limit}
-use Rattle.definitions.specs.declared.limits.BoundAbove.{BoundAbove}
+use Rattle.definitions.specs.declared.limits.LowerBound.{LowerBound}
 use Rattle.definitions.specs.KeptPairs.{KeptPairs}
 use Rattle.subset_layers.specs.Layers.{LayerOf, masks_of, blocks_of, block_place}
 use Rattle.layer_core.specs.Machine.{Layout}
 
 -- what cells are for: the functions, the pairs that an order must keep, the lower bound on the nodes above a set, and the bound
-pub record Instance : Type 0 where
+pub record InstanceOf : Type 0 where
   pub problem : TruthTables
   pub pairs : KeptPairs
-  pub bound_above : BoundAbove
+  pub lower_bound : LowerBound
   pub bound : ℕ
 
-abbrev pub instance_of : TruthTables → KeptPairs → Limit → Instance
-instance_of problem pairs limit = record { problem = problem; pairs = pairs; bound_above = limit.bound_above; bound = limit.bound }
+abbrev pub instance_of : TruthTables → KeptPairs → Limit → InstanceOf
+instance_of problem pairs limit = record { problem = problem; pairs = pairs; lower_bound = limit.lower_bound; bound = limit.bound }
 
 -- the cell (cost, variable) of a mask
-abbrev pub cell_for : Instance → ℕ → ℕ × ℕ
-cell_for t mask = cell_of t.problem.inputs (functions t.problem) t.pairs.pairs t.bound_above t.bound mask
+abbrev pub cell_for : InstanceOf → ℕ → ℕ × ℕ
+cell_for t mask = cell_of t.problem.inputs (functions t.problem) t.pairs.pairs t.lower_bound t.bound mask
 
 -- the masks of a layer, and their blocks
 abbrev pub layout_of : LayerOf → Layout
@@ -36,6 +36,6 @@ layout_of l = record {
 
 -- a mask with its cell, and what the cell is for
 pub record ResultOf : Type 0 where
-  pub instance : Instance
+  pub instance : InstanceOf
   pub mask : ℕ
   pub cell : ℕ × ℕ

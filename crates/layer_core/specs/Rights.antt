@@ -7,7 +7,7 @@ use mathlib.Core.Option.{some}
 use lib.ListN.{get_elem?}
 use Rattle.definitions.specs.Functions.{Function, weight}
 use Rattle.definitions.specs.Pairs.{Pair}
-use Rattle.definitions.specs.declared.limits.BoundAbove.{BoundAbove}
+use Rattle.definitions.specs.declared.limits.LowerBound.{LowerBound}
 use Rattle.definitions.specs.Cells.{cell_of}
 use Rattle.layer_core.specs.Machine.{Layout, Worker, World, Event, Claim, Post, Read, cell_at, claimed, knows}
 
@@ -50,10 +50,10 @@ pub record Right (IsCell : ℕ → ℕ × ℕ → Type 0) (s : World) : Type 0 w
   pub ended : (i : ℕ) (w : Worker) → get_elem? s.workers i ≡ some w → w.ended ≡ true → s.layout.blocks ≤ s.counter
 
 -- the cell of a mask for the functions, the pairs, the lower bound on the nodes above a set, and the bound
-abbrev pub IsCellFor : ℕ → List Function → List Pair → BoundAbove → ℕ → ℕ → ℕ × ℕ → Type 0
+abbrev pub IsCellFor : ℕ → List Function → List Pair → LowerBound → ℕ → ℕ → ℕ × ℕ → Type 0
 IsCellFor n F P r bound mask cell = cell ≡ cell_of n F P r bound mask
 
-abbrev pub RightFor : ℕ → List Function → List Pair → BoundAbove → ℕ → World → Type 0
+abbrev pub RightFor : ℕ → List Function → List Pair → LowerBound → ℕ → World → Type 0
 RightFor n F P r bound = Right (IsCellFor n F P r bound)
 
 -- each posted cell meets the fact
@@ -63,7 +63,7 @@ Posts IsCell (Claim i ∷ es) = Posts IsCell es
 Posts IsCell (Post i mask cell ∷ es) = IsCell mask cell × Posts IsCell es
 Posts IsCell (Read i mask ∷ es) = Posts IsCell es
 
-abbrev pub ArePosted : ℕ → List Function → List Pair → BoundAbove → ℕ → List Event → Type 0
+abbrev pub ArePosted : ℕ → List Function → List Pair → LowerBound → ℕ → List Event → Type 0
 ArePosted n F P r bound = Posts (IsCellFor n F P r bound)
 
 -- every mask of the layer has a cell
@@ -71,5 +71,5 @@ abbrev pub IsFilled : World → Type 0
 IsFilled s = (p : ℕ) → p < length s.layout.masks → cell_at s p ≢ None
 
 -- the cells of masks
-abbrev pub all_cells : ℕ → List Function → List Pair → BoundAbove → ℕ → List ℕ → List (Option (ℕ × ℕ))
+abbrev pub all_cells : ℕ → List Function → List Pair → LowerBound → ℕ → List ℕ → List (Option (ℕ × ℕ))
 all_cells n F P r bound masks = map (λ mask. Some (cell_of n F P r bound mask)) masks

@@ -3,13 +3,13 @@
 ghost use Rattle.std.specs.Prelude.{◌≡◌, ℕ, ◌<◌, List, length, slice_index};
 ghost use Rattle.definitions.specs.Functions.{Function};
 ghost use Rattle.definitions.specs.Pairs.{Pair};
-ghost use Rattle.definitions.specs.declared.limits.BoundAbove.{BoundAbove};
+ghost use Rattle.definitions.specs.declared.limits.LowerBound.{LowerBound};
 ghost use Rattle.layer_core.specs.Machine.{Layout, Event, opening, run};
 ghost use Rattle.layer_core.specs.Rights.{IsLayout, RightFor, ArePosted, IsFilled, claimants, all_cells};
 
 /// After any events from the opening the state is right, if each posted cell is that of its mask.
 pub fn events_keep_it_right()
-    ensures { (n : ℕ) (F : List Function) (P : List Pair) (r : BoundAbove) (bound : ℕ)
+    ensures { (n : ℕ) (F : List Function) (P : List Pair) (r : LowerBound) (bound : ℕ)
         (l : Layout) (workers : ℕ)
         (events : List Event) →
         IsLayout l → ArePosted n F P r bound events →
@@ -18,7 +18,7 @@ pub fn events_keep_it_right()
 
 /// After any events each mask whose block is below the counter is claimed by exactly one worker.
 pub fn each_claim_is_one_workers()
-    ensures { (n : ℕ) (F : List Function) (P : List Pair) (r : BoundAbove) (bound : ℕ)
+    ensures { (n : ℕ) (F : List Function) (P : List Pair) (r : LowerBound) (bound : ℕ)
         (l : Layout) (workers : ℕ)
         (events : List Event) →
         IsLayout l → ArePosted n F P r bound events → (p : ℕ) → p < length l.masks →
@@ -28,7 +28,7 @@ pub fn each_claim_is_one_workers()
 
 /// Once every mask is filled, the cells are the definition's.
 pub fn filled_cells_are_the_definitions()
-    ensures { (n : ℕ) (F : List Function) (P : List Pair) (r : BoundAbove) (bound : ℕ)
+    ensures { (n : ℕ) (F : List Function) (P : List Pair) (r : LowerBound) (bound : ℕ)
         (l : Layout) (workers : ℕ)
         (events : List Event) →
         IsLayout l → ArePosted n F P r bound events → IsFilled (run (opening l workers) events) →

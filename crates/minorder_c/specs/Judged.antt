@@ -15,7 +15,7 @@ use Rattle.cert_check.specs.declared.verdict.Reason.TheVariants as why
 use Rattle.cert_check.specs.Verdicts.{IsVerdict}
 use Rattle.minorder_c.specs.declared.status.Refusal.{Refusal}
 use Rattle.minorder_c.specs.declared.status.Refusal.TheVariants as refused
-use Rattle.minorder_c.specs.declared.judging.ReturnedVerdict.{ReturnedVerdict}
+use Rattle.minorder_c.specs.declared.verdicts.ReturnedVerdict.{ReturnedVerdict}
 use Rattle.minorder_c.specs.declared.arguments.GivenTables.{GivenTables}
 use Rattle.minorder_c.specs.Answers.{functions_in}
 use Rattle.minorder_c.specs.Statuses.{IsPlainStatus}

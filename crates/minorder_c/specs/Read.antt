@@ -19,9 +19,9 @@ use Rattle.pla_reader.specs.Covers.{NamedCover}
 use Rattle.pla_reader.specs.Places.{AreNamesAt}
 use Rattle.pla_reader.specs.Reading.{FirstFault, Reads}
 use Rattle.truth_table.specs.OfCovers.{AreTablesOf}
-use Rattle.minorder_c.specs.declared.reading.PlaFault.{PlaFault}
-use Rattle.minorder_c.specs.declared.reading.Unread.{Unread}
-use Rattle.minorder_c.specs.declared.reading.Unread.TheVariants as unread
+use Rattle.minorder_c.specs.declared.pla_files.PlaFault.{PlaFault}
+use Rattle.minorder_c.specs.declared.pla_files.Unread.{Unread}
+use Rattle.minorder_c.specs.declared.pla_files.Unread.TheVariants as unread
 use Rattle.minorder_c.specs.Rooms.{Holds, IsShort}
 use Rattle.minorder_c.specs.Statuses.{IsPlainStatus}
 

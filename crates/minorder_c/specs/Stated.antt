@@ -7,7 +7,7 @@ use Rattle.definitions.specs.Pairs.{Pair}
 use Rattle.definitions.specs.Certificates.{Certificate}
 use Rattle.cert_check.specs.declared.verdict.Verdict.{Verdict}
 use Rattle.minorder_c.specs.declared.above.AbovePair.{AbovePair}
-use Rattle.minorder_c.specs.declared.judging.ReturnedVerdict.{ReturnedVerdict}
+use Rattle.minorder_c.specs.declared.verdicts.ReturnedVerdict.{ReturnedVerdict}
 use Rattle.minorder_c.specs.declared.arguments.GivenTables.{GivenTables}
 use Rattle.minorder_c.specs.Judged.{IsJudged, returned_verdict}
 

@@ -4,16 +4,16 @@
 
 mod above;
 mod arguments;
-mod certifying;
+mod certificates;
 mod diagrams;
 mod exact;
-mod judging;
 mod levels;
 mod many;
-mod reading;
+mod pla_files;
 mod rooms;
 mod sift;
 mod sifting_from;
 mod stated;
 mod status;
+mod verdicts;
 mod version;

@@ -8,7 +8,7 @@ ghost use Rattle.minorder_c.specs.Statuses.{TellsShape};
 
 use crate::above::AbovePair;
 use crate::arguments::GivenTables;
-use crate::judging::{ReturnedVerdict, judgement_on, verdict_for_c};
+use crate::verdicts::{ReturnedVerdict, judgement_on, verdict_for_c};
 use order_model::VarIx;
 use std::alloc::Global;
 

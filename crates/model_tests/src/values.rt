@@ -4,7 +4,7 @@ ghost use Rattle.std.specs.Prelude.{◌≡◌, ◌≤◌};
 
 use order_model::packed::{bit_of, block, depends_on, lower_half, words_per_table};
 use order_model::{
-    BadOrder, BoundAbove, BoundsAbove, Gate, Mask, NoGate, Order, Problem, VarIx, Workers,
+    BadOrder, Gate, LowerBound, LowerBounds, Mask, NoGate, Order, Problem, VarIx, Workers,
     contains, decimal_number, total,
 };
 use std::alloc::Global;
@@ -173,23 +173,23 @@ fn problems_have_the_values_that_were_set(rt: HostRuntime) {
 }
 
 /// The lower bound on the nodes above the variable 0 of three, if its width is 2.
-fn above_the_first(problem: &Problem, bound_above: BoundAbove) -> u64
+fn above_the_first(problem: &Problem, lower_bound: LowerBound) -> u64
     requires { problem.now.inputs ≡ 3 }
 {
     let mut widths = [0; 16];
     widths[0] = 2;
-    BoundsAbove::new(problem, bound_above).above(1, &widths)
+    LowerBounds::new(problem, lower_bound).above(1, &widths)
 }
 
 /// Whether the lower bounds above sets of three essential variables count two nodes by variables,
 /// and three by widths.
 fn counts_on_what_is_left(rt: &impl Abort, problem: &Problem) -> bool {
     assert!(rt; problem.inputs() == 3);
-    let bounds_above = BoundsAbove::new(problem, BoundAbove::Widths);
-    bounds_above.essential() == 0b111
-        && bounds_above.bound_above() == BoundAbove::Widths
-        && above_the_first(problem, BoundAbove::Variables) == 2
-        && above_the_first(problem, BoundAbove::Widths) == 3
+    let lower_bounds = LowerBounds::new(problem, LowerBound::Widths);
+    lower_bounds.essential() == 0b111
+        && lower_bounds.lower_bound() == LowerBound::Widths
+        && above_the_first(problem, LowerBound::Variables) == 2
+        && above_the_first(problem, LowerBound::Widths) == 3
 }
 
 // The conjunction of 1 and 2, and the parity of 0, 1 and 2, of which two subfunctions depend on 0.

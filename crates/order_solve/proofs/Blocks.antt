@@ -11,12 +11,12 @@ use Rattle.definitions.specs.Orders.{has, members, without}
 use Rattle.definitions.specs.Pairs.{is_lawful}
 use Rattle.definitions.specs.Problems.{TruthTables, functions}
 use Rattle.definitions.specs.Widths.{width}
-use Rattle.definitions.specs.BoundsAbove.{BoundsAboveOf}
+use Rattle.definitions.specs.LowerBounds.{LowerBoundsOf}
 use Rattle.definitions.specs.Cells.{asked, wanted, cell_of}
 use Rattle.definitions.proofs.Bits.Masks.{members_small}
 use Rattle.subset_layers.specs.Layers.{LayerOf, BlockOf, layer_of, layer_with, masks_of, block_masks}
 use Rattle.subset_layers.specs.Costs.{CostsOf, cost_without, AreTrueCosts, AreWidthsFor, IsCellOnce}
-use Rattle.layer_core.specs.Instances.{Instance, cell_for}
+use Rattle.layer_core.specs.Instances.{InstanceOf, cell_for}
 use Rattle.compaction.specs.Rows.{width_wanted, IsWidthRow, AreMembers, AreWidthRows}
 use Rattle.solutions.specs.Instances.{HoldsInstance}
 use Rattle.solutions.specs.Needs.{needed}
@@ -36,15 +36,15 @@ row_there p masks needs rows i mask need row are at is there =
     (are.are i (slice_get_within masks i mask at))))
 
 -- the masks that are needed are of members
-pub are_members : (t : Instance) (blk : BlockOf) → AreMembers t.problem (block_masks blk) (map (needed t) (block_masks blk))
+pub are_members : (t : InstanceOf) (blk : BlockOf) → AreMembers t.problem (block_masks blk) (map (needed t) (block_masks blk))
 unfolding needed
 are_members t blk i lt x e =
-    wanted_member t.problem.inputs (functions t.problem) t.pairs.pairs t.bound_above t.bound (get_or (block_masks blk) i 0) x
-    (bit_wanted t.problem.inputs (functions t.problem) t.pairs.pairs t.bound_above t.bound (get_or (block_masks blk) i 0) x
+    wanted_member t.problem.inputs (functions t.problem) t.pairs.pairs t.lower_bound t.bound (get_or (block_masks blk) i 0) x
+    (bit_wanted t.problem.inputs (functions t.problem) t.pairs.pairs t.lower_bound t.bound (get_or (block_masks blk) i 0) x
     (ap (λ m. bit_at m x) (sym (get_or-map (needed t) (block_masks blk) i 0 0 lt)) ∙ e))
 
 module _ (b : ContextOf) (h : IsContext b) where
-  abbrev t : Instance
+  abbrev t : InstanceOf
   t = b.instance
 
   abbrev c : CostsOf
@@ -56,40 +56,40 @@ module _ (b : ContextOf) (h : IsContext b) where
   pub own_layer : b.layer ≡ layer_with c.inputs (c.size + 1)
   own_layer = h.layer ∙ ap (λ k. layer_with k (c.size + 1)) (sym h.inputs)
 
-  own_costs : AreTrueCosts c.inputs F t.pairs.pairs t.bound_above t.bound c
-  own_costs = subst (λ (k : ℕ). AreTrueCosts k F t.pairs.pairs t.bound_above t.bound c) (sym h.inputs) h.costs
+  own_costs : AreTrueCosts c.inputs F t.pairs.pairs t.lower_bound t.bound c
+  own_costs = subst (λ (k : ℕ). AreTrueCosts k F t.pairs.pairs t.lower_bound t.bound c) (sym h.inputs) h.costs
 
   pub in_layer : (blk : BlockOf) → layer_of blk ≡ b.layer → (i mask : ℕ) → slice_get (block_masks blk) i ≡ Some mask →
       has (masks_of (layer_with c.inputs (c.size + 1))) mask ≡ true
   in_layer blk e i mask is = subst (λ (l : LayerOf). has (masks_of l) mask ≡ true) (e ∙ own_layer) (block_has blk i mask is)
 
   -- the widths of a set, as its cell takes them
-  module _ (v : BoundsAboveOf) (s : HoldsInstance t v) (mask : ℕ) (next : has (masks_of (layer_with c.inputs (c.size + 1))) mask ≡ true) (row : List ℕ)
+  module _ (v : LowerBoundsOf) (s : HoldsInstance t v) (mask : ℕ) (next : has (masks_of (layer_with c.inputs (c.size + 1))) mask ≡ true) (row : List ℕ)
       (is_row : IsWidthRow t.problem mask (needed t mask) row) where
     wanted_has : (x : ℕ) → is_lawful t.pairs.pairs (members c.inputs mask) ≡ true →
-        has (asked c.inputs t.bound_above t.bound mask (cost_without c mask)) x ≡ true →
-        has (wanted t.problem.inputs F t.pairs.pairs t.bound_above t.bound mask) x ≡ true
+        has (asked c.inputs t.lower_bound t.bound mask (cost_without c mask)) x ≡ true →
+        has (wanted t.problem.inputs F t.pairs.pairs t.lower_bound t.bound mask) x ≡ true
     wanted_has x low m =
-        ap (λ k. has (wanted k F t.pairs.pairs t.bound_above t.bound mask) x) (sym h.inputs)
-        ∙ ap (λ xs. has xs x) (wanted_by_costs c F t.pairs.pairs t.bound_above t.bound mask next own_costs low) ∙ m
+        ap (λ k. has (wanted k F t.pairs.pairs t.lower_bound t.bound mask) x) (sym h.inputs)
+        ∙ ap (λ xs. has xs x) (wanted_by_costs c F t.pairs.pairs t.lower_bound t.bound mask next own_costs low) ∙ m
 
-    bit_there : (x : ℕ) → has (wanted t.problem.inputs F t.pairs.pairs t.bound_above t.bound mask) x ≡ true → bit_at (needed t mask) x ≡ 1
+    bit_there : (x : ℕ) → has (wanted t.problem.inputs F t.pairs.pairs t.lower_bound t.bound mask) x ≡ true → bit_at (needed t mask) x ≡ 1
     unfolding needed
-    bit_there x w = wanted_bit t.problem.inputs F t.pairs.pairs t.bound_above t.bound mask x ∙ ap (λ b. cond b 1 0) w
+    bit_there x w = wanted_bit t.problem.inputs F t.pairs.pairs t.lower_bound t.bound mask x ∙ ap (λ b. cond b 1 0) w
 
     width_there : (x : ℕ) → bit_at (needed t mask) x ≡ 1 →
         width_wanted t.problem mask (needed t mask) x ≡ width t.problem.inputs F (without x (members t.problem.inputs mask)) x
     unfolding width_wanted
     width_there x e = ap (λ k. cond k (width t.problem.inputs F (without x (members t.problem.inputs mask)) x) 0) (eq-eqb (bit_at (needed t mask) x) 1 e)
 
-    widths_are : AreWidthsFor c.inputs F t.pairs.pairs t.bound_above t.bound mask c row
+    widths_are : AreWidthsFor c.inputs F t.pairs.pairs t.lower_bound t.bound mask c row
     widths_are low x m =
         let w = wanted_has x low m in
-        let small = members_small t.problem.inputs mask x (wanted_member t.problem.inputs F t.pairs.pairs t.bound_above t.bound mask x w) in
+        let small = members_small t.problem.inputs mask x (wanted_member t.problem.inputs F t.pairs.pairs t.lower_bound t.bound mask x w) in
         is_row x (omega (arith, small, s.few)) ∙ width_there x (bit_there x w)
         ∙ ap (λ k. width k F (without x (members k mask)) x) (sym h.inputs)
 
     pub cell_is : (cell : ℕ × ℕ) → IsCellOnce v t.pairs.pairs t.bound mask c row cell → cell ≡ cell_for t mask
     cell_is cell f =
-        subst (λ (u : BoundsAboveOf). IsCellOnce u t.pairs.pairs t.bound mask c row cell) s.bounds_above_are f own_costs widths_are
-        ∙ ap (λ k. cell_of k F t.pairs.pairs t.bound_above t.bound mask) h.inputs
+        subst (λ (u : LowerBoundsOf). IsCellOnce u t.pairs.pairs t.bound mask c row cell) s.lower_bounds_are f own_costs widths_are
+        ∙ ap (λ k. cell_of k F t.pairs.pairs t.lower_bound t.bound mask) h.inputs

@@ -12,7 +12,7 @@ use Rattle.definitions.specs.Orders.{has, place_in}
 use Rattle.definitions.proofs.Lists.Orders.{place_at, has_at, place_small}
 use Rattle.subset_layers.specs.Layers.{LayerOf, BlockOf, layer_of, masks_of, block_masks, blocks_of, low_bytes, low_byte, block_place}
 use Rattle.layer_core.specs.Machine.{claimed, claims_block}
-use Rattle.layer_core.specs.Instances.{Instance}
+use Rattle.layer_core.specs.Instances.{InstanceOf}
 use Rattle.layer_board.specs.Views.{BoardId, SeatOf, stepped, claims_place, has_claimed}
 use Rattle.layer_core.proofs.Layouts.{place_found, place_missing, block_at, few_masks_in}
 use Rattle.solutions.specs.Needs.{width_count, widths_for}
@@ -101,7 +101,7 @@ module _ (s s' : SeatOf) (p : ℕ) (b : BlockOf) (h : ClaimsBlock s s' p b) wher
   kept mask m e = grind (arith, cases_Bool, gained_now, as_before)
 
   -- the widths of the sets that are gained
-  pub claim_gains : (t : Instance) (s0 : SeatOf) → s.board ≡ s0.board →
+  pub claim_gains : (t : InstanceOf) (s0 : SeatOf) → s.board ≡ s0.board →
       ((mask : ℕ) → has_claimed s0 mask ≡ true → has_claimed s mask ≡ true) →
       widths_for t (gained s0 s') ≡ widths_for t (gained s0 s) + widths_for t (block_masks b)
   unfolding gained widths_for block_masks
@@ -134,7 +134,7 @@ module _ (s s' : SeatOf) (p : ℕ) (b : BlockOf) (h : ClaimsBlock s s' p b) wher
 
 -- ---- few sets take few widths
 
-pub few_gained : (t : Instance) (s s' : SeatOf) (n : ℕ) → t.problem.inputs ≤ 16 → s.board.brief.layer.inputs ≡ n → n ≤ 16 →
+pub few_gained : (t : InstanceOf) (s s' : SeatOf) (n : ℕ) → t.problem.inputs ≤ 16 → s.board.brief.layer.inputs ≡ n → n ≤ 16 →
     widths_for t (gained s s') ≤ 16 * 2 ^ 16
 unfolding gained widths_for
 few_gained t s s' n few is less = grind (arith, sum-map, sum_few, few_each, few_masks_in)

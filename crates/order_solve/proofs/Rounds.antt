@@ -10,7 +10,7 @@ use Rattle.definitions.specs.Orders.{has}
 use Rattle.definitions.proofs.Lists.Orders.{has_filter}
 use Rattle.subset_layers.specs.Layers.{LayerOf, BlockOf, masks_of, blocks_of, block_masks, layer_of, low_byte}
 use Rattle.layer_core.specs.Machine.{claimed, claims_block}
-use Rattle.layer_core.specs.Instances.{Instance}
+use Rattle.layer_core.specs.Instances.{InstanceOf}
 use Rattle.layer_core.proofs.Layouts.{few_blocks}
 use Rattle.layer_board.specs.Views.{BoardId, SeatOf, stepped, has_claimed, knows_filled}
 use Rattle.solutions.specs.Needs.{widths_for}
@@ -20,7 +20,7 @@ use Rattle.order_solve.proofs.Posts.{claimed_same}
 use Rattle.solutions.proofs.BlockPlaces.{block_layer}
 use Rattle.order_solve.proofs.ClaimedSets.{ClaimsBlock, claimed_has, same_board, as_before, kept, claim_gains, was_open, open_marks, fewer_open}
 
-pub record Working (t : Instance) (s0 s : SeatOf) (count : ℕ) : Type 0 where
+pub record Working (t : InstanceOf) (s0 s : SeatOf) (count : ℕ) : Type 0 where
   pub board : s.board ≡ s0.board
   pub kept : (mask : ℕ) → has_claimed s0 mask ≡ true → has_claimed s mask ≡ true
   pub known : (mask : ℕ) → knows_filled s0 mask ≡ true → knows_filled s mask ≡ true
@@ -31,7 +31,7 @@ not_gained : (b : Bool) → (b && not b) ≡ false
 not_gained true = refl
 not_gained false = refl
 
-pub working_none : (t : Instance) (s : SeatOf) → Working t s s 0
+pub working_none : (t : InstanceOf) (s : SeatOf) → Working t s s 0
 unfolding gained widths_for
 working_none t s = grind (arith, kept, false≢true, not_gained, filter_none)
 
@@ -40,14 +40,14 @@ gained_same : (s0 s s' : SeatOf) → ((mask : ℕ) → has_claimed s' mask ≡ h
 unfolding gained
 gained_same s0 s s' e = λ i. filter (λ mask. e mask i && not (has_claimed s0 mask)) (masks_of s0.board.brief.layer)
 
-pub working_stays : (t : Instance) (s0 s s' : SeatOf) (count : ℕ) → StaysClaimed s s' → Working t s0 s count → Working t s0 s' count
+pub working_stays : (t : InstanceOf) (s0 s s' : SeatOf) (count : ℕ) → StaysClaimed s s' → Working t s0 s count → Working t s0 s' count
 working_stays t s0 s s' count h w = grind (arith, claimed_same, kept, gained_same)
 
 -- a claim gives no knowledge of cells
 claim_knows : (s s1 : SeatOf) (p mask : ℕ) → s1 ≡ stepped s (claims_block s.worker p) 1 → knows_filled s mask ≡ true → knows_filled s1 mask ≡ true
 claim_knows s s1 p mask is e = grind arith
 
-module _ (t : Instance) (s0 s s1 s2 : SeatOf) (count p : ℕ) (b : BlockOf) (w : Working t s0 s count) (h : ClaimsBlock s s1 p b) where
+module _ (t : InstanceOf) (s0 s s1 s2 : SeatOf) (count p : ℕ) (b : BlockOf) (w : Working t s0 s count) (h : ClaimsBlock s s1 p b) where
   pub round_gains : widths_for t (gained s0 s1) ≡ count + widths_for t (block_masks b)
   round_gains = claim_gains s s1 p b h t s0 w.board w.kept ∙ ap (λ k. k + widths_for t (block_masks b)) (sym w.tally)
 

@@ -9,11 +9,11 @@ use Rattle.definitions.specs.Problems.{TruthTables, functions}
 use Rattle.definitions.proofs.Widths.SizeBounds.{size_bound}
 use Rattle.symmetries.specs.SymmetricPairs.{IsHarmless}
 use Rattle.sifting.specs.Managed.{SiftedOrder, IsSiftedOrder}
-use Rattle.layer_core.specs.Instances.{Instance}
+use Rattle.layer_core.specs.Instances.{InstanceOf}
 use Rattle.layer_core.proofs.Layouts.{length-map_lem}
 use Rattle.solutions.specs.Bounded.{IsBounded}
 
-module _ (t : Instance) (s : SiftedOrder) (is : IsSiftedOrder s) (same : s.problem ≡ t.problem)
+module _ (t : InstanceOf) (s : SiftedOrder) (is : IsSiftedOrder s) (same : s.problem ≡ t.problem)
     (h : IsHarmless t.problem.inputs (functions t.problem) s.pairs t.pairs.pairs) (e : t.bound ≡ s.size) where
   -- an order of the sifted one's size that keeps more pairs, if these are harmless
   sorted : (o : List ℕ) × IsOrder t.problem.inputs o × Keeps t.pairs.pairs o × (t.bound ≡ size_under t.problem.inputs (functions t.problem) o)

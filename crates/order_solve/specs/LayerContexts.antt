@@ -5,18 +5,18 @@
 use Rattle.std.specs.Prelude.{◌≡◌, ◌+◌, Bool, false}
 use Rattle.subset_layers.specs.Layers.{LayerOf, layer_with}
 use Rattle.subset_layers.specs.Costs.{CostsOf}
-use Rattle.layer_core.specs.Instances.{Instance}
+use Rattle.layer_core.specs.Instances.{InstanceOf}
 use Rattle.solutions.specs.LayerCosts.{AreCostsFor}
 
 -- what the cells are for, the layer, the costs of the layer before, and whether there is a source of widths
 pub record ContextOf : Type 0 where
-  pub instance : Instance
+  pub instance : InstanceOf
   pub layer : LayerOf
   pub before : CostsOf
   pub has_source : Bool
 
 -- without a source of widths
-abbrev pub context_with : Instance → LayerOf → CostsOf → ContextOf
+abbrev pub context_with : InstanceOf → LayerOf → CostsOf → ContextOf
 context_with instance layer before = record { instance = instance; layer = layer; before = before; has_source = false }
 
 -- the layer is the one after the costs', which are the definition's

@@ -6,7 +6,7 @@ ghost use Rattle.solutions.specs.LayerCosts.{AreAllLayers, AreCells, AreDone, Is
 
 use crate::cells::cells_of_block;
 use crate::context::LayerContext;
-use crate::layering::add_layer;
+use crate::layers::add_layer;
 use crate::look_ahead::{look_ahead, orbit_requests};
 use compaction::{Preparation, SharedTables, Tallies, WidthSource, WidthsAhead};
 use solutions::{Instance, first_layer, place_cells};

@@ -63,7 +63,7 @@ fn cells_by_rows(
             context.before,
             &row,
             instance.limit.bound,
-            &instance.bounds_above,
+            &instance.lower_bounds,
             instance.pairs,
         ))?;
     }

@@ -7,7 +7,7 @@ ghost use Rattle.solutions.specs.LayerCosts.{AreCells};
 
 use crate::alone::cells_alone;
 use crate::context::LayerContext;
-use crate::working::{WorkerResult, work_layer};
+use crate::worker::{WorkerResult, work_layer};
 use compaction::WidthsAhead;
 use layer_board::{Board, BoardSeat, CloseError};
 use order_model::{Crew, Gate};

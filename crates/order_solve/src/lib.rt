@@ -5,19 +5,19 @@
 // The solver: the layers one after another, by workers or by the calling thread.
 mod alone;
 mod crews;
-mod layering;
+mod layers;
 mod look_ahead;
-mod preparing;
-mod solving;
+mod preparation;
+mod solver;
 
 // A worker's part of a layer: what it is lent, and the cells of its blocks.
 mod cells;
 mod context;
-mod working;
+mod worker;
 
 pub use compaction::Preparation;
 pub use context::LayerContext;
-pub use preparing::prepare;
+pub use preparation::prepare;
 pub use solutions::{Instance, Solution};
-pub use solving::{find_optimum, find_optimum_alone, solve, solve_alone};
-pub use working::{WorkerResult, work_layer};
+pub use solver::{find_optimum, find_optimum_alone, solve, solve_alone};
+pub use worker::{WorkerResult, work_layer};

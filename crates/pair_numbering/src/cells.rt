@@ -6,7 +6,7 @@ ghost use Rattle.pair_numbering.specs.MaskedNumbers.{NumbersMasked};
 
 use crate::entries::Block;
 use crate::masks::MaskedPairs;
-use crate::numbering::Numbered;
+use crate::numbers::MaskedNumbers;
 use definitions::Mask;
 use std::alloc::{AllocError, Global};
 use subfunction_classes::join_mask;
@@ -96,7 +96,7 @@ pub(crate) fn number_pairs_by_cells(
     alloc: Global,
     pairs: &MaskedPairs<'_>,
     cells: &mut [u16],
-) -> Result<Option<Numbered>, AllocError>
+) -> Result<Option<MaskedNumbers>, AllocError>
     requires cells { length cells.old ≡ length pairs.now.masks.now * length pairs.now.masks.now }
     requires empty { (k : ℕ) → k < length cells.old → slice_index cells.old k ≡ 0 }
     ensures { IfOk result
@@ -109,7 +109,7 @@ pub(crate) fn number_pairs_by_cells(
         return Ok(None);
     };
     joined.truncate(count as usize);
-    Ok(Some(Numbered {
+    Ok(Some(MaskedNumbers {
         numbers: out,
         masks: joined,
     }))

@@ -6,7 +6,7 @@ ghost use Rattle.subfunction_classes.specs.PairTables.{AllBelow, IsPaired, IsPai
 ghost use Rattle.pair_numbering.specs.Numbers.{ArePairsNumbered};
 
 use crate::entries::EntryPairs;
-use crate::numbering::NumberedPairs;
+use crate::numbers::NumberedPairs;
 use std::alloc::{AllocError, Global};
 
 /// Pairs of entries, chained by their lower class: the first pair of each class, and the one after

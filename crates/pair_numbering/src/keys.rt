@@ -9,7 +9,7 @@ ghost use Rattle.subfunction_classes.specs.PairTables.{AllBelow, IsPaired};
 
 use crate::entries::{Block, EntryPairs};
 use crate::masks::MaskedPairs;
-use crate::numbering::number_with_masks;
+use crate::numbers::number_with_masks;
 use definitions::{Mask, VarIx};
 use std::alloc::{AllocError, Global};
 use subfunction_classes::join_mask;

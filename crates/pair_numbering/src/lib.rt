@@ -9,11 +9,11 @@ mod entries;
 mod keys;
 mod lower_classes;
 mod masks;
-mod numbering;
+mod numbers;
 mod slots;
 
 pub use chains::first_pairs;
 pub use entries::EntryPairs;
 pub use keys::{PairKeys, label_pairs};
 pub use masks::{MaskedPairs, join_masks};
-pub use numbering::{Numbered, NumberedPairs, number_entries, number_with_masks};
+pub use numbers::{MaskedNumbers, NumberedPairs, number_entries, number_with_masks};

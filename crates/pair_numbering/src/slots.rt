@@ -8,7 +8,7 @@ ghost use Rattle.pair_numbering.specs.Numbers.{ArePairsNumbered};
 
 use crate::entries::{Block, EntryPairs};
 use crate::lower_classes::{CountedPairs, count_lowers};
-use crate::numbering::NumberedPairs;
+use crate::numbers::NumberedPairs;
 use std::alloc::{AllocError, Global};
 
 /// How many slots are tried for a pair.

@@ -12,7 +12,7 @@ use Rattle.pla_reader.specs.Covers.{NamedCover}
 use Rattle.report_texts.specs.Texts.{file_order_levels}
 use Rattle.sifting.specs.Managed.{Managed}
 use Rattle.report.specs.Bests.{IsBestFor}
-use Rattle.report.specs.declared.instance.Instance.{Instance}
+use Rattle.report.specs.declared.search_input.SearchInput.{SearchInput}
 use Rattle.report.specs.declared.search.Found.{Found}
 use Rattle.report.specs.declared.search.Sifting.{Sifting}
 
@@ -24,7 +24,7 @@ pub record IsSiftedFromFirst (cover : NamedCover) (t : TruthTables) (P : List Pa
   pub is_size : size ≡ size_under t.inputs (functions t) order
 
 -- the diagram under the first order that keeps the pairs, as it is sifted
-pub record IsFirstManager (i : Instance) (m : Managed) : Type 0 where
+pub record IsFirstManager (i : SearchInput) (m : Managed) : Type 0 where
   pub first : IsFirstOrder i.cover.now.inputs i.pairs.now.pairs m.order
   pub functions : m.problem ≡ i.tables.now
   pub pairs : m.pairs ≡ i.pairs.now.pairs
@@ -37,13 +37,13 @@ pub record IsSiftingOf (m : Managed) (s : Sifting) : Type 0 where
   pub pairs : s.bound.pairs ≡ m.pairs
 
 -- the order sifted from the first order that keeps the pairs, its size, and an order of the same functions that keeps the same pairs
-pub record IsSiftingFor (i : Instance) (s : Sifting) : Type 0 where
+pub record IsSiftingFor (i : SearchInput) (s : Sifting) : Type 0 where
   pub sifted : IsSiftedFromFirst i.cover.now i.tables.now i.pairs.now.pairs s.sifted s.size
   pub functions : s.bound.problem ≡ i.tables.now
   pub pairs : s.bound.pairs ≡ i.pairs.now.pairs
 
 -- the best order, with its certificate's cells if asked for, the sifted one with its size, and the size under the file order
-pub record IsFound (i : Instance) (f : Found) : Type 0 where
+pub record IsFound (i : SearchInput) (f : Found) : Type 0 where
   pub best : IsBestFor i.tables.now i.pairs.now.pairs i.certify f.best
   pub sifted : IsSiftedFromFirst i.cover.now i.tables.now i.pairs.now.pairs f.sifted f.sifted_size
   pub file : f.file_size ≡ sum (file_order_levels i.cover.now)

@@ -8,8 +8,8 @@ ghost use Rattle.outcomes.specs.Plans.{PairsAre};
 ghost use Rattle.report_texts.specs.Texts.{report_parts};
 
 use crate::best::Best;
-use crate::instance::Instance;
 use crate::search::{Found, search};
+use crate::search_input::SearchInput;
 use certificate::certificate_text;
 use command_line::RunPlan;
 use order_model::{Pairs, PairsFault, Problem, Workers};
@@ -32,7 +32,7 @@ pub(crate) fn pairs_of<'a>(plan: &RunPlan<'a>, n: u8) -> Result<Pairs, PairsFaul
 }
 
 /// The text of the report. The levels are those that the search found.
-fn report_of(alloc: Global, instance: &Instance<'_>, found: &Found) -> Result<String, AllocError>
+fn report_of(alloc: Global, instance: &SearchInput<'_>, found: &Found) -> Result<String, AllocError>
     requires { IsFound instance.now found.now }
     ensures { IfOk result
         (λ text. string_bytes text ≡ report_parts instance.now.cover.now instance.now.tables.now
@@ -87,7 +87,7 @@ pub(crate) fn answer_texts<R: Threads + Sync>(
         (λ t. IsCertified cover.now pairs.pairs certify t.certificate) }
 {
     let tables = Tables::of_cover(rt, alloc, cover)?;
-    let instance = Instance {
+    let instance = SearchInput {
         cover,
         tables: &tables,
         pairs: &pairs,

@@ -8,7 +8,7 @@ ghost use Rattle.pla_reader.specs.Covers.{functions_of};
 ghost use Rattle.report.specs.FirstDiagrams.{IsFirstDiagram};
 ghost use Rattle.report_texts.specs.Texts.{file_order_levels};
 
-use crate::instance::Instance;
+use crate::search_input::SearchInput;
 use dd_builder::build;
 use order_model::laws::{some_diagram_has_the_level_counts, truth_tables_keep_functions};
 use order_model::{Diagram, NoGate, Order};
@@ -35,7 +35,7 @@ fn levels_of(alloc: Global, diagram: &Diagram) -> Result<Vec<u32>, AllocError>
 fn diagram_under<R: Threads + Sync>(
     rt: &R,
     alloc: Global,
-    instance: &Instance<'_>,
+    instance: &SearchInput<'_>,
     order: &Order,
 ) -> Result<Diagram, AllocError>
     requires order { IsOrder instance.now.cover.now.inputs order.now }
@@ -62,7 +62,7 @@ fn diagram_under<R: Threads + Sync>(
 pub(crate) fn first_diagram<R: Threads + Sync>(
     rt: &R,
     alloc: Global,
-    instance: &Instance<'_>,
+    instance: &SearchInput<'_>,
 ) -> Result<Diagram, AllocError>
     ensures { IfOk result (IsFirstDiagram instance.now.cover.now instance.now.pairs.now.pairs) }
 {
@@ -76,7 +76,7 @@ pub(crate) fn first_diagram<R: Threads + Sync>(
 pub(crate) fn file_order_levels_of<R: Threads + Sync>(
     rt: &R,
     alloc: Global,
-    instance: &Instance<'_>,
+    instance: &SearchInput<'_>,
     first: &Diagram,
 ) -> Result<Vec<u32>, AllocError>
     requires first { HasLevelCounts instance.now.cover.now.inputs

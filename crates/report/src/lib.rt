@@ -11,8 +11,8 @@ mod runs;
 mod answers;
 mod best;
 mod diagrams;
-mod instance;
 mod search;
+mod search_input;
 
 pub use command_line::RunPlan;
 pub use program::minorder;

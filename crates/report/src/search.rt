@@ -8,8 +8,8 @@ ghost use Rattle.report_texts.specs.Texts.{file_order_levels};
 
 use crate::best::{Best, best_order, small_best};
 use crate::diagrams::{file_order_levels_of, first_diagram};
-use crate::instance::Instance;
-use order_model::{BoundAbove, Diagram, Limit, Order, Workers, total};
+use crate::search_input::SearchInput;
+use order_model::{Diagram, Limit, LowerBound, Order, Workers, total};
 use order_solve::{Preparation, prepare};
 use sifting::laws::diagrams_have_their_functions_tables;
 use sifting::{Manager, Sifted};
@@ -47,7 +47,11 @@ fn sift<R: Threads + Sync>(
 }
 
 /// The diagram under the first order that keeps the pairs, to be sifted.
-fn manager_of(alloc: Global, instance: &Instance<'_>, first: Diagram) -> Result<Manager, AllocError>
+fn manager_of(
+    alloc: Global,
+    instance: &SearchInput<'_>,
+    first: Diagram,
+) -> Result<Manager, AllocError>
     requires { IsFirstDiagram instance.now.cover.now instance.now.pairs.now.pairs first }
     ensures { IfOk result (IsFirstManager instance.now) }
 {
@@ -61,17 +65,17 @@ fn manager_of(alloc: Global, instance: &Instance<'_>, first: Diagram) -> Result<
 fn prepare_below<'a, R: Threads + Sync>(
     rt: &R,
     alloc: Global,
-    instance: &Instance<'a>,
+    instance: &SearchInput<'a>,
     size: u32,
 ) -> Result<Preparation<'a>, AllocError>
     ensures { IfOk result (λ p. p.problem ≡ instance.now.tables.now) }
 {
     let limit = Limit {
         bound: size.min(1 << 20),
-        bound_above: if instance.certify {
-            BoundAbove::Variables
+        lower_bound: if instance.certify {
+            LowerBound::Variables
         } else {
-            BoundAbove::Widths
+            LowerBound::Widths
         },
     };
     let problem = instance.tables.problem();
@@ -84,7 +88,7 @@ fn prepare_below<'a, R: Threads + Sync>(
 fn sift_and_prepare<'a, R: Threads + Sync>(
     rt: &R,
     alloc: Global,
-    instance: &Instance<'a>,
+    instance: &SearchInput<'a>,
     manager: Manager,
 ) -> Result<(Sifting, Preparation<'a>), AllocError>
     requires { IsFirstManager instance.now manager }
@@ -115,7 +119,7 @@ fn sift_and_prepare<'a, R: Threads + Sync>(
 fn file_size_of<R: Threads + Sync>(
     rt: &R,
     alloc: Global,
-    instance: &Instance<'_>,
+    instance: &SearchInput<'_>,
     first: &Diagram,
 ) -> Result<u64, AllocError>
     requires { IsFirstDiagram instance.now.cover.now instance.now.pairs.now.pairs first.now }
@@ -138,7 +142,7 @@ pub(crate) struct Found {
 /// What the search finds of a problem whose truth tables are small, by the calling thread alone.
 fn search_small(
     alloc: Global,
-    instance: &Instance<'_>,
+    instance: &SearchInput<'_>,
     manager: Manager,
     file_size: u64,
 ) -> Result<Found, AllocError>
@@ -166,7 +170,7 @@ fn search_small(
 pub(crate) fn search<R: Threads + Sync>(
     rt: &R,
     alloc: Global,
-    instance: &Instance<'_>,
+    instance: &SearchInput<'_>,
 ) -> Result<Found, AllocError>
     ensures { IfOk result (IsFound instance.now) }
 {

@@ -6,9 +6,9 @@ pub mod laws;
 
 // The texts, and writing them.
 mod counts;
+mod output;
 mod texts;
-mod writing;
 
 pub use counts::counts_of;
+pub use output::{RunTexts, write_texts};
 pub use texts::{Report, report_text};
-pub use writing::{RunTexts, write_texts};

@@ -8,18 +8,18 @@ use Rattle.std.proofs.lemmas.Bool.{cases_eq, cases_lt}
 use Rattle.std.proofs.lemmas.Nat.{pow_pos}
 use Rattle.std.proofs.lemmas.List.FromFn.{length-range_with_len}
 use Rattle.std.specs.List.{list_any}
-use Rattle.definitions.specs.BoundsAbove.{nodes_above}
+use Rattle.definitions.specs.LowerBounds.{nodes_above}
 use Rattle.definitions.specs.Functions.{Function, depends}
 use Rattle.definitions.specs.Orders.{has, members, variables}
 use Rattle.definitions.specs.Widths.{essential, essentials_outside}
-use Rattle.definitions.specs.declared.limits.BoundAbove.{BoundAbove}
-use Rattle.definitions.specs.declared.limits.BoundAbove.TheVariants.{Variables}
+use Rattle.definitions.specs.declared.limits.LowerBound.{LowerBound}
+use Rattle.definitions.specs.declared.limits.LowerBound.TheVariants.{Variables}
 use Rattle.definitions.proofs.Lists.Ranges.{filter_at_most}
 use Rattle.definitions.specs.Problems.{functions}
 use Rattle.definitions.specs.Cells.{cell_cost}
 use Rattle.subset_layers.specs.Sums.{IsBest}
 use Rattle.subset_layers.specs.declared.costs.Cell.{Cell}
-use Rattle.layer_core.specs.Instances.{Instance, cell_for}
+use Rattle.layer_core.specs.Instances.{InstanceOf, cell_for}
 use Rattle.definitions.proofs.Bits.Ones.{ones-members}
 use Rattle.solutions.specs.FlatCells.{no_cell}
 use Rattle.solutions.proofs.ReadOrders.{less_member}
@@ -46,8 +46,8 @@ module _ (S : ℕ → Type 0) (bound : ℕ) (costs widths : ℕ → ℕ) where
   best_all k c low h = grind arith
 
 -- the cost of a smaller set
-pub cost_at : (t : Instance) (count : ℕ) (cells : List Cell) → AreFirstCells t count cells → (mask : ℕ) → mask < count →
-    (get_or cells mask no_cell).cost ≡ cell_cost t.problem.inputs (functions t.problem) t.pairs.pairs t.bound_above t.bound mask
+pub cost_at : (t : InstanceOf) (count : ℕ) (cells : List Cell) → AreFirstCells t count cells → (mask : ℕ) → mask < count →
+    (get_or cells mask no_cell).cost ≡ cell_cost t.problem.inputs (functions t.problem) t.pairs.pairs t.lower_bound t.bound mask
 unfolding cell_cost
 cost_at t count cells h mask lt =
     elim (cases_eq mask 0) [
@@ -56,7 +56,7 @@ cost_at t count cells h mask lt =
     ]
 
 -- the cost of a set without a member, and the member's width
-pub few_sum : (t : Instance) (set : ℕ) (cells : List Cell) → AreFirstCells t set cells → set < 2 ^ t.problem.inputs → (x : ℕ) →
+pub few_sum : (t : InstanceOf) (set : ℕ) (cells : List Cell) → AreFirstCells t set cells → set < 2 ^ t.problem.inputs → (x : ℕ) →
     has (members t.problem.inputs set) x ≡ true → (cost width : ℕ) → cost ≡ (get_or cells (set - 2 ^ x) no_cell).cost → cost ≤ t.bound →
     width ≤ 2 ^ 20 → cost + width ≤ count_ones set * 2 ^ 20
 few_sum t set cells h small x m cost width e within few =
@@ -72,10 +72,10 @@ pub few_taken : (most : ℕ) (o : Option Cell) (next r : Cell) → IfSome o (λ 
     (o ≡ None → r ≡ next) → IfSome o (λ (b : Cell). (b.cost ≤ next.cost → r ≡ b) × (next.cost < b.cost → r ≡ next)) → r.cost ≤ most
 few_taken most o next r h l p q = grind (arith, cases_lt)
 
-pub few_above : (n : ℕ) (F : List Function) (r : BoundAbove) (S : List ℕ) → r ≡ Variables → nodes_above n F r S ≤ n
+pub few_above : (n : ℕ) (F : List Function) (r : LowerBound) (S : List ℕ) → r ≡ Variables → nodes_above n F r S ≤ n
 unfolding nodes_above essentials_outside essential
 few_above n F r S e =
     let outside = filter_at_most (λ x. not (has S x)) (essential n F) in
     let all = filter_at_most (λ x. list_any (λ f. depends n f x) F) (variables n) in
     let l = length-range_with_len 0 n in
-    subst (λ (s : BoundAbove). nodes_above n F s S ≤ n) (sym e) (omega (arith, outside, all, l))
+    subst (λ (s : LowerBound). nodes_above n F s S ≤ n) (sym e) (omega (arith, outside, all, l))

@@ -2,7 +2,7 @@
 --     IsReadyAt classes i x      table i is paired in x
 --     IsNumberedFrom old new i x      the next table has the numbers of its pairs and their masks, and the others stay
 use Rattle.std.specs.Prelude.{◌≡◌, ◌≢◌, ℕ, ◌+◌, ◌^◌, ◌≤◌, List, length, slice_index_or}
-use Rattle.pair_chains.specs.declared.numbering.Numbered.{Numbered}
+use Rattle.pair_buckets.specs.declared.numbers.Numbered.{Numbered}
 use Rattle.subfunction_classes.specs.PairTables.{IsPairTable, NumbersPairs}
 use Rattle.subfunction_classes.specs.Places.{pairs}
 

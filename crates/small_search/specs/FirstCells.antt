@@ -12,26 +12,26 @@ use Rattle.definitions.specs.Widths.{width}
 use Rattle.subset_layers.specs.Sums.{IsBest}
 use Rattle.subset_layers.specs.declared.costs.Cell.{Cell}
 use Rattle.layer_core.specs.Pairing.{pair_of}
-use Rattle.layer_core.specs.Instances.{Instance, cell_for}
+use Rattle.layer_core.specs.Instances.{InstanceOf, cell_for}
 use Rattle.solutions.specs.FlatCells.{no_cell}
 
-abbrev pub cost_without : Instance → ℕ → ℕ → ℕ
-cost_without t set y = cell_cost t.problem.inputs (functions t.problem) t.pairs.pairs t.bound_above t.bound (set - 2 ^ y)
+abbrev pub cost_without : InstanceOf → ℕ → ℕ → ℕ
+cost_without t set y = cell_cost t.problem.inputs (functions t.problem) t.pairs.pairs t.lower_bound t.bound (set - 2 ^ y)
 
-abbrev pub width_without : Instance → ℕ → ℕ → ℕ
+abbrev pub width_without : InstanceOf → ℕ → ℕ → ℕ
 width_without t set y = width t.problem.inputs (functions t.problem) (without y (members t.problem.inputs set)) y
 
-abbrev pub IsBestOf : Instance → ℕ → Cell → Type 0
+abbrev pub IsBestOf : InstanceOf → ℕ → Cell → Type 0
 IsBestOf t set cell =
     IsBest (λ y. IsTrue (has (members t.problem.inputs set) y)) t.bound (cost_without t set) (width_without t set) cell.cost cell.variable
 
-abbrev pub IsNoneWithin : Instance → ℕ → Type 0
+abbrev pub IsNoneWithin : InstanceOf → ℕ → Type 0
 IsNoneWithin t set = (y : ℕ) → IsTrue (has (members t.problem.inputs set) y) → t.bound < cost_without t set y
 
-abbrev pub IsFew : Instance → ℕ → ℕ → Type 0
+abbrev pub IsFew : InstanceOf → ℕ → ℕ → Type 0
 IsFew t set cost = cost ≤ t.bound → cost ≤ count_ones set * 2 ^ 20
 
-pub record AreFirstCells (t : Instance) (count : ℕ) (cells : List Cell) : Type 0 where
+pub record AreFirstCells (t : InstanceOf) (count : ℕ) (cells : List Cell) : Type 0 where
   pub many : length cells ≡ count
   pub none : (slice_index_or cells 0 no_cell).cost ≡ 0
   pub each : (mask : ℕ) → 0 < mask → mask < count → pair_of (slice_index_or cells mask no_cell) ≡ cell_for t mask

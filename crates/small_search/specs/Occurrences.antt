@@ -10,8 +10,8 @@ use Rattle.subfunction_classes.specs.Dependence.{AreMasks}
 use Rattle.subfunction_classes.specs.Table.{ClassesOf, set_of}
 use Rattle.small_search.specs.Counting.{AreOccurring}
 use Rattle.small_search.specs.Values.{set_values}
-use Rattle.small_search.specs.declared.counting.Subfunctions.{Subfunctions}
-use Rattle.small_search.specs.declared.counting.Subfunctions.TheVariants.{Values, Classes}
+use Rattle.small_search.specs.declared.width_counts.Subfunctions.{Subfunctions}
+use Rattle.small_search.specs.declared.width_counts.Subfunctions.TheVariants.{Values, Classes}
 
 abbrev pub AreOf : ClassesOf → Subfunctions → Type 0
 AreOf t (Values occurring) = (count_ones t.set ≤ 3) × AreOccurring (set_values t.problem t.set) occurring

@@ -6,7 +6,7 @@
 use Rattle.std.specs.Prelude.{◌≡◌, ℕ, ◌+◌, ◌-◌, ◌*◌, ◌/◌, ◌^◌, ◌<◌, ◌≤◌, List, count_ones, length, slice_index_or}
 use Rattle.std.specs.Int.{trailing_zeros, w16}
 use Rattle.definitions.specs.Problems.{TruthTables}
-use Rattle.pair_chains.specs.declared.numbering.Numbered.{Numbered}
+use Rattle.pair_buckets.specs.declared.numbers.Numbered.{Numbered}
 use Rattle.subfunction_classes.specs.Table.{HoldsClasses, classes_of}
 use Rattle.small_search.specs.ValuePlaces.{values_at}
 use Rattle.small_search.specs.Values.{set_values}

@@ -6,8 +6,8 @@
 use Rattle.std.specs.Prelude.{◌≡◌, ℕ, ◌*◌, ◌^◌, ◌≤◌, List, length}
 use Rattle.definitions.specs.Problems.{TruthTables, packed_tables, words_per_table}
 use Rattle.definitions.specs.KeptPairs.{KeptPairs}
-use Rattle.definitions.specs.declared.limits.BoundAbove.TheVariants.{Variables}
-use Rattle.layer_core.specs.Instances.{Instance}
+use Rattle.definitions.specs.declared.limits.LowerBound.TheVariants.{Variables}
+use Rattle.layer_core.specs.Instances.{InstanceOf}
 use Rattle.solutions.specs.Bounded.{IsBounded}
 
 pub record ArePacked (n m : ℕ) (words : List ℕ) : Type 0 where
@@ -17,13 +17,13 @@ pub record ArePacked (n m : ℕ) (words : List ℕ) : Type 0 where
   pub few_outputs : m ≤ 16
   pub long : length words ≡ m * words_per_table n
 
-abbrev pub plain_instance : TruthTables → KeptPairs → Instance
-plain_instance p pairs = record { problem = p; pairs = pairs; bound_above = Variables; bound = 2 ^ 25 }
+abbrev pub plain_instance : TruthTables → KeptPairs → InstanceOf
+plain_instance p pairs = record { problem = p; pairs = pairs; lower_bound = Variables; bound = 2 ^ 25 }
 
-pub record IsPlainSearch (t : Instance) : Type 0 where
+pub record IsPlainSearch (t : InstanceOf) : Type 0 where
   pub pairs_are : t.pairs.inputs ≡ t.problem.inputs
   pub bounded : IsBounded t
-  pub by_variables : t.bound_above ≡ Variables
+  pub by_variables : t.lower_bound ≡ Variables
   pub bound_is : t.bound ≡ 2 ^ 25
 
 pub record HoldsSearch (n m : ℕ) (words : List ℕ) (pairs : KeptPairs) : Type 0 where

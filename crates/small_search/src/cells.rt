@@ -9,8 +9,8 @@ ghost use Rattle.subfunction_classes.specs.Table.{classes_of};
 ghost use Rattle.small_search.specs.FirstCells.{AreFirstCells, IsBestOf, IsFew, IsNoneWithin};
 ghost use Rattle.small_search.specs.Occurrences.{AreOf};
 
-use crate::counting::Subfunctions;
 use crate::instance::{NO_BOUND, Search};
+use crate::width_counts::Subfunctions;
 use order_model::{Mask, contains};
 use subset_layers::Cell;
 

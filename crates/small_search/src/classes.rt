@@ -9,7 +9,7 @@ ghost use Rattle.small_search.specs.ClassesOfValues.{NumbersValues};
 ghost use Rattle.small_search.specs.Values.{mask_at, mask_over, places};
 
 use order_model::{Mask, VarIx};
-use pair_chains::{Numbered, PairNumbers};
+use pair_buckets::{Numbered, PairNumbers};
 use std::alloc::AllocError;
 
 /// An odd number whose multiples spread over the words of 32 bits.

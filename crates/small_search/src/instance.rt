@@ -27,10 +27,10 @@ pub struct Search<'a> {
 
 impl<'a> Model for Search<'a> {
     ghost use Rattle.definitions.specs.Problems.{packed_tables};
-    ghost use Rattle.layer_core.specs.Instances.{Instance};
+    ghost use Rattle.layer_core.specs.Instances.{InstanceOf};
     ghost use Rattle.small_search.specs.Searches.{HoldsSearch, plain_instance};
 
-    ghost Value = { Instance };
+    ghost Value = { InstanceOf };
 
     ghost view = { λ s. plain_instance (packed_tables s.inputs s.outputs s.words.now) s.pairs.now };
 

@@ -6,12 +6,12 @@
 
 mod cells;
 mod classes;
-mod counting;
 mod instance;
 mod reading;
 mod search;
 mod tables;
 mod values;
+mod width_counts;
 
 pub use instance::Search;
 pub use search::{Workspace, are_few, find_optimum, is_small, solve, write_optimum};

@@ -14,12 +14,12 @@ ghost use Rattle.solutions.specs.FlatCells.{AreFlatCells};
 ghost use Rattle.solutions.specs.Solutions.{IsFirstFewest, IsOptimumFor, IsSolution};
 
 use crate::cells::cell_of_set;
-use crate::counting::Subfunctions;
 use crate::instance::{NO_BOUND, Search, words_of};
 use crate::reading::read_optimum;
 use crate::tables::{MOST_VALUE_VARIABLES, PathTables, values_over};
 use crate::values::occurring;
-use order_model::{BoundAbove, Limit, Mask, Pairs, Problem, SizedOrder, VarIx};
+use crate::width_counts::Subfunctions;
+use order_model::{Limit, LowerBound, Mask, Pairs, Problem, SizedOrder, VarIx};
 use solutions::{AllCells, Instance, Solution, optimum_of, solution_of};
 use std::alloc::{AllocError, Global};
 use subset_layers::Cell;
@@ -178,7 +178,7 @@ fn instance_of<'a>(problem: &'a Problem, pairs: &'a Pairs) -> Instance<'a>
     prove!(pairs.inputs() <= 16);
     let limit = Limit {
         bound: NO_BOUND,
-        bound_above: BoundAbove::Variables,
+        lower_bound: LowerBound::Variables,
     };
     Instance::new(problem, pairs, limit)
 }

@@ -13,7 +13,7 @@ use crate::classes::number_values;
 use crate::instance::Search;
 use crate::values::{join_values, push_points};
 use order_model::{Mask, VarIx};
-use pair_chains::{Numbered, PairNumbers, number_pairs};
+use pair_buckets::{Numbered, PairNumbers, number_pairs};
 use std::alloc::{AllocError, Global};
 
 /// The most variables of a set whose subfunctions are values; those of larger sets have classes.

@@ -5,17 +5,17 @@ use Rattle.std.proofs.lemmas.Bool.{cases_eq}
 use Rattle.std.proofs.lemmas.Option.{slice_get-get_or, get_or_from_slice_get}
 use Rattle.definitions.specs.Cells.{cell_cost}
 use Rattle.subset_layers.specs.declared.costs.Cell.{Cell}
-use Rattle.layer_core.specs.Instances.{Instance, cell_for}
+use Rattle.layer_core.specs.Instances.{InstanceOf, cell_for}
 use Rattle.solutions.specs.FlatCells.{AreFlatCells, no_cell}
 use Rattle.solutions.specs.Solutions.{cost_for}
 
 -- the cell at a mask, whatever stands for one that is not there
-there : (t : Instance) (cells : List Cell) (mask : ℕ) (d : Cell) → AreFlatCells t cells → mask < 2 ^ t.problem.inputs →
+there : (t : InstanceOf) (cells : List Cell) (mask : ℕ) (d : Cell) → AreFlatCells t cells → mask < 2 ^ t.problem.inputs →
     get_or cells mask d ≡ get_or cells mask no_cell
 there t cells mask d h small =
     sym (get_or_from_slice_get cells mask (get_or cells mask d) no_cell (slice_get-get_or cells mask d (let m = h.many in omega (arith, m, small))))
 
-pub flat_cost : (t : Instance) (cells : List Cell) (mask : ℕ) (d : Cell) → AreFlatCells t cells → mask < 2 ^ t.problem.inputs →
+pub flat_cost : (t : InstanceOf) (cells : List Cell) (mask : ℕ) (d : Cell) → AreFlatCells t cells → mask < 2 ^ t.problem.inputs →
     (get_or cells mask d).cost ≡ cost_for t mask
 unfolding cell_cost
 flat_cost t cells mask d h small = ap (λ (c : Cell). c.cost) (there t cells mask d h small) ∙ elim (cases_eq mask 0) [

@@ -12,7 +12,7 @@ use Rattle.std.specs.Int.{bit_at}
 use Rattle.std.proofs.lemmas.Nat.{zero_from_ones}
 use Rattle.definitions.specs.Orders.{has, members, variables}
 use Rattle.definitions.specs.Cells.{cell_of}
-use Rattle.definitions.specs.declared.limits.BoundAbove.{BoundAbove}
+use Rattle.definitions.specs.declared.limits.LowerBound.{LowerBound}
 use Rattle.subset_layers.specs.declared.costs.Cell.{Cell}
 use Rattle.layer_core.specs.Pairing.{pair_of}
 use Rattle.definitions.specs.Pairs.{Pair}
@@ -21,13 +21,13 @@ use Rattle.subset_layers.specs.Layers.{layer_with, masks_of}
 use Rattle.subset_layers.specs.Costs.{CostsOf, layer_of_costs, as_pair, AreTrueCells}
 use Rattle.subset_layers.proofs.BlockLists.{masks_has}
 use Rattle.definitions.proofs.Bits.Ones.{ones-members}
-use Rattle.layer_core.specs.Instances.{Instance, cell_for}
+use Rattle.layer_core.specs.Instances.{InstanceOf, cell_for}
 use Rattle.solutions.specs.LayerCosts.{IsLayerFor, AreLayersFor, AreDone}
 use Rattle.definitions.proofs.Lists.Ranges.{filter_at_most}
 
 -- ---- layers
 
-pub layers_push : (t : Instance) (layers : List CostsOf) (c : CostsOf) → AreLayersFor t layers → IsLayerFor t (length layers) c →
+pub layers_push : (t : InstanceOf) (layers : List CostsOf) (c : CostsOf) → AreLayersFor t layers → IsLayerFor t (length layers) c →
     AreLayersFor t (layers ++ c ∷ [])
 layers_push t layers c h new k d e = elim (cases_lt k (length layers)) [
   | inl lt ↦ h k d
@@ -41,14 +41,14 @@ layers_push t layers c h new k d e = elim (cases_lt k (length layers)) [
       subst (λ (z : CostsOf). IsLayerFor t k z) (sym is) (subst (λ (i : ℕ). IsLayerFor t i c) at new)
 ]
 
-pub layers_done : (t : Instance) (layers items : List CostsOf) (size end : ℕ) → items ≡ layers → length layers ≡ size + 1 → AreLayersFor t layers →
+pub layers_done : (t : InstanceOf) (layers items : List CostsOf) (size end : ℕ) → items ≡ layers → length layers ≡ size + 1 → AreLayersFor t layers →
     size < end → end ≡ t.problem.inputs → AreDone t items
 layers_done t layers items size end is many are lt e =
     subst (AreDone t) (sym is) (record { some = omega (arith, many); few = omega (arith, many, lt, e); layers_are = are })
 
 -- ---- the layer of a set
 
-module _ (t : Instance) (mask : ℕ) (c : CostsOf) (small : mask < 2 ^ t.problem.inputs) (h : IsLayerFor t (count_ones mask) c) where
+module _ (t : InstanceOf) (mask : ℕ) (c : CostsOf) (small : mask < 2 ^ t.problem.inputs) (h : IsLayerFor t (count_ones mask) c) where
   abbrev n : ℕ
   n = t.problem.inputs
 
@@ -74,12 +74,12 @@ ones_some mask lt = grind (arith, cases_eq, count_ones, zero_from_ones)
 from_some : {X : Type 0} (P : X → Type 0) (o : Option X) (x : X) → IfSome o P → o ≡ Some x → P x
 from_some P o x h e = subst (λ z. IfSome z P) e h
 
-pub cell_found : (t : Instance) (k mask : ℕ) (c : CostsOf) (o : Option Cell) (cell : Cell) → IsLayerFor t k c →
-    ((F : List Function) (P : List Pair) (r : BoundAbove) (bound : ℕ) → AreTrueCells c.inputs F P r bound c →
+pub cell_found : (t : InstanceOf) (k mask : ℕ) (c : CostsOf) (o : Option Cell) (cell : Cell) → IsLayerFor t k c →
+    ((F : List Function) (P : List Pair) (r : LowerBound) (bound : ℕ) → AreTrueCells c.inputs F P r bound c →
     IfSome o (λ x. as_pair x ≡ cell_of c.inputs F P r bound mask)) →
     o ≡ Some cell → pair_of cell ≡ cell_for t mask
 cell_found t k mask c o cell h exact e =
-    from_some (λ x. as_pair x ≡ cell_of c.inputs (functions t.problem) t.pairs.pairs t.bound_above t.bound mask) o cell
-    (exact (functions t.problem) t.pairs.pairs t.bound_above t.bound
-    (subst (λ (n : ℕ). AreTrueCells n (functions t.problem) t.pairs.pairs t.bound_above t.bound c) (sym h.inputs) h.cells_are)) e
-    ∙ ap (λ n. cell_of n (functions t.problem) t.pairs.pairs t.bound_above t.bound mask) h.inputs
+    from_some (λ x. as_pair x ≡ cell_of c.inputs (functions t.problem) t.pairs.pairs t.lower_bound t.bound mask) o cell
+    (exact (functions t.problem) t.pairs.pairs t.lower_bound t.bound
+    (subst (λ (n : ℕ). AreTrueCells n (functions t.problem) t.pairs.pairs t.lower_bound t.bound c) (sym h.inputs) h.cells_are)) e
+    ∙ ap (λ n. cell_of n (functions t.problem) t.pairs.pairs t.lower_bound t.bound mask) h.inputs

@@ -11,20 +11,20 @@ use Rattle.definitions.specs.Orders.{members}
 use Rattle.definitions.specs.Pairs.{Pair}
 use Rattle.definitions.specs.Problems.{functions}
 use Rattle.definitions.specs.Widths.{essentials_outside}
-use Rattle.definitions.specs.declared.limits.BoundAbove.{BoundAbove}
-use Rattle.definitions.specs.declared.limits.BoundAbove.TheVariants.{Variables}
+use Rattle.definitions.specs.declared.limits.LowerBound.{LowerBound}
+use Rattle.definitions.specs.declared.limits.LowerBound.TheVariants.{Variables}
 use Rattle.definitions.specs.Cells.{cell_cost, widths_taken}
 use Rattle.definitions.specs.Certificates.{Cell, least_listed, listed_masks}
 use Rattle.definitions.proofs.Widths.Cells.{cost_known}
 use Rattle.definitions.proofs.Certificates.Listed.{listed_by_cells}
 use Rattle.subset_layers.proofs.ChosenNumbers.{filter_range_more}
-use Rattle.layer_core.specs.Instances.{Instance}
+use Rattle.layer_core.specs.Instances.{InstanceOf}
 use Rattle.definitions.specs.declared.listed_cells.ListedCell.{ListedCell}
 use Rattle.solutions.specs.Needs.{needed, width_count}
 use Rattle.definitions.specs.Listed.{listed}
 use Rattle.solutions.proofs.WantedMembers.{needed_ones, wanted_none, few_each}
 
-module _ (t : Instance) where
+module _ (t : InstanceOf) where
   abbrev n : ℕ
   n = t.problem.inputs
 
@@ -36,7 +36,7 @@ module _ (t : Instance) where
 
   -- whether a set is listed, by its cell
   abbrev is_listed : ℕ → ℕ → Bool
-  is_listed total mask = ltb (cell_cost n F P t.bound_above t.bound mask + essentials_outside n F (members n mask)) total
+  is_listed total mask = ltb (cell_cost n F P t.lower_bound t.bound mask + essentials_outside n F (members n mask)) total
 
   -- the listed ones of the first sets
   pub ListedTo : ℕ → ℕ → List ListedCell → Type 0
@@ -47,15 +47,15 @@ module _ (t : Instance) where
   listed_start total = refl
 
   module _ (total number : ℕ) (found : List ListedCell) (h : ListedTo total number found) (cost outside : ℕ)
-      (is : cost ≡ cell_cost n F P t.bound_above t.bound number) (out : outside ≡ essentials_outside n F (members n number)) where
+      (is : cost ≡ cell_cost n F P t.lower_bound t.bound number) (out : outside ≡ essentials_outside n F (members n number)) where
     pub listed_yes : total ≤ t.bound → cost + outside < total → ListedTo total (number + 1) (found ++ record { mask = number; cost = cost } ∷ [])
     unfolding ListedTo least_listed
     listed_yes le lt =
-        let known = cost_known n F P t.bound_above t.bound number (omega (arith, is, lt, le)) in
+        let known = cost_known n F P t.lower_bound t.bound number (omega (arith, is, lt, le)) in
         let cell : listed (record { mask = number; cost = cost }) ≡ least_listed n F P number =
         ap (λ (k : ℕ). record { mask = number; cost = k }) (is ∙ known.1) in
         let yes : is_listed total number ≡ true =
-        lt-ltb (cell_cost n F P t.bound_above t.bound number + essentials_outside n F (members n number)) total (omega (arith, is, out, lt)) in
+        lt-ltb (cell_cost n F P t.lower_bound t.bound number + essentials_outside n F (members n number)) total (omega (arith, is, out, lt)) in
         map-append listed found (record { mask = number; cost = cost } ∷ [])
         ∙ ap₂ (λ (xs : List Cell) (c : Cell). xs ++ c ∷ []) h cell
         ∙ sym (map-append (least_listed n F P) (filter (is_listed total) (range_with_len 0 number)) (number ∷ []))
@@ -66,16 +66,16 @@ module _ (t : Instance) where
     unfolding ListedTo
     listed_no le =
         let no : is_listed total number ≡ false =
-        le-ltb (cell_cost n F P t.bound_above t.bound number + essentials_outside n F (members n number)) total (omega (arith, is, out, le)) in
+        le-ltb (cell_cost n F P t.lower_bound t.bound number + essentials_outside n F (members n number)) total (omega (arith, is, out, le)) in
         h ∙ ap (map (least_listed n F P)) (sym (append-nil (filter (is_listed total) (range_with_len 0 number)))
         ∙ ap (λ b. filter (is_listed total) (range_with_len 0 number) ++ cond b (number ∷ []) []) (sym no)
         ∙ sym (filter_range_more (is_listed total) number))
 
   pub listed_whole : (total number : ℕ) (found : List ListedCell) → ListedTo total number found → number ≡ 2 ^ n - 1 → total ≤ t.bound →
-      t.bound_above ≡ Variables → map listed found ≡ map (least_listed n F P) (listed_masks n F P total)
+      t.lower_bound ≡ Variables → map listed found ≡ map (least_listed n F P) (listed_masks n F P total)
   unfolding ListedTo
   listed_whole total number found h e le one = h ∙ ap (λ k. map (least_listed n F P) (filter (is_listed total) (range_with_len 0 k))) e
-      ∙ ap (λ (r : BoundAbove). map (least_listed n F P)
+      ∙ ap (λ (r : LowerBound). map (least_listed n F P)
       (filter (λ mask. ltb (cell_cost n F P r t.bound mask + essentials_outside n F (members n mask)) total) (range_with_len 0 (2 ^ n - 1)))) one
       ∙ ap (map (least_listed n F P)) (sym (listed_by_cells n F P t.bound total le))
 
@@ -91,6 +91,6 @@ module _ (t : Instance) where
   pub widths_next : (number count ones : ℕ) → WidthsTo number count → n ≤ 16 → ones ≡ count_ones (needed t number) → WidthsTo (number + 1) (count + ones)
   widths_next number count ones h few e = grind (arith, needed_ones, few_each, sum_by-map-range_with_len_more)
 
-  pub widths_whole : (number count : ℕ) → WidthsTo number count → number ≡ 2 ^ n → count ≡ widths_taken n F P t.bound_above t.bound
+  pub widths_whole : (number count : ℕ) → WidthsTo number count → number ≡ 2 ^ n → count ≡ widths_taken n F P t.lower_bound t.bound
   unfolding widths_taken
   widths_whole number count h e = h.are ∙ ap (λ k. sum (map (width_count t) (range_with_len 0 k))) e

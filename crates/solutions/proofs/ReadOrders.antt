@@ -20,7 +20,7 @@ use Rattle.definitions.specs.Pairs.{Pair}
 use Rattle.definitions.specs.Problems.{functions}
 use Rattle.definitions.specs.Levels.{level_count, level_counts}
 use Rattle.definitions.specs.Widths.{width, cost}
-use Rattle.definitions.specs.declared.limits.BoundAbove.{BoundAbove}
+use Rattle.definitions.specs.declared.limits.LowerBound.{LowerBound}
 use Rattle.definitions.specs.Cells.{cell_of, cell_cost, IsReadFrom, AreUnclipped}
 use Rattle.definitions.specs.OrderFaults.{Accepts}
 use Rattle.definitions.specs.Diagrams.{IsFirstKeeping}
@@ -32,7 +32,7 @@ use Rattle.definitions.proofs.Precedence.MaskLaws.{member_bit}
 use Rattle.definitions.proofs.Precedence.Greedy.{pow_le_bit}
 use Rattle.definitions.proofs.Functions.Exchange.{above_width, level_lem}
 use Rattle.definitions.proofs.Bits.Ones.{ones-members}
-use Rattle.layer_core.specs.Instances.{Instance, cell_for}
+use Rattle.layer_core.specs.Instances.{InstanceOf, cell_for}
 use Rattle.solutions.specs.Bounded.{IsBounded}
 use Rattle.solutions.proofs.WithinBound.{read_first, read_unclipped}
 use Rattle.definitions.proofs.Widths.SizeBounds.{order_length}
@@ -68,7 +68,7 @@ less_member n mask x h =
 
 -- ---- reading
 
-module _ (t : Instance) where
+module _ (t : InstanceOf) where
   abbrev n : ℕ
   n = t.problem.inputs
 
@@ -82,7 +82,7 @@ module _ (t : Instance) where
   pub record ReadTo (mask : ℕ) (xs : List ℕ) (steps : ℕ) : Type 0 where
     pub small : mask < 2 ^ n
     pub left : length (members n mask) + steps ≡ n
-    pub read : (rest : List ℕ) → IsReadFrom n F P t.bound_above t.bound mask rest → IsReadFrom n F P t.bound_above t.bound (2 ^ n - 1) (xs ++ rest)
+    pub read : (rest : List ℕ) → IsReadFrom n F P t.lower_bound t.bound mask rest → IsReadFrom n F P t.lower_bound t.bound (2 ^ n - 1) (xs ++ rest)
 
   pub read_start : ReadTo (2 ^ n - 1) [] 0
   read_start = record {
@@ -104,7 +104,7 @@ module _ (t : Instance) where
     pub read_member : IsBounded t → steps < n → has (members n mask) (cell_for t mask).1 ≡ true
     read_member b lt =
         let m = some_member n mask (let l = r.left in omega (arith, l, lt)) in
-        cell_member n F P b.order b.is_order b.keeps t.bound_above t.bound mask (get_or (members n mask) 0 0) m.1
+        cell_member n F P b.order b.is_order b.keeps t.lower_bound t.bound mask (get_or (members n mask) 0 0) m.1
 
     pub read_next : (x : ℕ) → x ≡ (cell_for t mask).1 → has (members n mask) x ≡ true → ReadTo (mask - 2 ^ x) (xs ++ x ∷ []) (steps + 1)
     unfolding IsReadFrom
@@ -113,24 +113,24 @@ module _ (t : Instance) where
         record {
           small = (let s = r.small in omega (arith, s));
           left = (let l = r.left in omega (arith, l, k.1.1));
-          read = λ rest h. subst (λ (ys : List ℕ). IsReadFrom n F P t.bound_above t.bound (2 ^ n - 1) ys) (sym (append_assoc xs (x ∷ []) rest))
+          read = λ rest h. subst (λ (ys : List ℕ). IsReadFrom n F P t.lower_bound t.bound (2 ^ n - 1) ys) (sym (append_assoc xs (x ∷ []) rest))
               (r.read (x ∷ rest) (m, is, h));
         }
 
-    pub read_whole : n ≤ steps → IsReadFrom n F P t.bound_above t.bound (2 ^ n - 1) xs
+    pub read_whole : n ≤ steps → IsReadFrom n F P t.lower_bound t.bound (2 ^ n - 1) xs
     unfolding IsReadFrom
     read_whole le =
         let none : mask ≡ 0 = zero_from_ones mask (let o = ones-members n mask r.small in let l = r.left in omega (arith, o, l, le)) in
-        subst (λ (ys : List ℕ). IsReadFrom n F P t.bound_above t.bound (2 ^ n - 1) ys) (append-nil xs) (r.read [] none)
+        subst (λ (ys : List ℕ). IsReadFrom n F P t.lower_bound t.bound (2 ^ n - 1) ys) (append-nil xs) (r.read [] none)
 
   -- ---- the order that is read
 
-  module _ (b : IsBounded t) (order : List ℕ) (read : IsReadFrom n F P t.bound_above t.bound (2 ^ n - 1) order) where
+  module _ (b : IsBounded t) (order : List ℕ) (read : IsReadFrom n F P t.lower_bound t.bound (2 ^ n - 1) order) where
     pub order_first : IsFirstKeeping n F P order
-    order_first = read_first n F P t.bound_above t.bound b.order b.is_order b.keeps b.size order read
+    order_first = read_first n F P t.lower_bound t.bound b.order b.is_order b.keeps b.size order read
 
-    pub order_unclipped : AreUnclipped n F P t.bound_above t.bound (2 ^ n - 1) order
-    order_unclipped = read_unclipped n F P t.bound_above t.bound b.order b.is_order b.keeps b.size order read
+    pub order_unclipped : AreUnclipped n F P t.lower_bound t.bound (2 ^ n - 1) order
+    order_unclipped = read_unclipped n F P t.lower_bound t.bound b.order b.is_order b.keeps b.size order read
 
     pub order_is : IsOrder n order
     order_is = order_first.fewest.is_order
@@ -154,7 +154,7 @@ left_next [] mask i lt = absurd (omega arith)
 left_next (x ∷ order) mask zero lt = refl
 left_next (x ∷ order) mask (suc i) lt = left_next order (mask - 2 ^ x) i (omega arith)
 
-module _ (n : ℕ) (F : List Function) (P : List Pair) (r : BoundAbove) (bound : ℕ) where
+module _ (n : ℕ) (F : List Function) (P : List Pair) (r : LowerBound) (bound : ℕ) where
   left_small : (order : List ℕ) (mask i : ℕ) → mask < 2 ^ n → left order mask i < 2 ^ n
   unfolding left
   left_small order mask zero h = h
@@ -199,18 +199,18 @@ unfolding cost
 cost_at n F order i lt = ap (cost n F) (drop-cons order i 0 lt)
 
 -- the first level counts, from the costs of the sets below
-pub record CountedTo (t : Instance) (order : List ℕ) (mask top : ℕ) (counts : List ℕ) (i : ℕ) : Type 0 where
+pub record CountedTo (t : InstanceOf) (order : List ℕ) (mask top : ℕ) (counts : List ℕ) (i : ℕ) : Type 0 where
   pub mask_is : mask ≡ left order (2 ^ t.problem.inputs - 1) i
-  pub top_is : top ≡ cell_cost t.problem.inputs (functions t.problem) t.pairs.pairs t.bound_above t.bound mask
+  pub top_is : top ≡ cell_cost t.problem.inputs (functions t.problem) t.pairs.pairs t.lower_bound t.bound mask
   pub counts_are : counts ≡ map (level_count t.problem.inputs (functions t.problem) order) (range_with_len 0 i)
 
-pub counted_start : (t : Instance) (order : List ℕ) (mask top : ℕ) → mask ≡ 2 ^ t.problem.inputs - 1 →
-    top ≡ cell_cost t.problem.inputs (functions t.problem) t.pairs.pairs t.bound_above t.bound mask → CountedTo t order mask top [] 0
+pub counted_start : (t : InstanceOf) (order : List ℕ) (mask top : ℕ) → mask ≡ 2 ^ t.problem.inputs - 1 →
+    top ≡ cell_cost t.problem.inputs (functions t.problem) t.pairs.pairs t.lower_bound t.bound mask → CountedTo t order mask top [] 0
 unfolding left
 counted_start t order mask top e is = record { mask_is = e; top_is = is; counts_are = refl }
 
-module _ (t : Instance) (b : IsBounded t) (order : List ℕ)
-    (read : IsReadFrom t.problem.inputs (functions t.problem) t.pairs.pairs t.bound_above t.bound (2 ^ t.problem.inputs - 1) order) (mask top : ℕ)
+module _ (t : InstanceOf) (b : IsBounded t) (order : List ℕ)
+    (read : IsReadFrom t.problem.inputs (functions t.problem) t.pairs.pairs t.lower_bound t.bound (2 ^ t.problem.inputs - 1) order) (mask top : ℕ)
     (counts : List ℕ) (i : ℕ) (c : CountedTo t order mask top counts i) where
   abbrev N : ℕ
   N = t.problem.inputs
@@ -222,27 +222,27 @@ module _ (t : Instance) (b : IsBounded t) (order : List ℕ)
   full = 2 ^ N - 1
 
   pub counted_small : mask < 2 ^ N
-  counted_small = subst (λ (m : ℕ). m < 2 ^ N) (sym c.mask_is) (left_small N G t.pairs.pairs t.bound_above t.bound order full i (full_small N))
+  counted_small = subst (λ (m : ℕ). m < 2 ^ N) (sym c.mask_is) (left_small N G t.pairs.pairs t.lower_bound t.bound order full i (full_small N))
 
   module _ (x : ℕ) (lt : i < length order) (is : x ≡ get_or order i 0) where
     pub counted_member : has (members N mask) x ≡ true
-    counted_member = ap₂ (λ m y. has (members N m) y) c.mask_is is ∙ left_member N G t.pairs.pairs t.bound_above t.bound order full i read lt
+    counted_member = ap₂ (λ m y. has (members N m) y) c.mask_is is ∙ left_member N G t.pairs.pairs t.lower_bound t.bound order full i read lt
 
     next_mask : mask - 2 ^ x ≡ left order full (suc i)
     next_mask = ap₂ (λ m y. m - 2 ^ y) c.mask_is is ∙ sym (left_next order full i lt)
 
     -- the cost falls by the level count
-    pub counted_fall : (below : ℕ) → below ≡ cell_cost N G t.pairs.pairs t.bound_above t.bound (mask - 2 ^ x) → top ≡ level_count N G order i + below
+    pub counted_fall : (below : ℕ) → below ≡ cell_cost N G t.pairs.pairs t.lower_bound t.bound (mask - 2 ^ x) → top ≡ level_count N G order i + below
     counted_fall below e =
         let u = order_unclipped t b order read in
-        let here = c.top_is ∙ ap (cell_cost N G t.pairs.pairs t.bound_above t.bound) c.mask_is
-        ∙ left_cost N G t.pairs.pairs t.bound_above t.bound order full i read u (omega (arith, lt)) ∙ cost_at N G order i lt in
-        let next = e ∙ ap (cell_cost N G t.pairs.pairs t.bound_above t.bound) next_mask
-        ∙ left_cost N G t.pairs.pairs t.bound_above t.bound order full (suc i) read u (omega (arith, lt)) in
+        let here = c.top_is ∙ ap (cell_cost N G t.pairs.pairs t.lower_bound t.bound) c.mask_is
+        ∙ left_cost N G t.pairs.pairs t.lower_bound t.bound order full i read u (omega (arith, lt)) ∙ cost_at N G order i lt in
+        let next = e ∙ ap (cell_cost N G t.pairs.pairs t.lower_bound t.bound) next_mask
+        ∙ left_cost N G t.pairs.pairs t.lower_bound t.bound order full (suc i) read u (omega (arith, lt)) in
         let level = level_is N G order i (order_is t b order read) lt in
         omega (arith, here, next, level)
 
-    pub counted_next : (below : ℕ) → below ≡ cell_cost N G t.pairs.pairs t.bound_above t.bound (mask - 2 ^ x) →
+    pub counted_next : (below : ℕ) → below ≡ cell_cost N G t.pairs.pairs t.lower_bound t.bound (mask - 2 ^ x) →
         CountedTo t order (mask - 2 ^ x) below (counts ++ (top - below) ∷ []) (i + 1)
     counted_next below e =
         let fall = counted_fall below e in
@@ -255,7 +255,7 @@ module _ (t : Instance) (b : IsBounded t) (order : List ℕ)
               ∙ sym (map-range_with_len_more (level_count N G order) 0 i i (omega arith));
         }
 
-pub counted_whole : (t : Instance) (order : List ℕ) (mask top : ℕ) (counts : List ℕ) (i : ℕ) → CountedTo t order mask top counts i →
+pub counted_whole : (t : InstanceOf) (order : List ℕ) (mask top : ℕ) (counts : List ℕ) (i : ℕ) → CountedTo t order mask top counts i →
     i ≡ length order → counts ≡ level_counts t.problem.inputs (functions t.problem) order
 unfolding level_counts
 counted_whole t order mask top counts i c e = c.counts_are ∙ ap (λ k. map (level_count t.problem.inputs (functions t.problem) order) (range_with_len 0 k)) e

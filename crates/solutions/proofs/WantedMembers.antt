@@ -18,8 +18,8 @@ use Rattle.definitions.specs.Functions.{Function}
 use Rattle.definitions.specs.Orders.{has, members, variables, without, mask_of}
 use Rattle.definitions.specs.Pairs.{Pair, is_lawful, tops}
 use Rattle.definitions.specs.Problems.{functions}
-use Rattle.definitions.specs.declared.limits.BoundAbove.{BoundAbove}
-use Rattle.definitions.specs.declared.limits.BoundAbove.TheVariants.{Variables, Widths}
+use Rattle.definitions.specs.declared.limits.LowerBound.{LowerBound}
+use Rattle.definitions.specs.declared.limits.LowerBound.TheVariants.{Variables, Widths}
 use Rattle.definitions.specs.Cells.{candidates, asked, open_tops, wanted, cell_cost}
 use Rattle.definitions.proofs.Lists.Orders.{same_bool, has_filter}
 use Rattle.definitions.proofs.Precedence.Lists.{lawful_same}
@@ -28,7 +28,7 @@ use Rattle.definitions.proofs.Widths.Recurrence.{distinct_filter}
 use Rattle.definitions.proofs.Bits.Masks.{distinct_members, members_without, members_small, bit-mask_of, members_mask_of, mask_of_members, mask_of_small}
 use Rattle.definitions.proofs.Widths.Cells.{cost_known, members_zero}
 use Rattle.definitions.proofs.Bits.Ones.{ones-members}
-use Rattle.layer_core.specs.Instances.{Instance}
+use Rattle.layer_core.specs.Instances.{InstanceOf}
 use Rattle.solutions.specs.Needs.{needed, width_count, widths_for}
 use Rattle.solutions.proofs.Filters.{filter_none, sum_map}
 use Rattle.definitions.proofs.Lists.Ranges.{filter_at_most, filter_same, filter_twice}
@@ -59,10 +59,10 @@ unfolding is_affordable
 affordable_absent costs bound mask x b = and_left _ _ (ne_eqb (bit_at mask x) 1 b)
 
 -- the costs of a set without each of its members
-abbrev pub AreCostsWithout : ℕ → List Function → List Pair → BoundAbove → ℕ → ℕ → (ℕ → ℕ) → Type 0
+abbrev pub AreCostsWithout : ℕ → List Function → List Pair → LowerBound → ℕ → ℕ → (ℕ → ℕ) → Type 0
 AreCostsWithout n F P r bound mask costs = (x : ℕ) → has (members n mask) x ≡ true → costs x ≡ cell_cost n F P r bound (mask - 2 ^ x)
 
-module _ (n : ℕ) (costs : ℕ → ℕ) (F : List Function) (P : List Pair) (r : BoundAbove) (bound mask : ℕ) (are : AreCostsWithout n F P r bound mask costs) where
+module _ (n : ℕ) (costs : ℕ → ℕ) (F : List Function) (P : List Pair) (r : LowerBound) (bound mask : ℕ) (are : AreCostsWithout n F P r bound mask costs) where
   abbrev S : List ℕ
   S = members n mask
 
@@ -81,21 +81,21 @@ module _ (n : ℕ) (costs : ℕ → ℕ) (F : List Function) (P : List Pair) (r 
       (λ x. leb (costs x) bound) S (λ x m. both x m low)
 
 -- the members whose widths a lawful set's cell takes, by the costs of the smaller sets
-pub wanted_lawful : (n : ℕ) (costs : ℕ → ℕ) (F : List Function) (P : List Pair) (r : BoundAbove) (bound mask : ℕ) →
+pub wanted_lawful : (n : ℕ) (costs : ℕ → ℕ) (F : List Function) (P : List Pair) (r : LowerBound) (bound mask : ℕ) →
     AreCostsWithout n F P r bound mask costs → is_lawful P (members n mask) ≡ true → wanted n F P r bound mask ≡ asked n r bound mask costs
 unfolding wanted asked
 wanted_lawful n costs F P Variables bound mask are low = open_lawful n costs F P Variables bound mask are low
 wanted_lawful n costs F P Widths bound mask are low =
     ap (λ xs. cond (nat_eq (length xs) 0) [] (members n mask)) (open_lawful n costs F P Widths bound mask are low)
 
-open_unlawful : (n : ℕ) (F : List Function) (P : List Pair) (r : BoundAbove) (bound mask : ℕ) → is_lawful P (members n mask) ≡ false →
+open_unlawful : (n : ℕ) (F : List Function) (P : List Pair) (r : LowerBound) (bound mask : ℕ) → is_lawful P (members n mask) ≡ false →
     open_tops n F P r bound mask ≡ []
 unfolding open_tops
 open_unlawful n F P r bound mask low =
     filter_none (λ x. is_lawful P (members n mask) && leb (cell_cost n F P r bound (mask - 2 ^ x)) bound) (tops P (members n mask))
     (λ x. and_left _ _ low)
 
-pub wanted_unlawful : (n : ℕ) (F : List Function) (P : List Pair) (r : BoundAbove) (bound mask : ℕ) → is_lawful P (members n mask) ≡ false →
+pub wanted_unlawful : (n : ℕ) (F : List Function) (P : List Pair) (r : LowerBound) (bound mask : ℕ) → is_lawful P (members n mask) ≡ false →
     wanted n F P r bound mask ≡ []
 unfolding wanted
 wanted_unlawful n F P Variables bound mask low = open_unlawful n F P Variables bound mask low
@@ -143,23 +143,23 @@ module _ (n bound mask found : ℕ) (costs : ℕ → ℕ) (is : found ≡ mask_o
   unfolding asked
   asked_variables = sym is
 
-pub needed_lawful : (t : Instance) (costs : ℕ → ℕ) (mask : ℕ) →
-    AreCostsWithout t.problem.inputs (functions t.problem) t.pairs.pairs t.bound_above t.bound mask costs →
-    is_lawful t.pairs.pairs (members t.problem.inputs mask) ≡ true → mask_of (asked t.problem.inputs t.bound_above t.bound mask costs) ≡ needed t mask
+pub needed_lawful : (t : InstanceOf) (costs : ℕ → ℕ) (mask : ℕ) →
+    AreCostsWithout t.problem.inputs (functions t.problem) t.pairs.pairs t.lower_bound t.bound mask costs →
+    is_lawful t.pairs.pairs (members t.problem.inputs mask) ≡ true → mask_of (asked t.problem.inputs t.lower_bound t.bound mask costs) ≡ needed t mask
 unfolding needed
 needed_lawful t costs mask are low =
-    ap mask_of (sym (wanted_lawful t.problem.inputs costs (functions t.problem) t.pairs.pairs t.bound_above t.bound mask are low))
+    ap mask_of (sym (wanted_lawful t.problem.inputs costs (functions t.problem) t.pairs.pairs t.lower_bound t.bound mask are low))
 
-pub needed_unlawful : (t : Instance) (mask : ℕ) → is_lawful t.pairs.pairs (members t.problem.inputs mask) ≡ false → 0 ≡ needed t mask
+pub needed_unlawful : (t : InstanceOf) (mask : ℕ) → is_lawful t.pairs.pairs (members t.problem.inputs mask) ≡ false → 0 ≡ needed t mask
 unfolding needed mask_of
-needed_unlawful t mask low = sym (ap mask_of (wanted_unlawful t.problem.inputs (functions t.problem) t.pairs.pairs t.bound_above t.bound mask low))
+needed_unlawful t mask low = sym (ap mask_of (wanted_unlawful t.problem.inputs (functions t.problem) t.pairs.pairs t.lower_bound t.bound mask low))
 
 -- how many bits the mask of a list has
 ones_mask_of : (n : ℕ) (xs : List ℕ) → IsDistinct nat_eq xs → ((y : ℕ) → has xs y ≡ true → y < n) → count_ones (mask_of xs) ≡ length xs
 ones_mask_of n xs d small = ones-members n (mask_of xs) (mask_of_small n xs d small)
     ∙ length-from_same_keys nat_eq_equiv (members n (mask_of xs)) xs (distinct_members n (mask_of xs)) d (members_mask_of n xs d small)
 
-module _ (n : ℕ) (F : List Function) (P : List Pair) (r : BoundAbove) (bound mask : ℕ) where
+module _ (n : ℕ) (F : List Function) (P : List Pair) (r : LowerBound) (bound mask : ℕ) where
   distinct_open : IsDistinct nat_eq (open_tops n F P r bound mask)
   unfolding open_tops
   distinct_open =
@@ -170,16 +170,16 @@ module _ (n : ℕ) (F : List Function) (P : List Pair) (r : BoundAbove) (bound m
   unfolding open_tops
   open_member x h = grind (arith, and_parts, has_filter, n)
 
-pub distinct_wanted : (n : ℕ) (F : List Function) (P : List Pair) (r : BoundAbove) (bound mask : ℕ) → IsDistinct nat_eq (wanted n F P r bound mask)
+pub distinct_wanted : (n : ℕ) (F : List Function) (P : List Pair) (r : LowerBound) (bound mask : ℕ) → IsDistinct nat_eq (wanted n F P r bound mask)
 unfolding wanted IsDistinct
 distinct_wanted n F P r bound mask = grind (arith, n, distinct_open, distinct_members)
 
-pub wanted_member : (n : ℕ) (F : List Function) (P : List Pair) (r : BoundAbove) (bound mask x : ℕ) → has (wanted n F P r bound mask) x ≡ true →
+pub wanted_member : (n : ℕ) (F : List Function) (P : List Pair) (r : LowerBound) (bound mask x : ℕ) → has (wanted n F P r bound mask) x ≡ true →
     has (members n mask) x ≡ true
 unfolding wanted
 wanted_member n F P r bound mask x h = grind (arith, n, open_member, false≢true)
 
-module _ (n : ℕ) (F : List Function) (P : List Pair) (r : BoundAbove) (bound mask : ℕ) where
+module _ (n : ℕ) (F : List Function) (P : List Pair) (r : LowerBound) (bound mask : ℕ) where
   pub wanted_ones : count_ones (mask_of (wanted n F P r bound mask)) ≡ length (wanted n F P r bound mask)
   wanted_ones =
       ones_mask_of n (wanted n F P r bound mask) (distinct_wanted n F P r bound mask) (λ y h. members_small n mask y (wanted_member n F P r bound mask y h))
@@ -190,25 +190,25 @@ module _ (n : ℕ) (F : List Function) (P : List Pair) (r : BoundAbove) (bound m
   pub bit_wanted : (x : ℕ) → bit_at (mask_of (wanted n F P r bound mask)) x ≡ 1 → has (wanted n F P r bound mask) x ≡ true
   bit_wanted x e = grind (arith, n, wanted_bit)
 
-pub needed_ones : (t : Instance) (mask : ℕ) → count_ones (needed t mask) ≡ width_count t mask
+pub needed_ones : (t : InstanceOf) (mask : ℕ) → count_ones (needed t mask) ≡ width_count t mask
 unfolding needed
-needed_ones t mask = wanted_ones t.problem.inputs (functions t.problem) t.pairs.pairs t.bound_above t.bound mask
+needed_ones t mask = wanted_ones t.problem.inputs (functions t.problem) t.pairs.pairs t.lower_bound t.bound mask
 
-pub needed_sum : (t : Instance) (masks : List ℕ) → sum_by count_ones (map (needed t) masks) ≡ widths_for t masks
+pub needed_sum : (t : InstanceOf) (masks : List ℕ) → sum_by count_ones (map (needed t) masks) ≡ widths_for t masks
 unfolding widths_for
 needed_sum t masks = sum_map count_ones (needed t) (width_count t) masks (needed_ones t) ∙ sym (sum-map (width_count t) masks)
 
 -- the empty set takes none
-open_none : (n : ℕ) (F : List Function) (P : List Pair) (r : BoundAbove) (bound : ℕ) → open_tops n F P r bound 0 ≡ []
+open_none : (n : ℕ) (F : List Function) (P : List Pair) (r : LowerBound) (bound : ℕ) → open_tops n F P r bound 0 ≡ []
 unfolding open_tops
 open_none n F P r bound = ap (λ S. filter (λ x. is_lawful P (members n 0) && leb (cell_cost n F P r bound (0 - 2 ^ x)) bound) (tops P S)) (members_zero n)
 
-pub wanted_none : (n : ℕ) (F : List Function) (P : List Pair) (r : BoundAbove) (bound : ℕ) → wanted n F P r bound 0 ≡ []
+pub wanted_none : (n : ℕ) (F : List Function) (P : List Pair) (r : LowerBound) (bound : ℕ) → wanted n F P r bound 0 ≡ []
 unfolding wanted
 wanted_none n F P Variables bound = open_none n F P Variables bound
 wanted_none n F P Widths bound = ap (λ xs. cond (nat_eq (length xs) 0) [] (members n 0)) (open_none n F P Widths bound)
 
 -- and no set takes more than there are variables
-pub few_each : (t : Instance) (mask : ℕ) → t.problem.inputs ≤ 16 → width_count t mask ≤ 16
+pub few_each : (t : InstanceOf) (mask : ℕ) → t.problem.inputs ≤ 16 → width_count t mask ≤ 16
 unfolding members
 few_each t mask few = grind (arith, wanted_few, filter_at_most, length-range_with_len)

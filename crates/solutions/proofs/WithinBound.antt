@@ -6,7 +6,7 @@ use Rattle.definitions.specs.Orders.{IsOrder, variables, members}
 use Rattle.definitions.specs.Pairs.{Pair, Keeps}
 use Rattle.definitions.specs.Levels.{size_under}
 use Rattle.definitions.specs.Widths.{least}
-use Rattle.definitions.specs.declared.limits.BoundAbove.{BoundAbove}
+use Rattle.definitions.specs.declared.limits.LowerBound.{LowerBound}
 use Rattle.definitions.specs.Cells.{is_within, IsReadFrom, AreUnclipped}
 use Rattle.definitions.specs.Diagrams.{IsFirstKeeping}
 use Rattle.definitions.proofs.Bits.Masks.{members_full}
@@ -16,12 +16,12 @@ use Rattle.definitions.proofs.Widths.Cells.{within_parts, within_from, lawful_me
 use Rattle.definitions.proofs.Widths.Clipped.{FirstRead, first_read, full_within, moved, unclipped}
 
 -- a set within a bound is within a larger one
-within_more : (n : ℕ) (F : List Function) (P : List Pair) (r : BoundAbove) (bound more : ℕ) (S : List ℕ) → bound ≤ more →
+within_more : (n : ℕ) (F : List Function) (P : List Pair) (r : LowerBound) (bound more : ℕ) (S : List ℕ) → bound ≤ more →
     is_within n F P r bound S ≡ true → is_within n F P r more S ≡ true
 within_more n F P r bound more S le h =
     let parts = within_parts n F P r bound S h in within_from n F P r more S parts.0 (let k = parts.1 in omega (arith, k, le))
 
-module _ (n : ℕ) (F : List Function) (P : List Pair) (r : BoundAbove) (bound : ℕ) (other : List ℕ) (o : IsOrder n other) (k : Keeps P other)
+module _ (n : ℕ) (F : List Function) (P : List Pair) (r : LowerBound) (bound : ℕ) (other : List ℕ) (o : IsOrder n other) (k : Keeps P other)
     (le : size_under n F other ≤ bound) (order : List ℕ) (read : IsReadFrom n F P r bound (2 ^ n - 1) order) where
   within : is_within n F P r bound (members n (2 ^ n - 1)) ≡ true
   within = within_more n F P r (size_under n F other) bound (members n (2 ^ n - 1)) le (full_within n F P other o k r other o k)

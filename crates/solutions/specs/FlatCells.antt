@@ -4,14 +4,14 @@
 use Rattle.std.specs.Prelude.{◌≡◌, ℕ, ◌^◌, ◌<◌, List, length, slice_index_or}
 use Rattle.subset_layers.specs.declared.costs.Cell.{Cell}
 use Rattle.layer_core.specs.Pairing.{pair_of}
-use Rattle.layer_core.specs.Instances.{Instance, cell_for}
+use Rattle.layer_core.specs.Instances.{InstanceOf, cell_for}
 
 -- the cell of no set
 abbrev pub no_cell : Cell
 no_cell = record { cost = 0; variable = 0 }
 
 -- the cell of each set at its mask, and a cost of 0 at that of the empty set
-pub record AreFlatCells (t : Instance) (cells : List Cell) : Type 0 where
+pub record AreFlatCells (t : InstanceOf) (cells : List Cell) : Type 0 where
   pub many : length cells ≡ 2 ^ t.problem.inputs
   pub none : (slice_index_or cells 0 no_cell).cost ≡ 0
   pub each : (mask : ℕ) → 0 < mask → mask < 2 ^ t.problem.inputs → pair_of (slice_index_or cells mask no_cell) ≡ cell_for t mask

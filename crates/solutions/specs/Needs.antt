@@ -10,18 +10,18 @@ use Rattle.definitions.specs.Problems.{functions}
 use Rattle.definitions.specs.Cells.{candidates, wanted}
 use Rattle.subset_layers.specs.Layers.{layer_with, masks_of}
 use Rattle.subset_layers.specs.Costs.{CostsOf, cost_without}
-use Rattle.layer_core.specs.Instances.{Instance}
+use Rattle.layer_core.specs.Instances.{InstanceOf}
 
 -- the mask of the members whose widths the cell of a set takes
-unfoldable pub needed : Instance → ℕ → ℕ
-needed t mask = mask_of (wanted t.problem.inputs (functions t.problem) t.pairs.pairs t.bound_above t.bound mask)
+unfoldable pub needed : InstanceOf → ℕ → ℕ
+needed t mask = mask_of (wanted t.problem.inputs (functions t.problem) t.pairs.pairs t.lower_bound t.bound mask)
 
 -- how many widths the cell of a set takes
-abbrev pub width_count : Instance → ℕ → ℕ
-width_count t mask = length (wanted t.problem.inputs (functions t.problem) t.pairs.pairs t.bound_above t.bound mask)
+abbrev pub width_count : InstanceOf → ℕ → ℕ
+width_count t mask = length (wanted t.problem.inputs (functions t.problem) t.pairs.pairs t.lower_bound t.bound mask)
 
 -- how many widths the cells of some sets take
-unfoldable pub widths_for : Instance → List ℕ → ℕ
+unfoldable pub widths_for : InstanceOf → List ℕ → ℕ
 widths_for t masks = sum (map (width_count t) masks)
 
 -- a set of the layer after the one of some costs

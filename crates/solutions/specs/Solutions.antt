@@ -16,32 +16,32 @@ use Rattle.definitions.specs.Cells.{IsReadFrom, cell_cost, widths_taken}
 use Rattle.definitions.specs.Certificates.{certificate_of, least_listed, listed_masks}
 use Rattle.definitions.specs.Listed.{listed}
 use Rattle.definitions.specs.declared.listed_cells.ListedCell.{ListedCell}
-use Rattle.layer_core.specs.Instances.{Instance}
+use Rattle.layer_core.specs.Instances.{InstanceOf}
 use Rattle.order_model.specs.declared.sized_orders.SizedOrder.{SizedOrder}
 use Rattle.solutions.specs.declared.solution.Solution.{Solution}
 
 -- the cost of a set
-abbrev pub cost_for : Instance → ℕ → ℕ
-cost_for t mask = cell_cost t.problem.inputs (functions t.problem) t.pairs.pairs t.bound_above t.bound mask
+abbrev pub cost_for : InstanceOf → ℕ → ℕ
+cost_for t mask = cell_cost t.problem.inputs (functions t.problem) t.pairs.pairs t.lower_bound t.bound mask
 
 -- the cost of a set without one member
-abbrev pub cost_for_without : Instance → ℕ → ℕ → ℕ
+abbrev pub cost_for_without : InstanceOf → ℕ → ℕ → ℕ
 cost_for_without t mask x = cost_for t (mask - 2 ^ x)
 
 -- the order that the cells give from the set of all variables downward
-abbrev pub IsReadOff : Instance → List ℕ → Type 0
-IsReadOff t order = IsReadFrom t.problem.inputs (functions t.problem) t.pairs.pairs t.bound_above t.bound
+abbrev pub IsReadOff : InstanceOf → List ℕ → Type 0
+IsReadOff t order = IsReadFrom t.problem.inputs (functions t.problem) t.pairs.pairs t.lower_bound t.bound
     (2 ^ t.problem.inputs - 1) order
 
 -- the sets that a certificate of this total lists, with their least costs
-abbrev pub AreListedFor : Instance → ℕ → List ListedCell → Type 0
+abbrev pub AreListedFor : InstanceOf → ℕ → List ListedCell → Type 0
 AreListedFor t total cells =
     map listed cells ≡ map (least_listed t.problem.inputs (functions t.problem) t.pairs.pairs)
     (listed_masks t.problem.inputs (functions t.problem) t.pairs.pairs total)
 
 -- how many widths the cells of all sets take
-abbrev pub widths_for_all : Instance → ℕ
-widths_for_all t = widths_taken t.problem.inputs (functions t.problem) t.pairs.pairs t.bound_above t.bound
+abbrev pub widths_for_all : InstanceOf → ℕ
+widths_for_all t = widths_taken t.problem.inputs (functions t.problem) t.pairs.pairs t.lower_bound t.bound
 
 -- the first order of the fewest nodes among those that keep the pairs, with its level counts and its size
 pub record IsFirstFewest (n : ℕ) (F : List Function) (P : List Pair) (order levels : List ℕ) (total : ℕ) : Type 0 where

@@ -34,10 +34,10 @@ pub struct AllCells<'a> {
 }
 
 impl<'a> Model for AllCells<'a> {
-    ghost use Rattle.layer_core.specs.Instances.{Instance};
+    ghost use Rattle.layer_core.specs.Instances.{InstanceOf};
     ghost use Rattle.solutions.specs.Bounded.{HoldsCells};
 
-    ghost Value = { Instance };
+    ghost Value = { InstanceOf };
 
     ghost view = { λ a. a.instance.now };
 
@@ -150,7 +150,7 @@ impl<'a> AllCells<'a> {
     {
         if self.instance.pairs().lawful(mask) {
             let known = self.affordable_members(mask);
-            asked_members(self.instance.limit().bound_above, mask, known)
+            asked_members(self.instance.limit().lower_bound, mask, known)
         } else {
             0
         }

@@ -3,7 +3,7 @@
 ghost use Rattle.std.specs.Prelude.{◌≤◌, length};
 
 use crate::instance::Instance;
-use order_model::{BoundAbove, Limit, Pairs, Problem, Workers};
+use order_model::{Limit, LowerBound, Pairs, Problem, Workers};
 use subset_layers::{Costs, Layer};
 
 /// One in so many entries of the truth tables is a node of a diagram that is as large as most.
@@ -16,9 +16,9 @@ fn first_layers(problem: &Problem, limit: Limit) -> u8 {
     if u64::from(limit.bound) >= entries / ENTRIES_A_NODE {
         return problem.inputs();
     }
-    match limit.bound_above {
-        BoundAbove::Variables => 6,
-        BoundAbove::Widths => 5,
+    match limit.lower_bound {
+        LowerBound::Variables => 6,
+        LowerBound::Widths => 5,
     }
 }
 
@@ -58,9 +58,9 @@ fn mean_cost(costs: &Costs, size: usize) -> u64 {
 /// The likely lower bound on the nodes above a set of such a width, with so many variables
 /// outside.
 fn likely_above(instance: &Instance<'_>, outside: usize, width: u64) -> u64 {
-    let asked = match instance.limit.bound_above {
-        BoundAbove::Variables => 0,
-        BoundAbove::Widths => width.saturating_sub(u64::from(instance.problem.outputs())),
+    let asked = match instance.limit.lower_bound {
+        LowerBound::Variables => 0,
+        LowerBound::Widths => width.saturating_sub(u64::from(instance.problem.outputs())),
     };
     asked.max(outside as u64)
 }

@@ -3,7 +3,7 @@
 ghost use Rattle.std.specs.Prelude.{◌≡◌, ◌+◌, ◌^◌, ◌<◌, ◌≤◌};
 
 use layer_core::CellResult;
-use order_model::{BoundsAbove, Limit, Mask, Pairs, Problem};
+use order_model::{Limit, LowerBounds, Mask, Pairs, Problem};
 use std::marker::Model;
 use subset_layers::Cell;
 
@@ -14,25 +14,25 @@ pub struct Instance<'a> {
     pub problem: &'a Problem,
     pub pairs: &'a Pairs,
     pub limit: Limit,
-    pub bounds_above: BoundsAbove<'a>,
+    pub lower_bounds: LowerBounds<'a>,
 }
 
 impl<'a> Model for Instance<'a> {
-    ghost use Rattle.layer_core.specs.Instances.{Instance, instance_of};
+    ghost use Rattle.layer_core.specs.Instances.{InstanceOf, instance_of};
     ghost use Rattle.solutions.specs.Instances.{HoldsInstance};
 
-    ghost Value = { Instance };
+    ghost Value = { InstanceOf };
 
     ghost view = { λ s. instance_of s.problem.now s.pairs.now s.limit };
 
     ghost invariant = { λ s. HoldsInstance
-        (instance_of s.problem.now s.pairs.now s.limit) s.bounds_above };
+        (instance_of s.problem.now s.pairs.now s.limit) s.lower_bounds };
 }
 
 impl<'a> Instance<'a> {
     ghost use Rattle.definitions.specs.Problems.{functions};
     ghost use Rattle.definitions.specs.Widths.{essential_mask};
-    ghost use Rattle.definitions.specs.BoundsAbove.{bounds_above_with};
+    ghost use Rattle.definitions.specs.LowerBounds.{lower_bounds_with};
     ghost use Rattle.layer_core.specs.Pairing.{pair_of};
     ghost use Rattle.layer_core.specs.Instances.{cell_for, instance_of};
 
@@ -47,7 +47,7 @@ impl<'a> Instance<'a> {
             problem,
             pairs,
             limit,
-            bounds_above: BoundsAbove::new(problem, limit.bound_above),
+            lower_bounds: LowerBounds::new(problem, limit.lower_bound),
         }
     }
 
@@ -77,23 +77,23 @@ impl<'a> Instance<'a> {
 
     /// The bound, and the lower bound on the nodes above a set.
     pub fn limit(&self) -> Limit
-        ensures { result ≡ record { bound = self.now.bound; bound_above = self.now.bound_above } }
+        ensures { result ≡ record { bound = self.now.bound; lower_bound = self.now.lower_bound } }
     {
         self.limit
     }
 
     /// The lower bound on the nodes above the sets.
-    pub fn bounds_above(&self) -> &BoundsAbove<'a>
-        ensures { result.now ≡ bounds_above_with self.now.problem self.now.bound_above }
+    pub fn lower_bounds(&self) -> &LowerBounds<'a>
+        ensures { result.now ≡ lower_bounds_with self.now.problem self.now.lower_bound }
     {
-        &self.bounds_above
+        &self.lower_bounds
     }
 
     /// The set of the variables on which some function depends.
     pub fn essential(&self) -> Mask
         ensures { result ≡ essential_mask self.now.problem.inputs (functions self.now.problem) }
     {
-        self.bounds_above.essential()
+        self.lower_bounds.essential()
     }
 
     /// The result of a set whose cell is found.

@@ -9,7 +9,7 @@ mod symmetric_words;
 
 // What the layers stand on: the widths that cells take, where cells stand, and what is likely.
 mod guesses;
-mod making;
+mod layer_steps;
 mod needs;
 
 // What is read off the cells of all sets.
@@ -22,7 +22,7 @@ mod solution;
 pub use all_cells::AllCells;
 pub use guesses::{busy_workers, layers_to_prepare, likely_end};
 pub use instance::Instance;
-pub use making::{first_layer, place_cells};
+pub use layer_steps::{first_layer, place_cells};
 pub use needs::needs_of_block;
 pub use optima::{optimum_of, solution_of};
 pub use solution::Solution;

@@ -4,7 +4,7 @@ ghost use Rattle.std.specs.Prelude.{◌≡◌, ◌<◌, ◌≤◌, ℕ, count_on
 ghost use Rattle.definitions.specs.Functions.{Function};
 ghost use Rattle.definitions.specs.Orders.{members};
 ghost use Rattle.definitions.specs.Widths.{essential_mask, essentials_outside};
-ghost use Rattle.definitions.specs.declared.limits.BoundAbove.TheVariants.{Variables};
+ghost use Rattle.definitions.specs.declared.limits.LowerBound.TheVariants.{Variables};
 ghost use Rattle.solutions.specs.Solutions.{AreListedFor, widths_for_all};
 
 use crate::all_cells::AllCells;
@@ -28,7 +28,7 @@ pub(crate) fn listed_cells(
     total: u32,
 ) -> Result<Vec<ListedCell>, AllocError>
     requires within { total ≤ cells.now.bound }
-    requires bound_above { cells.now.bound_above ≡ Variables }
+    requires lower_bound { cells.now.lower_bound ≡ Variables }
     ensures { IfOk result (λ v. AreListedFor cells.now total v.items) }
 {
     let essential = cells.essential();

@@ -8,20 +8,20 @@ ghost use Rattle.solutions.specs.LayerCosts.{AreCostsFor};
 ghost use Rattle.solutions.specs.Needs.{IsInNextLayer, affordable, needed};
 
 use crate::instance::Instance;
-use order_model::{BoundAbove, Mask, contains};
+use order_model::{LowerBound, Mask, contains};
 use std::alloc::{AllocError, Global};
 use subset_layers::{Block, Costs};
 
 /// The members of a set whose widths its cell takes, by those without which the cost is within the
 /// bound: these, or all of them if the bound is by widths and there is any such.
-pub(crate) fn asked_members(bound_above: BoundAbove, mask: Mask, known: Mask) -> Mask
+pub(crate) fn asked_members(lower_bound: LowerBound, mask: Mask, known: Mask) -> Mask
     ensures { (n bound : ℕ) (costs : ℕ → ℕ) →
         known ≡ mask_of (candidates n bound mask costs) → mask < 2 ^ n →
-        result ≡ mask_of (asked n bound_above bound mask costs) }
+        result ≡ mask_of (asked n lower_bound bound mask costs) }
 {
-    match bound_above {
-        BoundAbove::Variables => known,
-        BoundAbove::Widths => { if known == 0 { 0 } else { mask } }
+    match lower_bound {
+        LowerBound::Variables => known,
+        LowerBound::Widths => { if known == 0 { 0 } else { mask } }
     }
 }
 
@@ -51,7 +51,7 @@ fn needed_members(instance: &Instance<'_>, before: &Costs, mask: Mask) -> Mask
 {
     if instance.pairs.lawful(mask) {
         let known = affordable_members(mask, before, instance.limit.bound);
-        asked_members(instance.limit.bound_above, mask, known)
+        asked_members(instance.limit.lower_bound, mask, known)
     } else {
         0
     }

@@ -1,7 +1,7 @@
 //! The first order of the fewest nodes, and what its certificate lists.
 
 ghost use Rattle.std.specs.Prelude.{◌≡◌, ◌≤◌, IfOk};
-ghost use Rattle.definitions.specs.declared.limits.BoundAbove.TheVariants.{Variables};
+ghost use Rattle.definitions.specs.declared.limits.LowerBound.TheVariants.{Variables};
 ghost use Rattle.solutions.specs.Solutions.{IsOptimumFor, IsSolution, widths_for_all};
 
 use crate::all_cells::AllCells;
@@ -30,7 +30,7 @@ pub fn optimum_of(alloc: Global, cells: &AllCells<'_>) -> Result<SizedOrder, All
 /// The order of `optimum_of`, with what its certificate lists. For that the cells count on one node
 /// above a set for each essential variable outside, and no more.
 pub fn solution_of(alloc: Global, cells: &AllCells<'_>) -> Result<Solution, AllocError>
-    requires { cells.now.bound_above ≡ Variables }
+    requires { cells.now.lower_bound ≡ Variables }
     ensures solution { IfOk result (IsSolution cells.now.problem cells.now.pairs.pairs) }
     ensures widths { IfOk result (λ s. s.widths ≡ widths_for_all cells.now) }
 {

@@ -7,7 +7,7 @@ use Rattle.definitions.specs.Orders.{members, without}
 use Rattle.definitions.specs.Pairs.{are_lawful, is_lawful}
 use Rattle.definitions.specs.Levels.{subfunctions, reach, dependents}
 use Rattle.definitions.specs.Widths.{outside, width, cost, arrangements, least_of, least, essential, essentials_outside}
-use Rattle.definitions.specs.BoundsAbove.{nodes_above}
+use Rattle.definitions.specs.LowerBounds.{nodes_above}
 use Rattle.definitions.specs.Cells.{is_within, best_top, cell_of}
 use Rattle.definitions.specs.Problems.{IsPacked, table_in, tables_of}
 use Rattle.solver_tests.specs.Examples.{parity}

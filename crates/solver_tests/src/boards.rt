@@ -2,13 +2,13 @@
 
 ghost use Rattle.std.specs.Prelude.{◌≡◌, ◌<◌, ◌≤◌, All, length, [], ◌∷◌};
 ghost use Rattle.layer_core.specs.Instances.{cell_for, instance_of};
-ghost use Rattle.definitions.specs.declared.limits.BoundAbove.TheVariants.{Variables};
+ghost use Rattle.definitions.specs.declared.limits.LowerBound.TheVariants.{Variables};
 ghost use Rattle.layer_board.specs.Views.{first_seat};
 ghost use Rattle.solver_tests.specs.Examples.{parity};
 
 use layer_board::{Board, BoardSeat, Claim, CloseError, PostRefused};
 use layer_core::{CellResult, Core, Event, Reply};
-use order_model::{BoundAbove, Limit, Mask, Pairs, Problem, Workers};
+use order_model::{Limit, LowerBound, Mask, Pairs, Problem, Workers};
 use std::alloc::Global;
 use std::process::Abort;
 use std::thread;
@@ -34,11 +34,11 @@ fn words(rt: &impl Abort, alloc: Global, word: u64) -> Vec<u64>
 
 /// A bound, with one node counted for each essential variable outside a set.
 fn limit(bound: u32) -> Limit
-    ensures { result ≡ record { bound = bound; bound_above = Variables } }
+    ensures { result ≡ record { bound = bound; lower_bound = Variables } }
 {
     Limit {
         bound,
-        bound_above: BoundAbove::Variables,
+        lower_bound: LowerBound::Variables,
     }
 }
 
@@ -48,7 +48,7 @@ fn parity_cell(problem: &Problem, mask: Mask, cost: u32, pairs: &Pairs) -> CellR
     requires pairs { pairs.now.pairs ≡ [] }
     requires cell { (cost, 0) ≡ cell_for parity mask }
     ensures instance { result.instance ≡ record
-        { problem = problem.now; pairs = pairs.now; bound_above = Variables; bound = 7 } }
+        { problem = problem.now; pairs = pairs.now; lower_bound = Variables; bound = 7 } }
     ensures mask { result.mask ≡ mask }
 {
     CellResult::new(problem, limit(7), mask, Cell { cost, variable: 0 }, pairs)
@@ -93,7 +93,7 @@ fn board_of_twos(
     bound: u32,
 ) -> (Board, BoardSeat)
     ensures instance { result.0.brief.instance ≡ instance_of problem.now pairs.now (record
-        { bound = bound; bound_above = Variables }) }
+        { bound = bound; lower_bound = Variables }) }
     ensures seat { result.1.board ≡ result.0 }
 {
     let layer = Layer::of(alloc, problem.inputs(), 2).expect(rt, "memory");
@@ -157,7 +157,7 @@ fn post_and_read(
     requires problem { problem.now ≡ parity.problem }
     requires pairs { pairs.now.pairs ≡ [] }
     requires instance { board.now.brief.instance ≡ record
-        { problem = problem.now; pairs = pairs.now; bound_above = Variables; bound = 7 } }
+        { problem = problem.now; pairs = pairs.now; lower_bound = Variables; bound = 7 } }
     ensures { seat.new.board ≡ board.now }
 {
     // The second block is not this seat's, and the mask 0007 is not in the layer.
@@ -199,7 +199,7 @@ fn claim_and_post(
     requires problem { problem.now ≡ parity.problem }
     requires pairs { pairs.now.pairs ≡ [] }
     requires instance { board.now.brief.instance ≡ record
-        { problem = problem.now; pairs = pairs.now; bound_above = Variables; bound = 7 } }
+        { problem = problem.now; pairs = pairs.now; lower_bound = Variables; bound = 7 } }
     ensures { seat.new.board ≡ board.now }
 {
     claim_blocks(rt, board, seat, &[(0, 1, 3)]);

@@ -3,7 +3,7 @@
 ghost use Rattle.std.specs.Prelude.{◌≡◌, ◌+◌, ◌<◌};
 
 use crate::searches::tables_of;
-use order_model::{BoundAbove, BoundsAbove, Mask, Pairs};
+use order_model::{LowerBound, LowerBounds, Mask, Pairs};
 use std::alloc::Global;
 use std::process::Abort;
 use subset_layers::{Cell, Costs, Layer, least_cell};
@@ -90,9 +90,9 @@ fn cells_of(rt: &impl Abort, alloc: Global, rows: &[Row]) -> Vec<Cell> {
 }
 
 /// Whether the cells of a layer's sets, over the costs of the layer before, are those of the rows.
-fn are_least(layer: &Layer, costs: &Costs, bounds_above: &BoundsAbove<'_>, rows: &[Row]) -> bool
+fn are_least(layer: &Layer, costs: &Costs, lower_bounds: &LowerBounds<'_>, rows: &[Row]) -> bool
     requires inputs { costs.now.inputs ≡ 3 }
-    requires functions { bounds_above.now.problem.inputs ≡ 3 }
+    requires functions { lower_bounds.now.problem.inputs ≡ 3 }
     requires same { layer.now.inputs ≡ 3 }
     requires next { layer.now.size ≡ costs.now.size + 1 }
 {
@@ -103,7 +103,7 @@ fn are_least(layer: &Layer, costs: &Costs, bounds_above: &BoundsAbove<'_>, rows:
         }
         let mut padded = [0; 16];
         padded[..3].copy_from_slice(widths);
-        if least_cell(*mask, costs, &padded, 3, bounds_above, &Pairs::none(3)) != cell_of(row) {
+        if least_cell(*mask, costs, &padded, 3, lower_bounds, &Pairs::none(3)) != cell_of(row) {
             return false;
         }
     }
@@ -139,18 +139,18 @@ fn next_costs(
     rt: &impl Abort,
     alloc: Global,
     costs: Costs,
-    bounds_above: &BoundsAbove<'_>,
+    lower_bounds: &LowerBounds<'_>,
     size: u8,
     rows: &[Row],
 ) -> Costs
     requires inputs { costs.inputs ≡ 3 }
-    requires functions { bounds_above.now.problem.inputs ≡ 3 }
+    requires functions { lower_bounds.now.problem.inputs ≡ 3 }
     requires next { size ≡ costs.size + 1 }
     ensures inputs { result.inputs ≡ 3 }
     ensures size { result.size ≡ size }
 {
     let layer = Layer::of(alloc, 3, size).expect(rt, "memory");
-    assert!(rt; are_least(&layer, &costs, bounds_above, rows));
+    assert!(rt; are_least(&layer, &costs, lower_bounds, rows));
     let cells = cells_of(rt, alloc, rows);
     costs_of(rt, layer, cells, rows)
 }
@@ -166,14 +166,14 @@ fn first_costs(rt: &impl Abort, alloc: Global) -> Costs
 }
 
 /// Goes through the layers, each layer's costs made from those of the one before.
-fn check_layers(rt: &impl Abort, alloc: Global, bounds_above: &BoundsAbove<'_>)
-    requires { bounds_above.now.problem.inputs ≡ 3 }
+fn check_layers(rt: &impl Abort, alloc: Global, lower_bounds: &LowerBounds<'_>)
+    requires { lower_bounds.now.problem.inputs ≡ 3 }
 {
     let costs = first_costs(rt, alloc);
-    let costs = next_costs(rt, alloc, costs, bounds_above, 1, &ONE);
+    let costs = next_costs(rt, alloc, costs, lower_bounds, 1, &ONE);
     assert!(rt; costs.cost_of(0x0003).is_none());
-    let costs = next_costs(rt, alloc, costs, bounds_above, 2, &TWO);
-    let costs = next_costs(rt, alloc, costs, bounds_above, 3, &THREE);
+    let costs = next_costs(rt, alloc, costs, lower_bounds, 2, &TWO);
+    let costs = next_costs(rt, alloc, costs, lower_bounds, 3, &THREE);
     assert!(rt; costs.inputs() == 3);
 }
 
@@ -186,6 +186,6 @@ fn the_multiplexer_has_its_cells(rt: HostRuntime) {
     check_layers(
         &rt,
         rt.alloc(),
-        &BoundsAbove::new(tables.problem(), BoundAbove::Variables),
+        &LowerBounds::new(tables.problem(), LowerBound::Variables),
     );
 }

@@ -3,7 +3,7 @@
 ghost use Rattle.std.specs.Prelude.{◌≡◌};
 
 use counted_io::Counting;
-use order_model::{BoundAbove, Gate, Limit, NoGate, Order, Pairs, SizedOrder, VarIx, Workers};
+use order_model::{Gate, Limit, LowerBound, NoGate, Order, Pairs, SizedOrder, VarIx, Workers};
 use order_solve::{Solution, find_optimum_alone, prepare, solve, solve_alone};
 use pla_reader::read_cover;
 use sifting::laws::diagrams_have_their_problems_tables;
@@ -59,7 +59,7 @@ fn solution_of<R: Abort + Threads + Sync, G: Gate>(
     let workers = Workers::new(2).expect(rt, "two workers");
     let limit = Limit {
         bound: 16,
-        bound_above: BoundAbove::Variables,
+        lower_bound: LowerBound::Variables,
     };
     let problem = tables.problem();
     let pairs = Pairs::none(problem.inputs());

@@ -10,7 +10,7 @@ ghost use Rattle.order_solve.specs.LayerContexts.{IsContext, context_with};
 use crate::boards::{error_of_closing, is_stranger, lone_board};
 use crate::searches::tables_of;
 use layer_board::{Board, BoardSeat, CloseError, PostRefused};
-use order_model::{BoundAbove, Limit, Mask, NoGate, Pairs, Workers};
+use order_model::{Limit, LowerBound, Mask, NoGate, Pairs, Workers};
 use order_solve::{Instance, LayerContext, work_layer};
 use std::alloc::Global;
 use std::process::Abort;
@@ -335,7 +335,7 @@ fn a_held_claim_is_missing_or_posted(rt: HostRuntime) {
     let pairs = Pairs::none(problem.inputs());
     let limit = Limit {
         bound: 7,
-        bound_above: BoundAbove::Variables,
+        lower_bound: LowerBound::Variables,
     };
     hold_in_second_layer(&rt, rt.alloc(), &Instance::new(problem, &pairs, limit));
 }

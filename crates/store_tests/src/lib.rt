@@ -2,12 +2,12 @@
 #![tactic(auto)]
 
 #[cfg(test)]
-mod building;
+mod builds;
 #[cfg(test)]
-mod closing;
-#[cfg(test)]
-mod filling;
+mod closed_stores;
 #[cfg(test)]
 mod fresh;
 #[cfg(test)]
-mod recalling;
+mod full_stores;
+#[cfg(test)]
+mod recalls;

@@ -13,9 +13,9 @@ use Rattle.definitions.specs.Functions.{Function}
 use Rattle.definitions.specs.Orders.{has, IsOrder, members, without}
 use Rattle.definitions.specs.Widths.{width}
 use Rattle.definitions.specs.Pairs.{Pair, Keeps, is_lawful}
-use Rattle.definitions.specs.BoundsAbove.{nodes_above}
-use Rattle.definitions.specs.declared.limits.BoundAbove.{BoundAbove}
-use Rattle.definitions.specs.declared.limits.BoundAbove.TheVariants.{Variables, Widths}
+use Rattle.definitions.specs.LowerBounds.{nodes_above}
+use Rattle.definitions.specs.declared.limits.LowerBound.{LowerBound}
+use Rattle.definitions.specs.declared.limits.LowerBound.TheVariants.{Variables, Widths}
 use Rattle.definitions.specs.Cells.{first_of, cell_of, AreForCell, asked, candidates}
 use Rattle.definitions.proofs.Lists.Ranges.{filter_same}
 use Rattle.definitions.proofs.Precedence.MaskLaws.{member_bit}
@@ -54,7 +54,7 @@ first_has_mask n mask pos small lt =
 
 -- ---- the cell
 
-module _ (n : ℕ) (r : BoundAbove) (mask bound : ℕ) (costs widths : ℕ → ℕ) (F : List Function) (P : List Pair) (order : List ℕ) (o : IsOrder n order)
+module _ (n : ℕ) (r : LowerBound) (mask bound : ℕ) (costs widths : ℕ → ℕ) (F : List Function) (P : List Pair) (order : List ℕ) (o : IsOrder n order)
     (k : Keeps P order) (given : AreForCell n F P r bound mask costs widths) where
   -- if the bound is by widths and some member is a candidate, the widths of all members are taken
   pub members_widths : (y : ℕ) → is_lawful P (members n mask) ≡ true → has (members n mask) y ≡ true → costs y ≤ bound →
@@ -72,7 +72,7 @@ module _ (n : ℕ) (r : BoundAbove) (mask bound : ℕ) (costs widths : ℕ → �
 
 -- ---- the same costs at all members
 
-pub asked_alike : (n : ℕ) (r : BoundAbove) (bound mask : ℕ) (f g : ℕ → ℕ) → ((y : ℕ) → has (members n mask) y ≡ true → f y ≡ g y) →
+pub asked_alike : (n : ℕ) (r : LowerBound) (bound mask : ℕ) (f g : ℕ → ℕ) → ((y : ℕ) → has (members n mask) y ≡ true → f y ≡ g y) →
     asked n r bound mask f ≡ asked n r bound mask g
 unfolding asked candidates
 asked_alike n Variables bound mask f g h =
@@ -82,7 +82,7 @@ asked_alike n Widths bound mask f g h =
     (filter_same (λ x. nat_le (f x) bound) (λ x. nat_le (g x) bound) (members n mask) (λ y m. ap (λ k. nat_le k bound) (h y m)))
 
 -- the costs of the layer before are those of the sets without one member
-pub costs_for_cell : (c : CostsOf) (r : BoundAbove) (mask bound : ℕ) (below widths : List ℕ) (F : List Function) (P : List Pair) →
+pub costs_for_cell : (c : CostsOf) (r : LowerBound) (mask bound : ℕ) (below widths : List ℕ) (F : List Function) (P : List Pair) →
     has (masks_of (layer_with c.inputs (c.size + 1))) mask ≡ true → AreTrueCosts c.inputs F P r bound c → AreWidthsFor c.inputs F P r bound mask c widths →
     ((x : ℕ) → has (members c.inputs mask) x ≡ true → slice_index below x ≡ cost_without c mask x) →
     AreForCell c.inputs F P r bound mask (slice_index below) (slice_index widths)

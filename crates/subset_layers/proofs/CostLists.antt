@@ -14,7 +14,7 @@ use Rattle.std.proofs.lemmas.Option.{slice_get_within, slice_get_past, slice_get
 use Rattle.definitions.specs.Functions.{Function}
 use Rattle.definitions.specs.Orders.{has, members, without, variables, place_in}
 use Rattle.definitions.specs.Pairs.{Pair}
-use Rattle.definitions.specs.declared.limits.BoundAbove.{BoundAbove}
+use Rattle.definitions.specs.declared.limits.LowerBound.{LowerBound}
 use Rattle.definitions.specs.Cells.{cell_of, cell_cost}
 use Rattle.definitions.proofs.Lists.Orders.{has_variables, place_get, place_at, place_small}
 use Rattle.definitions.proofs.Widths.Recurrence.{distinct_filter, distinct_variables, distinct_without, length_without}
@@ -90,19 +90,19 @@ unfolding cost_at
 cost_absent c mask e = ap (λ b. cond b (Some (option_map_or (λ (cell : Cell). cell.cost) (cell_at c mask) 0)) None) e
 
 -- a cell that was read is the definition's
-pub true_cell : (n : ℕ) (F : List Function) (P : List Pair) (r : BoundAbove) (bound : ℕ) (c : CostsOf) → AreTrueCells n F P r bound c →
+pub true_cell : (n : ℕ) (F : List Function) (P : List Pair) (r : LowerBound) (bound : ℕ) (c : CostsOf) → AreTrueCells n F P r bound c →
     (mask i : ℕ) (cell : Cell) → slice_get (masks_of (layer_of_costs c)) i ≡ Some mask → slice_get c.cells i ≡ Some cell →
     as_pair cell ≡ cell_of n F P r bound mask
 true_cell n F P r bound c t mask i cell m e = t i (slice_get_within c.cells i cell e) cell e
     ∙ ap (cell_of n F P r bound) (get_or_from_slice_get (masks_of (layer_of_costs c)) i mask 0 m)
 
 -- the empty set's layer has its cost
-pub start_true : (n : ℕ) (F : List Function) (P : List Pair) (r : BoundAbove) (bound : ℕ) → AreTrueCosts n F P r bound (start_costs n)
+pub start_true : (n : ℕ) (F : List Function) (P : List Pair) (r : LowerBound) (bound : ℕ) → AreTrueCosts n F P r bound (start_costs n)
 unfolding cost_at cell_at cell_cost
 start_true n F P r bound mask h = grind (arith, has_masks, slice_get_past, eq-eqb, zero_from_ones, ones-members)
 
 -- the costs of the definition's cells
-pub costs_from_cells : (n : ℕ) (F : List Function) (P : List Pair) (r : BoundAbove) (bound : ℕ) (c : CostsOf) → HaveCells c → 0 < c.size →
+pub costs_from_cells : (n : ℕ) (F : List Function) (P : List Pair) (r : LowerBound) (bound : ℕ) (c : CostsOf) → HaveCells c → 0 < c.size →
     AreTrueCells n F P r bound c → AreTrueCosts n F P r bound c
 unfolding cell_cost
 costs_from_cells n F P r bound c h lt t mask m =

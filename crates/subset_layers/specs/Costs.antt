@@ -12,8 +12,8 @@ use Rattle.definitions.specs.Orders.{has, members, without, place_in}
 use Rattle.definitions.specs.Pairs.{Pair, is_lawful}
 use Rattle.definitions.specs.Widths.{width}
 use Rattle.definitions.specs.Problems.{functions}
-use Rattle.definitions.specs.BoundsAbove.{BoundsAboveOf}
-use Rattle.definitions.specs.declared.limits.BoundAbove.{BoundAbove}
+use Rattle.definitions.specs.LowerBounds.{LowerBoundsOf}
+use Rattle.definitions.specs.declared.limits.LowerBound.{LowerBound}
 use Rattle.definitions.specs.Cells.{cell_of, cell_cost, asked, AreForCell}
 use Rattle.subset_layers.specs.declared.costs.Cell.{Cell}
 use Rattle.subset_layers.specs.Layers.{LayerOf, layer_with, masks_of}
@@ -56,12 +56,12 @@ cost_at c mask =
     else None
 
 -- the costs are those of the definition's cells
-abbrev pub AreTrueCosts : ℕ → List Function → List Pair → BoundAbove → ℕ → CostsOf → Type 0
+abbrev pub AreTrueCosts : ℕ → List Function → List Pair → LowerBound → ℕ → CostsOf → Type 0
 AreTrueCosts n F P r bound c = (mask : ℕ) → IsTrue (has (masks_of (layer_of_costs c)) mask) →
     cost_at c mask ≡ Some (cell_cost n F P r bound mask)
 
 -- the cells are the definition's
-abbrev pub AreTrueCells : ℕ → List Function → List Pair → BoundAbove → ℕ → CostsOf → Type 0
+abbrev pub AreTrueCells : ℕ → List Function → List Pair → LowerBound → ℕ → CostsOf → Type 0
 AreTrueCells n F P r bound c =
     (i : ℕ) → i < length c.cells → (cell : Cell) → slice_get c.cells i ≡ Some cell →
     as_pair cell ≡ cell_of n F P r bound (slice_index (masks_of (layer_of_costs c)) i)
@@ -71,20 +71,20 @@ abbrev pub cost_without : CostsOf → ℕ → ℕ → ℕ
 cost_without c mask x = unwrap_or (cost_at c (mask - 2 ^ x)) 0
 
 -- the cell of a set, once the costs of the sets without one member and the widths that it takes are the definition's
-abbrev pub IsCellFrom : BoundsAboveOf → List Pair → ℕ → ℕ → List ℕ → List ℕ → ℕ × ℕ → Type 0
+abbrev pub IsCellFrom : LowerBoundsOf → List Pair → ℕ → ℕ → List ℕ → List ℕ → ℕ × ℕ → Type 0
 IsCellFrom v P bound mask below widths cell =
-    AreForCell v.problem.inputs (functions v.problem) P v.bound_above bound mask (slice_index below) (slice_index widths) →
-    cell ≡ cell_of v.problem.inputs (functions v.problem) P v.bound_above bound mask
+    AreForCell v.problem.inputs (functions v.problem) P v.lower_bound bound mask (slice_index below) (slice_index widths) →
+    cell ≡ cell_of v.problem.inputs (functions v.problem) P v.lower_bound bound mask
 
 -- the widths that the cell of a lawful set takes are the definition's
-abbrev pub AreWidthsFor : ℕ → List Function → List Pair → BoundAbove → ℕ → ℕ → CostsOf → List ℕ → Type 0
+abbrev pub AreWidthsFor : ℕ → List Function → List Pair → LowerBound → ℕ → ℕ → CostsOf → List ℕ → Type 0
 AreWidthsFor n F P r bound mask c widths =
     IsTrue (is_lawful P (members n mask)) → (x : ℕ) → IsTrue (has (asked n r bound mask (cost_without c mask)) x) →
     slice_index widths x ≡ width n F (without x (members n mask)) x
 
 -- the cell of a set, once the costs and the widths that it takes are the definition's
-abbrev pub IsCellOnce : BoundsAboveOf → List Pair → ℕ → ℕ → CostsOf → List ℕ → ℕ × ℕ → Type 0
+abbrev pub IsCellOnce : LowerBoundsOf → List Pair → ℕ → ℕ → CostsOf → List ℕ → ℕ × ℕ → Type 0
 IsCellOnce v P bound mask c widths cell =
-    AreTrueCosts c.inputs (functions v.problem) P v.bound_above bound c →
-    AreWidthsFor c.inputs (functions v.problem) P v.bound_above bound mask c widths →
-    cell ≡ cell_of c.inputs (functions v.problem) P v.bound_above bound mask
+    AreTrueCosts c.inputs (functions v.problem) P v.lower_bound bound c →
+    AreWidthsFor c.inputs (functions v.problem) P v.lower_bound bound mask c widths →
+    cell ≡ cell_of c.inputs (functions v.problem) P v.lower_bound bound mask

@@ -4,7 +4,7 @@ ghost use Rattle.std.specs.Prelude.{◌≡◌, ℕ, ◌<◌, ◌≤◌, ◌↔�
 ghost use Rattle.definitions.specs.Functions.{Function};
 ghost use Rattle.definitions.specs.Orders.{has};
 ghost use Rattle.definitions.specs.Pairs.{Pair};
-ghost use Rattle.definitions.specs.declared.limits.BoundAbove.{BoundAbove};
+ghost use Rattle.definitions.specs.declared.limits.LowerBound.{LowerBound};
 ghost use Rattle.definitions.specs.Cells.{cell_of};
 ghost use Rattle.subset_layers.specs.Layers as layers;
 
@@ -46,7 +46,7 @@ impl Costs {
         requires { inputs ≤ 16 }
         ensures value { IfOk result (λ c. c ≡ start_costs inputs) }
         ensures exact { IfOk result
-            (λ c. (F : List Function) (P : List Pair) (r : BoundAbove) (bound : ℕ) →
+            (λ c. (F : List Function) (P : List Pair) (r : LowerBound) (bound : ℕ) →
             AreTrueCosts inputs F P r bound c) }
     {
         let layer = Layer::of(alloc, inputs, 0)?;
@@ -62,7 +62,7 @@ impl Costs {
         requires size { 0 < layer.size }
         requires cells { length cells.items ≡ length (layers.masks_of layer) }
         ensures value { result ≡ costs_with layer cells.items }
-        ensures exact { (F : List Function) (P : List Pair) (r : BoundAbove) (bound : ℕ) →
+        ensures exact { (F : List Function) (P : List Pair) (r : LowerBound) (bound : ℕ) →
             AreTrueCells layer.inputs F P r bound result →
             AreTrueCosts layer.inputs F P r bound result }
     {
@@ -83,7 +83,7 @@ impl Costs {
         ensures value { result ≡ cell_at self.now mask }
         ensures some { IsSome result ↔
             (IsTrue (has (layers.masks_of (layer_of_costs self.now)) mask) × (0 < self.now.size)) }
-        ensures exact { (F : List Function) (P : List Pair) (r : BoundAbove) (bound : ℕ) →
+        ensures exact { (F : List Function) (P : List Pair) (r : LowerBound) (bound : ℕ) →
             AreTrueCells self.now.inputs F P r bound self.now →
             IfSome result (λ cell. as_pair cell ≡ cell_of self.now.inputs F P r bound mask) }
     {

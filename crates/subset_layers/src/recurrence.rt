@@ -9,7 +9,7 @@ ghost use Rattle.subset_layers.specs.Costs.{cost_without, as_pair, IsCellFrom, I
 ghost use Rattle.subset_layers.specs.Sums.{IsBest};
 
 use crate::costs::{Cell, Costs};
-use order_model::{BoundsAbove, Mask, Pairs, VarIx, WidthRow, contains};
+use order_model::{LowerBounds, Mask, Pairs, VarIx, WidthRow, contains};
 
 /// A sum of cost and width, and the variable that gives it.
 #[derive(Clone, Copy)]
@@ -72,22 +72,22 @@ fn lawful_cell(
     below: &[u32; 16],
     widths: &WidthRow,
     bound: u32,
-    bounds_above: &BoundsAbove<'_>,
+    lower_bounds: &LowerBounds<'_>,
 ) -> Cell
     requires some { 0 < mask }
     requires within { mask < 2 ^ inputs }
     requires few { inputs ≤ 16 }
-    requires functions { bounds_above.now.problem.inputs ≡ inputs }
+    requires functions { lower_bounds.now.problem.inputs ≡ inputs }
     requires room { bound + 1 < 2 ^ 32 }
     ensures { (P : List Pair) (order : List ℕ) →
-        IsOrder bounds_above.now.problem.inputs order → Keeps P order →
-        IsTrue (is_lawful P (members bounds_above.now.problem.inputs mask)) →
-        IsCellFrom bounds_above.now P bound mask below.now widths.now (as_pair result) }
+        IsOrder lower_bounds.now.problem.inputs order → Keeps P order →
+        IsTrue (is_lawful P (members lower_bounds.now.problem.inputs mask)) →
+        IsCellFrom lower_bounds.now P bound mask below.now widths.now (as_pair result) }
 {
     match best_sum(mask, inputs, below, widths, bound) {
         None => clipped_cell(mask, bound),
         Some(best) => {
-            if best.sum + bounds_above.above(mask, widths) <= u64::from(bound) {
+            if best.sum + lower_bounds.above(mask, widths) <= u64::from(bound) {
                 Cell {
                     cost: best.sum as u32,
                     variable: best.variable,
@@ -101,25 +101,25 @@ fn lawful_cell(
 
 /// The cell of a set that is not empty, from the costs of the set without each of its members.
 /// Widths are needed of the members without which the cost is within the bound, or of all members
-/// if the bound above a set is by widths; the others may be anything.
+/// if the lower bound above a set is by widths; the others may be anything.
 pub fn cell_from(
     mask: Mask,
     below: &[u32; 16],
     widths: &WidthRow,
     bound: u32,
-    bounds_above: &BoundsAbove<'_>,
+    lower_bounds: &LowerBounds<'_>,
     pairs: &Pairs,
 ) -> Cell
     requires some { 0 < mask }
-    requires within { mask < 2 ^ bounds_above.now.problem.inputs }
-    requires inputs { pairs.now.inputs ≡ bounds_above.now.problem.inputs }
+    requires within { mask < 2 ^ lower_bounds.now.problem.inputs }
+    requires inputs { pairs.now.inputs ≡ lower_bounds.now.problem.inputs }
     requires room { bound + 1 < 2 ^ 32 }
-    ensures { IsCellFrom bounds_above.now pairs.now.pairs bound mask below.now widths.now
+    ensures { IsCellFrom lower_bounds.now pairs.now.pairs bound mask below.now widths.now
         (as_pair result) }
 {
     let inputs = pairs.inputs();
     if pairs.lawful(mask) {
-        lawful_cell(mask, inputs, below, widths, bound, bounds_above)
+        lawful_cell(mask, inputs, below, widths, bound, lower_bounds)
     } else {
         clipped_cell(mask, bound)
     }
@@ -147,17 +147,17 @@ pub fn least_cell(
     costs: &Costs,
     widths: &WidthRow,
     bound: u32,
-    bounds_above: &BoundsAbove<'_>,
+    lower_bounds: &LowerBounds<'_>,
     pairs: &Pairs,
 ) -> Cell
     requires next { IsTrue
         (has (masks_of (layer_with costs.now.inputs (costs.now.size + 1))) mask) }
     requires inputs { pairs.now.inputs ≡ costs.now.inputs }
-    requires functions { bounds_above.now.problem.inputs ≡ costs.now.inputs }
+    requires functions { lower_bounds.now.problem.inputs ≡ costs.now.inputs }
     requires room { bound + 1 < 2 ^ 32 }
-    ensures { IsCellOnce bounds_above.now pairs.now.pairs bound mask costs.now widths.now
+    ensures { IsCellOnce lower_bounds.now pairs.now.pairs bound mask costs.now widths.now
         (as_pair result) }
 {
     let below = costs_below(mask, costs);
-    cell_from(mask, &below, widths, bound, bounds_above, pairs)
+    cell_from(mask, &below, widths, bound, lower_bounds, pairs)
 }

@@ -26,7 +26,7 @@ use Rattle.std.proofs.lemmas.List.{take_more}
 use Rattle.std.proofs.Math.Nat.{mul-le-mul_right}
 use Rattle.definitions.specs.OrderedGraphs.{OrderedGraph}
 use Rattle.definitions.proofs.Nodes.Reduced.{reduced_levels}
-use Rattle.definitions.proofs.Widths.BoundsAbove.{reach_nothing}
+use Rattle.definitions.proofs.Widths.LowerBounds.{reach_nothing}
 use Rattle.truth_table.specs.Reduced.{IsByLevel, IsDiagramOf}
 use Rattle.truth_table.proofs.LevelSteps.{reach_last, length-reach, few_blocks}
 use Rattle.truth_table.specs.Levels.{ref_named, node_over, IsNumberOf, IsNumbered, IsLevelAbove}

@@ -1,16 +1,16 @@
 //! Truth tables of covers, their cofactors, plain counts of levels, and diagrams made from them.
 #![tactic(auto)]
 
-mod covering;
 mod diagrams;
-mod fixing;
+mod fixed_variables;
 mod kept_points;
+mod level_classes;
 mod levels;
-mod merging;
 mod row;
 mod tables;
+mod term_points;
 
-pub use covering::cover_words;
 pub use diagrams::reduced_diagram;
 pub use row::Row;
 pub use tables::Tables;
+pub use term_points::cover_words;

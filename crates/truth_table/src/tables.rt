@@ -10,11 +10,11 @@ ghost use Rattle.truth_table.specs.Assignments.{assignments, values_at};
 ghost use Rattle.truth_table.specs.Restrictions.{fixed};
 ghost use Rattle.std.specs.List.{All};
 
-use crate::covering::{packed_words, points_mask};
-use crate::fixing::fix_variable;
+use crate::fixed_variables::fix_variable;
 use crate::kept_points::kept_points;
-use crate::merging::{assignment_points, merge, push_values};
+use crate::level_classes::{assignment_points, merge, push_values};
 use crate::row::Row;
+use crate::term_points::{packed_words, points_mask};
 use order_model::{Mask, Order, Problem, contains};
 use pla_reader::Cover;
 use std::alloc::{AllocError, Global};

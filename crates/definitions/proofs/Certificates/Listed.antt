@@ -5,8 +5,8 @@ use Rattle.definitions.specs.Functions.{Function}
 use Rattle.definitions.specs.Orders.{members}
 use Rattle.definitions.specs.Pairs.{Pair, is_lawful}
 use Rattle.definitions.specs.Widths.{least, essentials_outside}
-use Rattle.definitions.specs.BoundsAbove.{nodes_above}
-use Rattle.definitions.specs.declared.limits.BoundAbove.TheVariants.{Variables}
+use Rattle.definitions.specs.LowerBounds.{nodes_above}
+use Rattle.definitions.specs.declared.limits.LowerBound.TheVariants.{Variables}
 use Rattle.definitions.specs.Cells.{cell_cost}
 use Rattle.definitions.specs.Certificates.{listed_masks}
 use Rattle.definitions.proofs.Widths.Cells.{within_from, cost_open, cost_known}

@@ -13,7 +13,7 @@ use Rattle.definitions.specs.Pairs.{Keeps, is_lawful, are_lawful}
 use Rattle.definitions.specs.Levels.{size_under}
 use Rattle.definitions.specs.Widths.{width, cost, essentials_outside}
 use Rattle.definitions.specs.Diagrams.{Graph, Represents, FewestKeeping}
-use Rattle.definitions.specs.Certificates.{Certificate, Cell, IsGood, bound_above, set_value, AreBothLawful, Reason, Applies}
+use Rattle.definitions.specs.Certificates.{Certificate, Cell, IsGood, lower_bound, set_value, AreBothLawful, Reason, Applies}
 use Rattle.definitions.proofs.Lists.Sets.{Among}
 use Rattle.definitions.proofs.Lists.Orders.{absent_from_apart, has_variables}
 use Rattle.definitions.proofs.Precedence.Lists.{lawful_same, lawful_whole, are_lawful_parts}
@@ -38,12 +38,12 @@ find_cases {X} p (x ∷ xs) = grind (arith, find_cases p xs)
 -- a set is that of all variables, or listed, or it has the total without the nodes above it
 pub value_cases : (n : ℕ) (F : List Function) (cert : Certificate) (m : ℕ) →
     ((m ≡ 2 ^ cert.inputs - 1) × (set_value n F cert m ≡ cert.total)) ⊎ ((c : Cell) × Among c cert.cells × (c.mask ≡ m) × (set_value n F cert m ≡ c.cost))
-    ⊎ (((c : Cell) → Among c cert.cells → c.mask ≢ m) × (m ≢ 2 ^ cert.inputs - 1) × (set_value n F cert m ≡ cert.total - bound_above n F cert m))
+    ⊎ (((c : Cell) → Among c cert.cells → c.mask ≢ m) × (m ≢ 2 ^ cert.inputs - 1) × (set_value n F cert m ≡ cert.total - lower_bound n F cert m))
 unfolding set_value
 value_cases n F cert m = by (nat_eq m (2 ^ cert.inputs - 1)) refl (find_cases (λ (c : Cell). nat_eq c.mask m) cert.cells)
   where
     cost_of : Option Cell → ℕ
-    cost_of o = option_map_or (λ (c : Cell). c.cost) o (cert.total - bound_above n F cert m)
+    cost_of o = option_map_or (λ (c : Cell). c.cost) o (cert.total - lower_bound n F cert m)
 
     found : Option Cell
     found = find (λ (c : Cell). nat_eq c.mask m) cert.cells
@@ -54,7 +54,7 @@ value_cases n F cert m = by (nat_eq m (2 ^ cert.inputs - 1)) refl (find_cases (�
         ((m ≡ 2 ^ cert.inputs - 1) × (cond b cert.total (cost_of found) ≡ cert.total)) ⊎
         ((c : Cell) × Among c cert.cells × (c.mask ≡ m) × (cond b cert.total (cost_of found) ≡ c.cost))
         ⊎ (((c : Cell) → Among c cert.cells → c.mask ≢ m) × (m ≢ 2 ^ cert.inputs - 1) ×
-        (cond b cert.total (cost_of found) ≡ cert.total - bound_above n F cert m))
+        (cond b cert.total (cost_of found) ≡ cert.total - lower_bound n F cert m))
     by true f r = inl (eqb-true m (2 ^ cert.inputs - 1) f, refl)
     by false f r =
         elim r [
@@ -68,37 +68,37 @@ value_cases n F cert m = by (nat_eq m (2 ^ cert.inputs - 1)) refl (find_cases (�
         ]
 
 -- the nodes above a set of variables
-bound_above_mask : (n : ℕ) (F : List Function) (cert : Certificate) (xs : List ℕ) → IsDistinct nat_eq xs → ((y : ℕ) → has xs y ≡ true → y < n) →
-    bound_above n F cert (mask_of xs) ≡ cond (nat_eq cert.format 1) 0 (essentials_outside n F xs)
-unfolding bound_above
-bound_above_mask n F cert xs d small = ap (cond (nat_eq cert.format 1) 0) (essentials_same n F (members n (mask_of xs)) xs (members_mask_of n xs d small))
+lower_bound_mask : (n : ℕ) (F : List Function) (cert : Certificate) (xs : List ℕ) → IsDistinct nat_eq xs → ((y : ℕ) → has xs y ≡ true → y < n) →
+    lower_bound n F cert (mask_of xs) ≡ cond (nat_eq cert.format 1) 0 (essentials_outside n F xs)
+unfolding lower_bound
+lower_bound_mask n F cert xs d small = ap (cond (nat_eq cert.format 1) 0) (essentials_same n F (members n (mask_of xs)) xs (members_mask_of n xs d small))
 
 -- one more variable takes at most its width from the nodes above
-bound_above_step : (n : ℕ) (F : List Function) (cert : Certificate) (x : ℕ) (xs : List ℕ) → IsDistinct nat_eq (x ∷ xs) →
+lower_bound_step : (n : ℕ) (F : List Function) (cert : Certificate) (x : ℕ) (xs : List ℕ) → IsDistinct nat_eq (x ∷ xs) →
     ((y : ℕ) → has (x ∷ xs) y ≡ true → y < n) →
-    bound_above n F cert (mask_of xs) ≤ bound_above n F cert (mask_of (x ∷ xs)) + width n F xs x
+    lower_bound n F cert (mask_of xs) ≤ lower_bound n F cert (mask_of (x ∷ xs)) + width n F xs x
 unfolding IsDistinct
-bound_above_step n F cert x xs d small = grind (arith, bound_above_mask, essentials_step, absent_from_apart)
+lower_bound_step n F cert x xs d small = grind (arith, lower_bound_mask, essentials_step, absent_from_apart)
 
 -- no nodes stand above all variables
-pub bound_above_full : (n : ℕ) (F : List Function) (cert : Certificate) → bound_above n F cert (2 ^ n - 1) ≡ 0
-unfolding bound_above
-bound_above_full n F cert = grind (arith, essentials_all, members_full, has_variables)
+pub lower_bound_full : (n : ℕ) (F : List Function) (cert : Certificate) → lower_bound n F cert (2 ^ n - 1) ≡ 0
+unfolding lower_bound
+lower_bound_full n F cert = grind (arith, essentials_all, members_full, has_variables)
 
 module _ (n : ℕ) (F : List Function) (cert : Certificate) (good : IsGood n F cert) where
   Small : Cell → Type 0
-  Small c = c.cost + bound_above n F cert c.mask ≤ cert.total
+  Small c = c.cost + lower_bound n F cert c.mask ≤ cert.total
 
   -- the value of a set is at most the total without the nodes above it
-  value_le : (m : ℕ) → set_value n F cert m ≤ cert.total - bound_above n F cert m
+  value_le : (m : ℕ) → set_value n F cert m ≤ cert.total - lower_bound n F cert m
   unfolding Small
   value_le m =
       elim (value_cases n F cert m) [
-        | inl full ↦ grind (arith, bound_above_full)
+        | inl full ↦ grind (arith, lower_bound_full)
         | inr r ↦ elim r [
           | inl s ↦
               let c = s.0 in
-              omega (arith, all_among Small cert.cells c (recursion_from_All Small cert.cells good.cells) s.1, ap (bound_above n F cert) s.2)
+              omega (arith, all_among Small cert.cells c (recursion_from_All Small cert.cells good.cells) s.1, ap (lower_bound n F cert) s.2)
           | inr e ↦ omega arith
         ]
       ]
@@ -121,7 +121,7 @@ module _ (n : ℕ) (F : List Function) (cert : Certificate) (good : IsGood n F c
               let step = all_among Edges cert.cells c (recursion_from_All Edges cert.cells good.edges) s.1 x
               (small x (or_left _ _ (eq-eqb x x refl))) (same x ∙ absent_from_apart x below d.0) (lawful, lawful') in
               omega (arith, width_same n F (members n c.mask) below x same, ap (λ m. set_value n F cert (m + 2 ^ x)) s.2, ap (set_value n F cert) s.2)
-          | inr e ↦ omega (arith, value_le (mask_of (x ∷ below)), bound_above_step n F cert x below d small)
+          | inr e ↦ omega (arith, value_le (mask_of (x ∷ below)), lower_bound_step n F cert x below d small)
         ]
       ]
     where

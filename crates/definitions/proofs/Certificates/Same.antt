@@ -9,7 +9,7 @@ use Rattle.definitions.specs.Pairs.{Pair, sorted_pairs}
 use Rattle.definitions.specs.Levels.{size_under, reach}
 use Rattle.definitions.specs.Widths.{width, cost, least, least_of, essential, essentials_outside, outside, arrangements}
 use Rattle.definitions.specs.Pairs.{are_lawful}
-use Rattle.definitions.specs.Certificates.{Cell, Certificate, IsGood, Reason, Shape, Order, Pairs, Levels, Total, Start, CellTooBig, Edge, Applies, IsFirstReason, AreBothLawful, certificate_of, least_listed, listed_masks, bound_above, set_value}
+use Rattle.definitions.specs.Certificates.{Cell, Certificate, IsGood, Reason, Shape, Order, Pairs, Levels, Total, Start, CellTooBig, Edge, Applies, IsFirstReason, AreBothLawful, certificate_of, least_listed, listed_masks, lower_bound, set_value}
 use Rattle.definitions.proofs.Functions.Tables.{depends_same}
 use Rattle.definitions.proofs.Functions.Same.{AllSame, turned, same_dependents, same_reach, level_counts_same, size_same}
 
@@ -71,13 +71,13 @@ module _ (n : ℕ) (F G : List Function) (s : AllSame n F G) where
     cells = cells_same P order i;
   }
 
-  bound_above_same : (cert : Certificate) (mask : ℕ) → bound_above n F cert mask ≡ bound_above n G cert mask
-  unfolding bound_above
-  bound_above_same cert mask = λ i. cond (nat_eq cert.format 1) 0 (essentials_same (members n mask) i)
+  lower_bound_same : (cert : Certificate) (mask : ℕ) → lower_bound n F cert mask ≡ lower_bound n G cert mask
+  unfolding lower_bound
+  lower_bound_same cert mask = λ i. cond (nat_eq cert.format 1) 0 (essentials_same (members n mask) i)
 
   value_same : (cert : Certificate) (mask : ℕ) → set_value n F cert mask ≡ set_value n G cert mask
   unfolding set_value
-  value_same cert mask = search bound_above_same
+  value_same cert mask = search lower_bound_same
 
   -- whether a certificate is good
   pub good_same : (cert : Certificate) → IsGood n F cert → IsGood n G cert
@@ -89,7 +89,7 @@ module _ (n : ℕ) (F G : List Function) (s : AllSame n F G) where
     levels = g.levels ∙ level_counts_same n F G s cert.order;
     total = g.total;
     start = sym (value_same cert 0) ∙ g.start;
-    cells = subst (λ (r : ℕ → ℕ). All (λ (c : Cell). c.cost + r c.mask ≤ cert.total) cert.cells) (λ i mask. bound_above_same cert mask i) g.cells;
+    cells = subst (λ (r : ℕ → ℕ). All (λ (c : Cell). c.cost + r c.mask ≤ cert.total) cert.cells) (λ i mask. lower_bound_same cert mask i) g.cells;
     edges = subst (λ (w : List ℕ → ℕ → ℕ). All (λ (c : Cell). (x : ℕ) → x < n → IsFalse (has (members n c.mask) x) → AreBothLawful n cert.pairs c.mask x →
         set_value n G cert (c.mask + 2 ^ x) ≤ set_value n G cert c.mask + w (members n c.mask) x) cert.cells) (λ i T x. widths_same T x i)
         (subst (λ (v : ℕ → ℕ). All (λ (c : Cell). (x : ℕ) → x < n → IsFalse (has (members n c.mask) x) → AreBothLawful n cert.pairs c.mask x →
@@ -103,7 +103,7 @@ module _ (n : ℕ) (F G : List Function) (s : AllSame n F G) where
   applies_same cert Levels a = λ e. a (e ∙ sym (level_counts_same n F G s cert.order))
   applies_same cert Total a = a
   applies_same cert Start a = λ e. a (value_same cert 0 ∙ e)
-  applies_same cert CellTooBig a = (a.0, a.1, subst (λ k. cert.total < a.0.cost + k) (bound_above_same cert a.0.mask) a.2)
+  applies_same cert CellTooBig a = (a.0, a.1, subst (λ k. cert.total < a.0.cost + k) (lower_bound_same cert a.0.mask) a.2)
   applies_same cert (Edge mask x) a = (
     a.0,
     a.1,

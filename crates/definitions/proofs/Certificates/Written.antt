@@ -9,7 +9,7 @@ use Rattle.definitions.specs.Pairs.{Pair, Keeps, is_lawful, sorted_pairs}
 use Rattle.definitions.specs.Levels.{size_under}
 use Rattle.definitions.specs.Widths.{width, least, essentials_outside}
 use Rattle.definitions.specs.Diagrams.{HasFewestKeeping}
-use Rattle.definitions.specs.Certificates.{Certificate, Cell, IsGood, IsCertOf, bound_above, set_value, AreBothLawful, listed_masks, least_listed, certificate_of}
+use Rattle.definitions.specs.Certificates.{Certificate, Cell, IsGood, IsCertOf, lower_bound, set_value, AreBothLawful, listed_masks, least_listed, certificate_of}
 use Rattle.definitions.proofs.Lists.Sets.{Among, among_map, among_from_map}
 use Rattle.definitions.proofs.Lists.Orders.{has_filter, has_range}
 use Rattle.definitions.proofs.Precedence.Lists.{lawful_same, lawful_whole, are_lawful_nil}
@@ -75,9 +75,9 @@ module _ (n : ℕ) (F : List Function) (P : List Pair) (order : List ℕ) (best 
   unfolding cert certificate_of
   cell_from_listed m h = grind (arith, among_map, has_among, listed_from)
 
-  bound_above_is : (m : ℕ) → bound_above n F cert m ≡ essentials_outside n F (members n m)
-  unfolding cert certificate_of bound_above
-  bound_above_is m = refl
+  lower_bound_is : (m : ℕ) → lower_bound n F cert m ≡ essentials_outside n F (members n m)
+  unfolding cert certificate_of lower_bound
+  lower_bound_is m = refl
 
   total_is : cert.total ≡ size_under n F order
   unfolding cert certificate_of
@@ -98,7 +98,7 @@ module _ (n : ℕ) (F : List Function) (P : List Pair) (order : List ℕ) (best 
           | inl s ↦ let c = cell_parts s.0 s.1 in omega (arith, s.3 ∙ c.1 ∙ ap (λ j. least n F P (members n j)) s.2)
           | inr u ↦
               let t = total_is in
-              let v = bound_above_is m in
+              let v = lower_bound_is m in
               elim (cases_lt (least n F P (members n m) + essentials_outside n F (members n m)) (size_under n F order)) [
                 | inl low ↦
                     let ne : m ≢ 2 ^ n - 1 = λ f. u.1 (f ∙ ap (λ j. 2 ^ j - 1) (sym inputs_is)) in
@@ -124,9 +124,9 @@ module _ (n : ℕ) (F : List Function) (P : List Pair) (order : List ℕ) (best 
   start_value : set_value n F cert 0 ≡ 0
   start_value = grind (arith, members_zero, value_at, pow_pos, lawful_whole, are_lawful_nil, least-nil)
 
-  small_cells : (c : Cell) → Among c cert.cells → c.cost + bound_above n F cert c.mask ≤ cert.total
+  small_cells : (c : Cell) → Among c cert.cells → c.cost + lower_bound n F cert c.mask ≤ cert.total
   unfolding Listed
-  small_cells c m = let h = cell_parts c m in omega (arith, bound_above_is c.mask, total_is)
+  small_cells c m = let h = cell_parts c m in omega (arith, lower_bound_is c.mask, total_is)
 
   pairs_is : (T : List ℕ) → is_lawful cert.pairs T ≡ is_lawful P T
   unfolding cert certificate_of o k
@@ -167,8 +167,8 @@ module _ (n : ℕ) (F : List Function) (P : List Pair) (order : List ℕ) (best 
     levels = refl;
     total = refl;
     start = start_value;
-    cells = All-from_recursion (λ (c : Cell). c.cost + bound_above n F cert c.mask ≤ cert.total) cert.cells
-        (all_from_among (λ (c : Cell). c.cost + bound_above n F cert c.mask ≤ cert.total) cert.cells small_cells);
+    cells = All-from_recursion (λ (c : Cell). c.cost + lower_bound n F cert c.mask ≤ cert.total) cert.cells
+        (all_from_among (λ (c : Cell). c.cost + lower_bound n F cert c.mask ≤ cert.total) cert.cells small_cells);
     edges = All-from_recursion Edges cert.cells (all_from_among Edges cert.cells edges_hold);
   }
     where

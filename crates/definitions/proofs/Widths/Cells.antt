@@ -11,16 +11,16 @@ use Rattle.definitions.specs.Functions.{Function}
 use Rattle.definitions.specs.Orders.{has, IsOrder, variables, members, without}
 use Rattle.definitions.specs.Pairs.{Pair, Keeps, is_lawful, tops}
 use Rattle.definitions.specs.Widths.{least, least_with_top}
-use Rattle.definitions.specs.BoundsAbove.{nodes_above}
-use Rattle.definitions.specs.declared.limits.BoundAbove.{BoundAbove}
-use Rattle.definitions.specs.declared.limits.BoundAbove.TheVariants.{Variables, Widths}
+use Rattle.definitions.specs.LowerBounds.{nodes_above}
+use Rattle.definitions.specs.declared.limits.LowerBound.{LowerBound}
+use Rattle.definitions.specs.declared.limits.LowerBound.TheVariants.{Variables, Widths}
 use Rattle.definitions.specs.Cells.{first_of, is_within, best_top, cell_of, cell_cost, AreForCell, candidates, asked, least_sum, has_room, cell_from}
 use Rattle.definitions.proofs.Lists.Sets.{among_map, among_from_map}
 use Rattle.definitions.proofs.Lists.Orders.{has_filter, has_range, has_variables}
 use Rattle.definitions.proofs.Precedence.Lists.{lawful_same, lawful_whole, are_lawful_nil}
 use Rattle.definitions.proofs.Widths.Recurrence.{IsLawfulSet, has_again, absent_without, distinct_without, least_of_lem, recurrence_le, recurrence_some, least_same, least-nil, has_among, among_has}
 use Rattle.definitions.proofs.Bits.Masks.{has_members, distinct_members, members_without}
-use Rattle.definitions.proofs.Widths.BoundsAbove.{bounded_same, bounded_step}
+use Rattle.definitions.proofs.Widths.LowerBounds.{bounded_same, bounded_step}
 use Rattle.definitions.proofs.Widths.Fewest.{ground}
 
 -- ---- rising lists
@@ -68,12 +68,12 @@ module _ (n : ℕ) (F : List Function) (P : List Pair) (base : List ℕ) (o : Is
   less_one mask x h l = grind (arith, lawful_same, members_without, lawful_members, least_same, distinct_without, distinct_members)
 
 -- the test whether a set is within the bound, in its parts
-pub within_parts : (n : ℕ) (F : List Function) (P : List Pair) (r : BoundAbove) (bound : ℕ) (S : List ℕ) → is_within n F P r bound S ≡ true →
+pub within_parts : (n : ℕ) (F : List Function) (P : List Pair) (r : LowerBound) (bound : ℕ) (S : List ℕ) → is_within n F P r bound S ≡ true →
     (is_lawful P S ≡ true) × (least n F P S + nodes_above n F r S ≤ bound)
 unfolding is_within
 within_parts n F P r bound S h = grind arith
 
-pub within_from : (n : ℕ) (F : List Function) (P : List Pair) (r : BoundAbove) (bound : ℕ) (S : List ℕ) → is_lawful P S ≡ true →
+pub within_from : (n : ℕ) (F : List Function) (P : List Pair) (r : LowerBound) (bound : ℕ) (S : List ℕ) → is_lawful P S ≡ true →
     least n F P S + nodes_above n F r S ≤ bound → is_within n F P r bound S ≡ true
 unfolding is_within
 within_from n F P r bound S l h = and_from _ _ l (le-leb (least n F P S + nodes_above n F r S) bound h)
@@ -105,18 +105,18 @@ bests_from n F P S y h l e = search (has_filter, and_from, eq-eqb)
 pub rising_bests : (n : ℕ) (F : List Function) (P : List Pair) (mask : ℕ) → IsRising (bests n F P (members n mask))
 rising_bests n F P mask = search (rising_filter, rising_members)
 
-pub open_is : (n : ℕ) (F : List Function) (P : List Pair) (r : BoundAbove) (bound mask : ℕ) → is_within n F P r bound (members n mask) ≡ true →
+pub open_is : (n : ℕ) (F : List Function) (P : List Pair) (r : LowerBound) (bound mask : ℕ) → is_within n F P r bound (members n mask) ≡ true →
     cell_of n F P r bound mask ≡ (least n F P (members n mask), best_top n F P (members n mask))
 unfolding cell_of
 open_is n F P r bound mask h = ap (λ b. cond b (least n F P (members n mask), best_top n F P (members n mask)) (bound + 1, first_of (members n mask))) h
 
 -- a clipped cell
-pub closed_cell : (n : ℕ) (F : List Function) (P : List Pair) (r : BoundAbove) (bound mask : ℕ) → is_within n F P r bound (members n mask) ≡ false →
+pub closed_cell : (n : ℕ) (F : List Function) (P : List Pair) (r : LowerBound) (bound mask : ℕ) → is_within n F P r bound (members n mask) ≡ false →
     cell_of n F P r bound mask ≡ (bound + 1, first_of (members n mask))
 unfolding cell_of
 closed_cell n F P r bound mask h = ap (λ b. cond b (least n F P (members n mask), best_top n F P (members n mask)) (bound + 1, first_of (members n mask))) h
 
-module _ (n : ℕ) (F : List Function) (P : List Pair) (base : List ℕ) (o : IsOrder n base) (k : Keeps P base) (r : BoundAbove) (bound mask z : ℕ)
+module _ (n : ℕ) (F : List Function) (P : List Pair) (base : List ℕ) (o : IsOrder n base) (k : Keeps P base) (r : LowerBound) (bound mask z : ℕ)
     (some : has (members n mask) z ≡ true) where
   pub open_cell : is_within n F P r bound (members n mask) ≡ true → IsOpenCell n F P mask (cell_of n F P r bound mask).0 (cell_of n F P r bound mask).1
   unfolding best_top
@@ -141,23 +141,23 @@ module _ (n : ℕ) (F : List Function) (P : List Pair) (base : List ℕ) (o : Is
   cell_member = grind (arith, open_cell, closed_cell, first_has)
 
 -- the parts of a cell within the bound
-pub cell_cost_is : (n : ℕ) (F : List Function) (P : List Pair) (r : BoundAbove) (bound mask : ℕ) → is_within n F P r bound (members n mask) ≡ true →
+pub cell_cost_is : (n : ℕ) (F : List Function) (P : List Pair) (r : LowerBound) (bound mask : ℕ) → is_within n F P r bound (members n mask) ≡ true →
     (cell_of n F P r bound mask).0 ≡ least n F P (members n mask)
 cell_cost_is n F P r bound mask h = ap (λ (c : ℕ × ℕ). c.0) (open_is n F P r bound mask h)
 
-pub cell_top : (n : ℕ) (F : List Function) (P : List Pair) (base : List ℕ) (r : BoundAbove) (bound mask z : ℕ) → IsOrder n base → Keeps P base →
+pub cell_top : (n : ℕ) (F : List Function) (P : List Pair) (base : List ℕ) (r : LowerBound) (bound mask z : ℕ) → IsOrder n base → Keeps P base →
     has (members n mask) z ≡ true → is_within n F P r bound (members n mask) ≡ true →
     (has (tops P (members n mask)) (cell_of n F P r bound mask).1 ≡ true)
     × (least_with_top n F P (members n mask) (cell_of n F P r bound mask).1 ≡ least n F P (members n mask))
 cell_top n F P base r bound mask z o k m h = grind (arith, open_cell, has_tops)
 
-pub cell_smallest : (n : ℕ) (F : List Function) (P : List Pair) (base : List ℕ) (r : BoundAbove) (bound mask y : ℕ) → IsOrder n base → Keeps P base →
+pub cell_smallest : (n : ℕ) (F : List Function) (P : List Pair) (base : List ℕ) (r : LowerBound) (bound mask y : ℕ) → IsOrder n base → Keeps P base →
     is_within n F P r bound (members n mask) ≡ true →
     has (tops P (members n mask)) y ≡ true → least_with_top n F P (members n mask) y ≡ least n F P (members n mask) → (cell_of n F P r bound mask).1 ≤ y
 cell_smallest n F P base r bound mask y o k h t e = grind (arith, has_tops, open_cell)
 
 -- below a top of the least cost the set is within the bound, too
-pub next_within : (n : ℕ) (F : List Function) (P : List Pair) (base : List ℕ) → IsOrder n base → Keeps P base → (r : BoundAbove) (bound mask x : ℕ) →
+pub next_within : (n : ℕ) (F : List Function) (P : List Pair) (base : List ℕ) → IsOrder n base → Keeps P base → (r : LowerBound) (bound mask x : ℕ) →
     is_within n F P r bound (members n mask) ≡ true →
     has (members n mask) x ≡ true → is_lawful P (without x (members n mask)) ≡ true → least_with_top n F P (members n mask) x ≡ least n F P (members n mask) →
     is_within n F P r bound (members n (mask - 2 ^ x)) ≡ true
@@ -182,13 +182,13 @@ unfolding members
 members_zero n = filter_none (λ x. eqb (bit_at 0 x) 1) (variables n) (λ y. ap (λ b. eqb b 1) (bit_at-zero y))
 
 -- within the bound a set's cost is its least cost
-pub cost_open : (n : ℕ) (F : List Function) (P : List Pair) (r : BoundAbove) (bound mask : ℕ) → is_within n F P r bound (members n mask) ≡ true →
+pub cost_open : (n : ℕ) (F : List Function) (P : List Pair) (r : LowerBound) (bound mask : ℕ) → is_within n F P r bound (members n mask) ≡ true →
     cell_cost n F P r bound mask ≡ least n F P (members n mask)
 unfolding cell_cost
 cost_open n F P r bound mask h = grind (arith, members_zero, least-nil, open_is)
 
 -- a cost that is not above the bound is the least cost of a lawful set
-pub cost_known : (n : ℕ) (F : List Function) (P : List Pair) (r : BoundAbove) (bound mask : ℕ) → cell_cost n F P r bound mask ≤ bound →
+pub cost_known : (n : ℕ) (F : List Function) (P : List Pair) (r : LowerBound) (bound mask : ℕ) → cell_cost n F P r bound mask ≤ bound →
     (is_lawful P (members n mask) ≡ true) × (cell_cost n F P r bound mask ≡ least n F P (members n mask))
 unfolding cell_cost
 cost_known n F P r bound mask h = by (nat_eq mask 0) refl h
@@ -228,21 +228,21 @@ module _ (n bound mask : ℕ) (costs : ℕ → ℕ) where
   unfolding candidates
   candidate_from y h le = has_filter (λ x. leb (costs x) bound) (members n mask) y ∙ and_from _ _ h (le-leb (costs y) bound le)
 
-  pub candidate_asked : (r : BoundAbove) (y : ℕ) → has (members n mask) y ≡ true → costs y ≤ bound → has (asked n r bound mask costs) y ≡ true
+  pub candidate_asked : (r : LowerBound) (y : ℕ) → has (members n mask) y ≡ true → costs y ≤ bound → has (asked n r bound mask costs) y ≡ true
   unfolding asked
   candidate_asked Variables y h le = candidate_from y h le
   candidate_asked Widths y h le =
       ap (λ b. has (cond b [] (members n mask)) y) (some_length (candidates n bound mask costs) y (candidate_from y h le)) ∙ h
 
   -- if the bound is by widths and there is a candidate, those of all members are taken
-  pub all_asked : (r : BoundAbove) (y : ℕ) → r ≡ Widths → has (members n mask) y ≡ true → costs y ≤ bound → (x : ℕ) → has (members n mask) x ≡ true →
+  pub all_asked : (r : LowerBound) (y : ℕ) → r ≡ Widths → has (members n mask) y ≡ true → costs y ≤ bound → (x : ℕ) → has (members n mask) x ≡ true →
       has (asked n r bound mask costs) x ≡ true
   unfolding asked
   all_asked Variables y is h le x m = absurd cc
   all_asked Widths y is h le x m =
       ap (λ b. has (cond b [] (members n mask)) x) (some_length (candidates n bound mask costs) y (candidate_from y h le)) ∙ m
 
-module _ (n : ℕ) (F : List Function) (P : List Pair) (base : List ℕ) (o : IsOrder n base) (k : Keeps P base) (r : BoundAbove) (bound mask : ℕ)
+module _ (n : ℕ) (F : List Function) (P : List Pair) (base : List ℕ) (o : IsOrder n base) (k : Keeps P base) (r : LowerBound) (bound mask : ℕ)
     (costs widths : ℕ → ℕ) (given : AreForCell n F P r bound mask costs widths) where
   -- the sum of a candidate is the least cost with it on top
   pub candidate_sum : is_lawful P (members n mask) ≡ true → (y : ℕ) → has (members n mask) y ≡ true → costs y ≤ bound →

@@ -12,14 +12,14 @@ use Rattle.definitions.specs.Orders.{has, IsOrder, variables, members, without}
 use Rattle.definitions.specs.Pairs.{Pair, Keeps, is_lawful}
 use Rattle.definitions.specs.Levels.{size_under}
 use Rattle.definitions.specs.Widths.{cost, least, least_with_top}
-use Rattle.definitions.specs.declared.limits.BoundAbove.{BoundAbove}
+use Rattle.definitions.specs.declared.limits.LowerBound.{LowerBound}
 use Rattle.definitions.specs.Cells.{is_within, cell_of, IsReadFrom, AreUnclipped}
 use Rattle.definitions.specs.Diagrams.{IsFirstKeeping}
 use Rattle.definitions.proofs.Lists.Orders.{has_variables}
 use Rattle.definitions.proofs.Precedence.Lists.{lawful_same, are_lawful_nil}
 use Rattle.definitions.proofs.Functions.Exchange.{size_is_cost}
 use Rattle.definitions.proofs.Bits.Masks.{members_without, members_full}
-use Rattle.definitions.proofs.Widths.BoundsAbove.{bounded_all}
+use Rattle.definitions.proofs.Widths.LowerBounds.{bounded_all}
 use Rattle.definitions.proofs.Widths.Recurrence.{IsLawfulList, least_is_least, recurrence_le, least_same, cost_cons, lawful_cons, lawful_tail, lawful_behind, first_member, without_top}
 use Rattle.definitions.proofs.Widths.Fewest.{ground, all_lawful, lawful_from_order, order_from_lawful, has_fewest_lem}
 use Rattle.definitions.proofs.Widths.Cells.{IsOpenCell, open_cell, next_within, within_parts, within_from, lawful_members, less_one, members_zero}
@@ -104,7 +104,7 @@ module _ (n : ℕ) (F : List Function) (P : List Pair) (base : List ℕ) (o : Is
     step : FirstRead n F P mask (x ∷ order)
     step = record { is_lawful_list = lawful_cons P x order (members n mask) low cell.member tail_is; least_cost = whole_cost; first = whole_first }
 
-  module _ (r : BoundAbove) (bound : ℕ) where
+  module _ (r : LowerBound) (bound : ℕ) where
     -- the cell of a set within the bound, at the variable that is read
     read_cell : (mask x : ℕ) → has (members n mask) x ≡ true → x ≡ (cell_of n F P r bound mask).1 →
         is_within n F P r bound (members n mask) ≡ true → IsOpenCell n F P mask (cell_of n F P r bound mask).0 x
@@ -155,7 +155,7 @@ module _ (n : ℕ) (F : List Function) (P : List Pair) (base : List ℕ) (o : Is
         )
 
   -- all variables are within the size of an order that keeps the pairs
-  pub full_within : (r : BoundAbove) (other : List ℕ) → IsOrder n other → Keeps P other →
+  pub full_within : (r : LowerBound) (other : List ℕ) → IsOrder n other → Keeps P other →
       is_within n F P r (size_under n F other) (members n (2 ^ n - 1)) ≡ true
   full_within r other p q =
       let all = all_lawful n P base o k in
@@ -166,7 +166,7 @@ module _ (n : ℕ) (F : List Function) (P : List Pair) (base : List ℕ) (o : Is
       grind (arith, within_from, size_is_cost, bounded_all, members_full, has_variables)
 
 -- with the size of an order that keeps the pairs as the bound, the order that the cells give is the first one of the fewest nodes
-pub clip : (n : ℕ) (F : List Function) (P : List Pair) (r : BoundAbove) (other order : List ℕ) → IsOrder n other → Keeps P other →
+pub clip : (n : ℕ) (F : List Function) (P : List Pair) (r : LowerBound) (other order : List ℕ) → IsOrder n other → Keeps P other →
     IsReadFrom n F P r (size_under n F other) (2 ^ n - 1) order → IsFirstKeeping n F P order
 clip n F P r other order o k read =
     record {
@@ -195,7 +195,7 @@ clip n F P r other order o k read =
         (all_lawful n P other o k) (members_full n)
 
 -- and no clipped cell is met
-pub clip_unclipped : (n : ℕ) (F : List Function) (P : List Pair) (r : BoundAbove) (other order : List ℕ) → IsOrder n other → Keeps P other →
+pub clip_unclipped : (n : ℕ) (F : List Function) (P : List Pair) (r : LowerBound) (other order : List ℕ) → IsOrder n other → Keeps P other →
     IsReadFrom n F P r (size_under n F other) (2 ^ n - 1) order →
     AreUnclipped n F P r (size_under n F other) (2 ^ n - 1) order
 clip_unclipped n F P r other order o k read =

@@ -11,7 +11,7 @@ use Rattle.definitions.specs.Functions.{Function, depends}
 use Rattle.definitions.specs.Orders.{has, variables, members, mask_of}
 use Rattle.definitions.specs.Pairs.{Pair}
 use Rattle.definitions.specs.Widths.{essential, essential_mask}
-use Rattle.definitions.specs.declared.limits.BoundAbove.{BoundAbove}
+use Rattle.definitions.specs.declared.limits.LowerBound.{LowerBound}
 use Rattle.definitions.specs.Cells.{open_tops, wanted, widths_taken}
 use Rattle.definitions.proofs.Lists.Orders.{has_variables, has_filter}
 use Rattle.definitions.proofs.Bits.Masks.{bit-mask_of}
@@ -107,12 +107,12 @@ all_members (suc n) =
     spread m = omega arith
 
 -- a cell takes no more widths than its set has members
-pub wanted_few : (n : ℕ) (F : List Function) (P : List Pair) (r : BoundAbove) (bound mask : ℕ) → length (wanted n F P r bound mask) ≤ length (members n mask)
+pub wanted_few : (n : ℕ) (F : List Function) (P : List Pair) (r : LowerBound) (bound mask : ℕ) → length (wanted n F P r bound mask) ≤ length (members n mask)
 unfolding wanted open_tops
 wanted_few n F P r bound mask = grind (arith, filter_at_most)
 
 -- a solve takes at most n * 2 ^ (n - 1) widths
-pub widths_bound : (n : ℕ) (F : List Function) (P : List Pair) (r : BoundAbove) (bound : ℕ) → 2 * widths_taken n F P r bound ≤ n * 2 ^ n
+pub widths_bound : (n : ℕ) (F : List Function) (P : List Pair) (r : LowerBound) (bound : ℕ) → 2 * widths_taken n F P r bound ≤ n * 2 ^ n
 unfolding widths_taken how_many
 widths_bound n F P r bound =
     omega (

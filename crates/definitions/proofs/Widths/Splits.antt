@@ -12,7 +12,7 @@ use Rattle.definitions.specs.Functions.{Function, from_table, restrict, SameFunc
 use Rattle.definitions.specs.Orders.{has}
 use Rattle.definitions.specs.Levels.{subfunctions, reach, dependents}
 use Rattle.definitions.specs.Widths.{outside}
-use Rattle.definitions.specs.BoundsAbove.{functions_without}
+use Rattle.definitions.specs.LowerBounds.{functions_without}
 use Rattle.definitions.proofs.Lists.Sets.{Among, Within, among_left, among_right, among_cases, among_filter, among_from_filter, among_map, among_from_map, among_flat_map, among_from_flat_map, among_unique, count_le, count_mono, count_apart}
 use Rattle.definitions.proofs.Lists.Orders.{has_outside, has_variables}
 use Rattle.definitions.proofs.Functions.Tables.{restrict_comm, restrict_again, restrict_same, same_refl, table_same, same_from_table, same_table_decides, depends_false, depends_same, depends_no}

@@ -7,10 +7,10 @@ use Rattle.definitions.specs.Orders.{IsOrder, has, members, without}
 use Rattle.definitions.specs.Levels.{subfunctions, reach, dependents, level_count, level_counts, size_under}
 use Rattle.definitions.specs.Widths.{outside, width, cost, arrangements, least_of, least, essential, essentials_outside}
 use Rattle.definitions.specs.Pairs.{keeps, Keeps, is_lawful, are_lawful}
-use Rattle.definitions.specs.BoundsAbove.{nodes_above}
-use Rattle.definitions.specs.declared.limits.BoundAbove.TheVariants.{Variables}
+use Rattle.definitions.specs.LowerBounds.{nodes_above}
+use Rattle.definitions.specs.declared.limits.LowerBound.TheVariants.{Variables}
 use Rattle.definitions.specs.Cells.{is_within, best_top, cell_of, IsReadFrom}
-use Rattle.definitions.specs.Certificates.{Certificate, Cell, IsGood, bound_above, set_value, AreBothLawful}
+use Rattle.definitions.specs.Certificates.{Certificate, Cell, IsGood, lower_bound, set_value, AreBothLawful}
 use Rattle.definitions.specs.Diagrams.{Fewest, IsFirst}
 use Rattle.definitions.proofs.Certificates.Potential.{good_is_fewest}
 use Rattle.definitions.proofs.Widths.Clipped.{clip}
@@ -54,7 +54,7 @@ edges_of : (c : Cell) →
 edges_of c e f g x lt out = grind arith
 
 good : IsGood 3 F certificate
-unfolding points restrict table depends subfunctions reach dependents level_count level_counts outside width members set_value bound_above keeps
+unfolding points restrict table depends subfunctions reach dependents level_count level_counts outside width members set_value lower_bound keeps
 good = record {
   inputs = refl;
   outputs = refl;

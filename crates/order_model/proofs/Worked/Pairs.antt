@@ -8,11 +8,11 @@ use Rattle.definitions.specs.Pairs.{Pair, is_above, keeps, Keeps, is_lawful, are
 use Rattle.definitions.specs.Pairs.Leads.{by_one, by_more}
 use Rattle.definitions.specs.Levels.{subfunctions, reach, dependents, level_count, level_counts, size_under}
 use Rattle.definitions.specs.Widths.{outside, width, cost, arrangements, least_of, least, essential, essentials_outside}
-use Rattle.definitions.specs.BoundsAbove.{functions_with, functions_without, asked_by, nodes_above}
-use Rattle.definitions.specs.declared.limits.BoundAbove.TheVariants.{Variables, Widths}
+use Rattle.definitions.specs.LowerBounds.{functions_with, functions_without, asked_by, nodes_above}
+use Rattle.definitions.specs.declared.limits.LowerBound.TheVariants.{Variables, Widths}
 use Rattle.definitions.specs.Cells.{open_tops, is_within, best_top, cell_of, cell_cost, wanted, widths_taken, IsReadFrom}
 use Rattle.definitions.specs.Diagrams.{FewestKeeping, IsFirstKeeping}
-use Rattle.definitions.specs.Certificates.{Certificate, Cell, IsGood, bound_above, set_value, Applies, listed_masks, least_listed, certificate_of}
+use Rattle.definitions.specs.Certificates.{Certificate, Cell, IsGood, lower_bound, set_value, Applies, listed_masks, least_listed, certificate_of}
 use Rattle.definitions.specs.Certificates.Reason.{Edge, CellTooBig, Pairs}
 use Rattle.definitions.specs.Sifting.{placements, smallest_order, smallest_of, best, insert_by_count, sifting_order, sifted}
 use Rattle.order_model.proofs.Worked.Counts.{parity3, mux}
@@ -61,12 +61,12 @@ parity_certificate = refl
 
 -- without the set of variable 0 the edge to it fails
 pub parity_edge : Applies 3 (parity3 ∷ []) (of_parity (cell 0 0 ∷ cell 2 2 ∷ cell 4 2 ∷ [])) (Edge 0 0)
-unfolding points restrict table depends subfunctions reach dependents outside width members is_lawful essential essentials_outside bound_above set_value
+unfolding points restrict table depends subfunctions reach dependents outside width members is_lawful essential essentials_outside lower_bound set_value
 parity_edge = (cell 0 0, (0, lit< tt, refl), refl, lit< tt, refl, (refl, refl), lit< tt)
 
 -- a set whose cost leaves no room for the essential variable outside
 pub parity_too_big : Applies 3 (parity3 ∷ []) (of_parity (cell 0 0 ∷ cell 1 2 ∷ cell 2 2 ∷ cell 3 5 ∷ cell 4 2 ∷ [])) CellTooBig
-unfolding points restrict table depends essential essentials_outside bound_above members
+unfolding points restrict table depends essential essentials_outside lower_bound members
 parity_too_big = (cell 3 5, (3, lit< tt, refl), lit< tt)
 
 -- ---- pairs on the multiplexer
@@ -103,7 +103,7 @@ sifted_sizes = refl
 
 -- the certificate without its pair
 pub without_pair : Applies 3 (mux ∷ []) (of_mux [] (cell 0 0 ∷ cell 2 1 ∷ [])) (Edge 0 0)
-unfolding points restrict table depends subfunctions reach dependents outside width members is_lawful essential essentials_outside bound_above set_value
+unfolding points restrict table depends subfunctions reach dependents outside width members is_lawful essential essentials_outside lower_bound set_value
 without_pair = (cell 0 0, (0, lit< tt, refl), refl, lit< tt, refl, (refl, refl), lit< tt)
 
 -- and with the pair turned round

@@ -7,7 +7,7 @@ use Rattle.definitions.specs.Orders.{IsOrder, has, members}
 use Rattle.definitions.specs.Pairs.{keeps, Keeps}
 use Rattle.definitions.specs.Levels.{subfunctions, reach, dependents, level_count, level_counts}
 use Rattle.definitions.specs.Widths.{essential, essentials_outside}
-use Rattle.definitions.specs.Certificates.{Certificate, bound_above, set_value, Applies, rank_of, IsFirstReason}
+use Rattle.definitions.specs.Certificates.{Certificate, lower_bound, set_value, Applies, rank_of, IsFirstReason}
 use Rattle.definitions.specs.Certificates.Reason.{Pairs, Total, CellTooBig, Edge}
 use Rattle.order_model.proofs.Worked.Counts.{parity3, mux}
 use Rattle.order_model.proofs.Worked.Pairs.{is_order, below_three, order_021, cell, of_parity, of_mux, parity_edge, parity_too_big, without_pair, other_pair, last_above_first}
@@ -43,7 +43,7 @@ unfolding points restrict table depends subfunctions reach dependents level_coun
 edge_sound = record { shape = (refl, refl); order = order_012; pairs = refl; levels = refl; start = refl }
 
 edge_small : Applies 3 (parity3 ∷ []) edge_bad CellTooBig → ⊥
-unfolding points restrict table depends essential essentials_outside bound_above members
+unfolding points restrict table depends essential essentials_outside lower_bound members
 edge_small h = grind arith
 
 parity_invalid : IsFirstReason 3 (parity3 ∷ []) edge_bad (Edge 0 0)
@@ -57,7 +57,7 @@ unfolding points restrict table depends subfunctions reach dependents level_coun
 pair_sound = record { shape = (refl, refl); order = order_021; pairs = refl; levels = refl; start = refl }
 
 pair_small : Applies 3 (mux ∷ []) pair_bad CellTooBig → ⊥
-unfolding points restrict table depends essential essentials_outside bound_above members
+unfolding points restrict table depends essential essentials_outside lower_bound members
 pair_small h = grind arith
 
 mux_invalid : IsFirstReason 3 (mux ∷ []) pair_bad (Edge 0 0)

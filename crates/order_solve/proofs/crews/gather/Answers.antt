@@ -3,7 +3,7 @@ use Rattle.std.proofs.lemmas.List.Elements.{All-pop}
 use Rattle.std.specs.declared.alloc.AllocError.{AllocError}
 use Rattle.layer_board.specs.Views.{BoardId}
 use Rattle.compaction.specs.Ahead.{AheadOf}
-use Rattle.order_solve.specs.declared.working.WorkerResult.{WorkerResult}
+use Rattle.order_solve.specs.declared.worker.WorkerResult.{WorkerResult}
 use Rattle.order_solve.proofs.crews.gather.Goals as goal
 
 -- a worker that ends well was at the board

@@ -14,8 +14,8 @@ use Rattle.subset_layers.proofs.CostLists.{bit_from_member, member_from_bit}
 use Rattle.solutions.specs.FlatCells.{no_cell}
 use Rattle.subfunction_classes.specs.Table.{ClassesOf, classes_of, set_of}
 use Rattle.small_search.specs.Occurrences.{AreOf, CanBeCounted}
-use Rattle.small_search.specs.declared.counting.Subfunctions.{Subfunctions}
-use Rattle.small_search.specs.declared.counting.Subfunctions.TheVariants.{Values, Classes}
+use Rattle.small_search.specs.declared.width_counts.Subfunctions.{Subfunctions}
+use Rattle.small_search.specs.declared.width_counts.Subfunctions.TheVariants.{Values, Classes}
 use Rattle.small_search.proofs.CellRows.{IsBestBelow, best_all, best_skipped, best_taken, cost_at, few_sum, few_taken}
 use Rattle.small_search.proofs.MemberPlaces.{member_parts, members_next, members_none, members_passed}
 use Rattle.small_search.specs.FirstCells.{IsBestOf, IsNoneWithin, cost_without, width_without}

@@ -5,7 +5,7 @@ use Rattle.definitions.specs.Orders.{has, members}
 use Rattle.definitions.specs.Problems.{functions}
 use Rattle.definitions.specs.Cells.{cell_cost}
 use Rattle.subset_layers.specs.declared.costs.Cell.{Cell}
-use Rattle.layer_core.specs.Instances.{Instance}
+use Rattle.layer_core.specs.Instances.{InstanceOf}
 use Rattle.solutions.specs.FlatCells.{AreFlatCells, no_cell}
 use Rattle.solutions.specs.Solutions.{IsReadOff, cost_for}
 use Rattle.solutions.proofs.FlatLists.{flat_cost}
@@ -26,7 +26,7 @@ loop-place-init c =
     }
 
 -- a step of the code
-module _ (t : Instance) (plain : IsPlainSearch t) (few : t.problem.inputs ≤ 16) (cells : List Cell) (are : AreFlatCells t cells) (order : List ℕ)
+module _ (t : InstanceOf) (plain : IsPlainSearch t) (few : t.problem.inputs ≤ 16) (cells : List Cell) (are : AreFlatCells t cells) (order : List ℕ)
     (read : IsReadOff t order) (mask top : ℕ) (levels : List ℕ) (place : ℕ) (k : CountedTo t order mask top (take place levels) place)
     (lt : place < length order) (long : length levels ≡ length order) where
   abbrev x : ℕ
@@ -56,7 +56,7 @@ module _ (t : Instance) (plain : IsPlainSearch t) (few : t.problem.inputs ≤ 16
   abbrev below : ℕ
   below = (get_or cells (mask - 1 * 2 ^ x % 65536) no_cell).cost
 
-  below_is : below ≡ cell_cost t.problem.inputs (functions t.problem) t.pairs.pairs t.bound_above t.bound (mask - 2 ^ x)
+  below_is : below ≡ cell_cost t.problem.inputs (functions t.problem) t.pairs.pairs t.lower_bound t.bound (mask - 2 ^ x)
   below_is = flat_cost t cells (mask - 1 * 2 ^ x % 65536) no_cell are smaller ∙ ap (λ e. cost_for t (mask - e)) shift
 
   falls : below ≤ top

@@ -3,7 +3,7 @@ use Rattle.std.proofs.lemmas.List.{length-set, take_all, take_more_set}
 use Rattle.std.proofs.lemmas.Nat.{one_shl}
 use Rattle.definitions.specs.Orders.{has, members}
 use Rattle.subset_layers.specs.declared.costs.Cell.{Cell}
-use Rattle.layer_core.specs.Instances.{Instance, cell_for}
+use Rattle.layer_core.specs.Instances.{InstanceOf, cell_for}
 use Rattle.solutions.specs.FlatCells.{AreFlatCells, no_cell}
 use Rattle.solutions.proofs.ReadOrders.{ReadTo, read_start, read_some, read_member, read_next, read_whole, less_member}
 use Rattle.small_search.specs.Searches.{IsPlainSearch}
@@ -18,7 +18,7 @@ loop-place-init c =
     }
 
 -- the variable that a cell gives
-module _ (t : Instance) (plain : IsPlainSearch t) (few : t.problem.inputs ≤ 16) (cells : List Cell) (are : AreFlatCells t cells) (mask : ℕ) (order : List ℕ)
+module _ (t : InstanceOf) (plain : IsPlainSearch t) (few : t.problem.inputs ≤ 16) (cells : List Cell) (are : AreFlatCells t cells) (mask : ℕ) (order : List ℕ)
     (place : ℕ) (r : ReadTo t mask (take place order) place) (long : length order ≡ t.problem.inputs) (lt : place < length order) where
   abbrev x : ℕ
   x = (get_or cells mask no_cell).variable

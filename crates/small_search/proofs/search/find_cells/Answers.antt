@@ -4,7 +4,7 @@ use Rattle.std.proofs.lemmas.List.{length-append, get_or_append_left, get_or_pus
 use Rattle.std.proofs.lemmas.Nat.{one_shl, pow_pos}
 use Rattle.subset_layers.specs.declared.costs.Cell.{Cell}
 use Rattle.layer_core.specs.Pairing.{pair_of}
-use Rattle.layer_core.specs.Instances.{Instance, cell_for}
+use Rattle.layer_core.specs.Instances.{InstanceOf, cell_for}
 use Rattle.solutions.specs.FlatCells.{no_cell}
 use Rattle.small_search.specs.FirstCells.{AreFirstCells, IsFew}
 use Rattle.small_search.specs.Paths.{HoldPath}
@@ -24,7 +24,7 @@ overflow_cast-number c =
     record { fits = omega (arith, s.0, s.1, t) }
 
 -- one cell more
-cells_more : (t : Instance) (number : ℕ) (cells : List Cell) (cell : Cell) → 1 ≤ number → AreFirstCells t number cells → pair_of cell ≡ cell_for t number →
+cells_more : (t : InstanceOf) (number : ℕ) (cells : List Cell) (cell : Cell) → 1 ≤ number → AreFirstCells t number cells → pair_of cell ≡ cell_for t number →
     IsFew t number cell.cost → AreFirstCells t (number + 1) (cells ++ cell ∷ [])
 cells_more t number cells cell some h is few = record {
   many = (let l = length-append cells (cell ∷ []) in let m = h.many in omega (arith, l, m));

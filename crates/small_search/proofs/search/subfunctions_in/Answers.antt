@@ -2,7 +2,7 @@ use Rattle.std.proofs.Common.{◌≡◌, ℕ, zero, suc, ◌*◌, ◌^◌, ◌<�
 use Rattle.std.proofs.Math.Nat.{mul-le-mul_right}
 use Rattle.std.proofs.lemmas.Nat.{ones-le}
 use Rattle.definitions.specs.Problems.{TruthTables, functions}
-use Rattle.pair_chains.specs.declared.numbering.Numbered.{Numbered}
+use Rattle.pair_buckets.specs.declared.numbers.Numbered.{Numbered}
 use Rattle.definitions.proofs.Bits.Ones.{ones-members}
 use Rattle.subfunction_classes.specs.Dependence.{AreMasks}
 use Rattle.subfunction_classes.specs.Table.{HoldsClasses, classes_of, set_of}

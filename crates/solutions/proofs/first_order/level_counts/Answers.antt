@@ -3,7 +3,7 @@ use Rattle.std.proofs.lemmas.Nat.{one_shl}
 use Rattle.definitions.specs.Orders.{has, members}
 use Rattle.definitions.specs.Problems.{functions}
 use Rattle.definitions.specs.Cells.{IsReadFrom, cell_cost}
-use Rattle.layer_core.specs.Instances.{Instance}
+use Rattle.layer_core.specs.Instances.{InstanceOf}
 use Rattle.solutions.specs.Bounded.{IsBounded}
 use Rattle.solutions.proofs.ReadOrders.{CountedTo, counted_start, counted_small, counted_member, counted_fall, counted_next, counted_whole, less_member}
 use Rattle.solutions.proofs.first_order.level_counts.Goals as goal
@@ -12,8 +12,8 @@ pub loop-x-init : goal.loop-x-init
 loop-x-init c = grind (arith, counted_start)
 
 -- a step of the code
-module _ (t : Instance) (inputs : ℕ) (b : IsBounded t) (few : inputs ≤ 16) (v : inputs ≡ t.problem.inputs) (order xs : List ℕ) (same : xs ≡ order)
-    (read : IsReadFrom t.problem.inputs (functions t.problem) t.pairs.pairs t.bound_above t.bound (2 ^ t.problem.inputs - 1) order) (mask top : ℕ)
+module _ (t : InstanceOf) (inputs : ℕ) (b : IsBounded t) (few : inputs ≤ 16) (v : inputs ≡ t.problem.inputs) (order xs : List ℕ) (same : xs ≡ order)
+    (read : IsReadFrom t.problem.inputs (functions t.problem) t.pairs.pairs t.lower_bound t.bound (2 ^ t.problem.inputs - 1) order) (mask top : ℕ)
     (counts : List ℕ) (i : ℕ) (c : CountedTo t order mask top counts i) (lt : i < length xs) where
   within : i < length order
   within = let k = ap length same in omega (arith, lt, k)
@@ -36,9 +36,9 @@ module _ (t : Instance) (inputs : ℕ) (b : IsBounded t) (few : inputs ≤ 16) (
   smaller : mask - 1 * 2 ^ x % 65536 < 2 ^ t.problem.inputs
   smaller = let k = counted_small t b order read mask top counts i c in omega (arith, k)
 
-  module _ (below : ℕ) (e : below ≡ cell_cost t.problem.inputs (functions t.problem) t.pairs.pairs t.bound_above t.bound (mask - 1 * 2 ^ x % 65536)) where
-    e' : below ≡ cell_cost t.problem.inputs (functions t.problem) t.pairs.pairs t.bound_above t.bound (mask - 2 ^ x)
-    e' = e ∙ ap (λ k. cell_cost t.problem.inputs (functions t.problem) t.pairs.pairs t.bound_above t.bound (mask - k)) shift
+  module _ (below : ℕ) (e : below ≡ cell_cost t.problem.inputs (functions t.problem) t.pairs.pairs t.lower_bound t.bound (mask - 1 * 2 ^ x % 65536)) where
+    e' : below ≡ cell_cost t.problem.inputs (functions t.problem) t.pairs.pairs t.lower_bound t.bound (mask - 2 ^ x)
+    e' = e ∙ ap (λ k. cell_cost t.problem.inputs (functions t.problem) t.pairs.pairs t.lower_bound t.bound (mask - k)) shift
 
     falls : below ≤ top
     falls = let k = counted_fall t b order read mask top counts i c x within is below e' in omega (arith, k)

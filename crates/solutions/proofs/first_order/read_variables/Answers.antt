@@ -2,7 +2,7 @@ use Rattle.std.proofs.Common.{◌≡◌, ℕ, ◌+◌, ◌-◌, ◌*◌, ◌%◌
 use Rattle.std.proofs.lemmas.Nat.{one_shl}
 use Rattle.definitions.specs.Orders.{has, members}
 use Rattle.subset_layers.specs.declared.costs.Cell.{Cell}
-use Rattle.layer_core.specs.Instances.{Instance, cell_for}
+use Rattle.layer_core.specs.Instances.{InstanceOf, cell_for}
 use Rattle.layer_core.specs.Pairing.{pair_of}
 use Rattle.solutions.specs.Bounded.{IsBounded}
 use Rattle.solutions.proofs.ReadOrders.{ReadTo, read_start, read_some, read_member, read_next, read_whole, less_member}
@@ -18,7 +18,7 @@ cell-variable-requires-clause-some c =
     read_some c.args.cells.now c.loop-level.mask c.loop-level.variables.items c.loop-level._level c.loop-level.invariant (omega (arith, v, lt))
 
 -- the variable that a cell gives
-module _ (t : Instance) (mask : ℕ) (xs : List ℕ) (steps inputs : ℕ) (r : ReadTo t mask xs steps) (b : IsBounded t) (few : inputs ≤ 16)
+module _ (t : InstanceOf) (mask : ℕ) (xs : List ℕ) (steps inputs : ℕ) (r : ReadTo t mask xs steps) (b : IsBounded t) (few : inputs ≤ 16)
     (v : inputs ≡ t.problem.inputs) (lt : steps < inputs) (cell : Cell) (is : pair_of cell ≡ cell_for t mask) where
   variable_is : cell.variable ≡ (cell_for t mask).1
   variable_is = ap (λ (p : ℕ × ℕ). p.1) is

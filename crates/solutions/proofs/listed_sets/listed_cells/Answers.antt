@@ -22,4 +22,4 @@ returns c =
     let f = c.loop-number-test.false in
     let m = c.loop-number.auto.number-end in
     listed_whole t c.args.total c.loop-number.number c.loop-number.found.items c.loop-number.invariant
-    (omega (arith, s, p, f, m)) c.requires.within c.requires.bound_above
+    (omega (arith, s, p, f, m)) c.requires.within c.requires.lower_bound

@@ -1,17 +1,17 @@
 use Rattle.std.proofs.Common.{◌≡◌, ℕ, ◌-◌, ◌^◌, ap, ◌∙◌}
 use Rattle.definitions.specs.Problems.{functions}
 use Rattle.definitions.specs.Cells.{cell_cost}
-use Rattle.layer_core.specs.Instances.{Instance}
+use Rattle.layer_core.specs.Instances.{InstanceOf}
 use Rattle.solutions.proofs.ReadOrders.{order_first}
 use Rattle.solutions.proofs.FoundOrders.{total_size, total_small, total_fewest}
 use Rattle.solutions.proofs.optima.optimum_of.Goals as goal
 
 -- the total is the cost of the set of all variables
-total_is : (t : Instance) (inputs mask total : ℕ) → inputs ≡ t.problem.inputs → mask ≡ 2 ^ inputs - 1 →
-    total ≡ cell_cost t.problem.inputs (functions t.problem) t.pairs.pairs t.bound_above t.bound mask →
-    total ≡ cell_cost t.problem.inputs (functions t.problem) t.pairs.pairs t.bound_above t.bound (2 ^ t.problem.inputs - 1)
+total_is : (t : InstanceOf) (inputs mask total : ℕ) → inputs ≡ t.problem.inputs → mask ≡ 2 ^ inputs - 1 →
+    total ≡ cell_cost t.problem.inputs (functions t.problem) t.pairs.pairs t.lower_bound t.bound mask →
+    total ≡ cell_cost t.problem.inputs (functions t.problem) t.pairs.pairs t.lower_bound t.bound (2 ^ t.problem.inputs - 1)
 total_is t inputs mask total v m e =
-    e ∙ ap (cell_cost t.problem.inputs (functions t.problem) t.pairs.pairs t.bound_above t.bound) (m ∙ ap (λ (k : ℕ). 2 ^ k - 1) v)
+    e ∙ ap (cell_cost t.problem.inputs (functions t.problem) t.pairs.pairs t.lower_bound t.bound) (m ∙ ap (λ (k : ℕ). 2 ^ k - 1) v)
 
 pub returns-clause-optimum : goal.returns-clause-optimum
 returns-clause-optimum c =

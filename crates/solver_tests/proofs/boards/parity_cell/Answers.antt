@@ -2,7 +2,7 @@ use Rattle.std.proofs.Common.{◌∙◌, sym, ap}
 use Rattle.definitions.specs.Problems.{functions}
 use Rattle.definitions.specs.Cells.{cell_of}
 use Rattle.definitions.specs.declared.limits.Limit.{Limit}
-use Rattle.definitions.specs.declared.limits.BoundAbove.TheVariants.{Variables}
+use Rattle.definitions.specs.declared.limits.LowerBound.TheVariants.{Variables}
 use Rattle.layer_core.specs.Instances.{cell_for, instance_of}
 use Rattle.solver_tests.proofs.boards.parity_cell.Goals as goal
 

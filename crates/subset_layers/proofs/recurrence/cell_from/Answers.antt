@@ -17,7 +17,7 @@ some_order n m P e k =
 
 pub returns-then-lawful : goal.returns-then-lawful
 returns-then-lawful c = λ given.
-    let n = c.args.bounds_above.now.problem.inputs in
+    let n = c.args.lower_bounds.now.problem.inputs in
     let o = some_order c.args.pairs.now.inputs n c.args.pairs.now.pairs c.requires.inputs c.inputs-inputs.ensures.kept in
     let low : is_lawful c.args.pairs.now.pairs (members n c.args.mask) ≡ true =
     ap (λ i. is_lawful c.args.pairs.now.pairs (members i c.args.mask)) (sym c.requires.inputs)
@@ -26,12 +26,12 @@ returns-then-lawful c = λ given.
 
 pub returns-else-lawful : goal.returns-else-lawful
 returns-else-lawful c = λ given.
-    let v = c.args.bounds_above.now in
+    let v = c.args.lower_bounds.now in
     let n = v.problem.inputs in
     let P = c.args.pairs.now.pairs in
     let o = some_order c.args.pairs.now.inputs n P c.requires.inputs c.inputs-inputs.ensures.kept in
     let unlawful = ap (λ i. is_lawful P (members i c.args.mask)) (sym c.requires.inputs) ∙ sym c.if-lawful.ensures in
     c.clipped_cell.ensures n c.requires.within
-    ∙ cell_clipped n v.bound_above c.args.mask c.args.bound _ _ (functions v.problem) P o.0 o.1 o.2 given _
+    ∙ cell_clipped n v.lower_bound c.args.mask c.args.bound _ _ (functions v.problem) P o.0 o.1 o.2 given _
     (first_of (members n c.args.mask))
     (first_has_mask n c.args.mask c.requires.some (omega arith) c.requires.within) refl (λ low. absurd (true≢false (sym low ∙ unlawful)))

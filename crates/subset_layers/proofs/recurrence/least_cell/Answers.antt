@@ -19,11 +19,11 @@ cell_from-requires c =
 
 pub returns : goal.returns
 returns c = λ t w.
-    let v = c.args.bounds_above.now in
+    let v = c.args.lower_bounds.now in
     let n = c.args.costs.now.inputs in
     let F = functions v.problem in
     let P = c.args.pairs.now.pairs in
-    let given = costs_for_cell c.args.costs.now v.bound_above c.args.mask c.args.bound c.costs_below-below.result c.args.widths.now F P c.requires.next t w
+    let given = costs_for_cell c.args.costs.now v.lower_bound c.args.mask c.args.bound c.costs_below-below.result c.args.widths.now F P c.requires.next t w
     c.costs_below-below.ensures in
-    subst (λ (i : ℕ). AreForCell i F P v.bound_above c.args.bound c.args.mask (slice_index c.costs_below-below.result) (slice_index c.args.widths.now) →
-    as_pair c.cell_from.result ≡ cell_of i F P v.bound_above c.args.bound c.args.mask) c.requires.functions c.cell_from.ensures given
+    subst (λ (i : ℕ). AreForCell i F P v.lower_bound c.args.bound c.args.mask (slice_index c.costs_below-below.result) (slice_index c.args.widths.now) →
+    as_pair c.cell_from.result ≡ cell_of i F P v.lower_bound c.args.bound c.args.mask) c.requires.functions c.cell_from.ensures given

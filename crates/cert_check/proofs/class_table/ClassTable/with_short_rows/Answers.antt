@@ -3,7 +3,7 @@ use Rattle.std.specs.Option.{IfSome}
 use Rattle.subfunction_classes.specs.Table.{HoldsClasses}
 use Rattle.cert_check.specs.Rows.{IsShortened}
 use Rattle.cert_check.specs.Tables.{HoldsTable, TableOf, classes_at, table_at}
-use Rattle.pair_chains.proofs.HighSets.{double}
+use Rattle.pair_buckets.proofs.HighSets.{double}
 use Rattle.cert_check.proofs.Rows.{short_finer, short_then}
 use Rattle.cert_check.proofs.ShortenedTables.{ready, rows}
 use Rattle.cert_check.proofs.class_table.ClassTable.with_short_rows.Goals as goal

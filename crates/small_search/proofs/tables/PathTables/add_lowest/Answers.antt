@@ -6,7 +6,7 @@ use Rattle.std.proofs.lemmas.List.{length-set, with_items_is}
 use Rattle.std.proofs.lemmas.Nat.{ones-le}
 use Rattle.definitions.specs.Orders.{members}
 use Rattle.definitions.specs.Problems.{TruthTables}
-use Rattle.pair_chains.specs.declared.numbering.Numbered.{Numbered}
+use Rattle.pair_buckets.specs.declared.numbers.Numbered.{Numbered}
 use Rattle.subfunction_classes.specs.PairTables.{AllBelow, IsPaired, NumbersPairs}
 use Rattle.subfunction_classes.specs.Places.{pairs}
 use Rattle.subfunction_classes.specs.Table.{HoldsClasses, classes_of}

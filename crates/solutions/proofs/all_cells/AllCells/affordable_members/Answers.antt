@@ -3,7 +3,7 @@ use Rattle.std.proofs.lemmas.Bool.{iff_false}
 use Rattle.std.proofs.lemmas.Nat.{one_shl}
 use Rattle.definitions.specs.declared.limits.Limit.{Limit}
 use Rattle.definitions.proofs.Bits.Problems.{MaskOfFirst, mask_with_next, mask_without_next}
-use Rattle.layer_core.specs.Instances.{Instance}
+use Rattle.layer_core.specs.Instances.{InstanceOf}
 use Rattle.solutions.specs.Solutions.{cost_for, cost_for_without}
 use Rattle.solutions.proofs.WantedMembers.{is_affordable, affordable_is, affordable_yes, affordable_dear, affordable_absent}
 use Rattle.solutions.proofs.all_cells.AllCells.affordable_members.Goals as goal
@@ -18,7 +18,7 @@ loop-x-preserved c =
     let small : x < 16 = omega arith in
     let e = one_shl x 16 small in
     let bound : c.limit-bound.result.bound ≡ t.bound =
-    ap (λ (l : Limit). l.bound) c.limit-bound.ensures ∙ ap (λ (z : Instance). z.bound) c.self.view_is in
+    ap (λ (l : Limit). l.bound) c.limit-bound.ensures ∙ ap (λ (z : InstanceOf). z.bound) c.self.view_is in
     elim c.if-contains.branch [
       | then-contains+then-cost-bound w ↦
           let is : costs x ≡ w.cost.result = ap (λ k. cost_for t (c.args.mask - k)) (sym e) ∙ sym w.cost.ensures in

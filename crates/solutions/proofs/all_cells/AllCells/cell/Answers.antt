@@ -1,5 +1,5 @@
 use Rattle.std.proofs.Common.{count_ones, ap, ◌∙◌, arith}
-use Rattle.layer_core.specs.Instances.{Instance, cell_for}
+use Rattle.layer_core.specs.Instances.{InstanceOf, cell_for}
 use Rattle.solutions.proofs.Layers.{ones_le, ones_some, set_there, cell_found}
 use Rattle.solutions.proofs.all_cells.AllCells.cell.Goals as goal
 
@@ -13,4 +13,4 @@ pub returns-in-Layers : goal.returns-in-Layers
 returns-in-Layers c =
     cell_found c.self.inside.instance.now (count_ones c.args.mask) c.args.mask c.layer_of-layer.result.now c.cell_of.result c.unwrap.result
     c.layer_of-layer.ensures c.cell_of.ensures.exact c.unwrap.ensures
-    ∙ ap (λ (t : Instance). cell_for t c.args.mask) c.self.view_is
+    ∙ ap (λ (t : InstanceOf). cell_for t c.args.mask) c.self.view_is

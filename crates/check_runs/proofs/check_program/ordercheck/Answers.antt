@@ -1,5 +1,0 @@
-use Rattle.std.proofs.Common.{rules}
-use Rattle.check_runs.proofs.check_program.ordercheck.Goals as goal
-
-pub returns : goal.returns
-returns g c = search rules

@@ -1,0 +1,80 @@
+//! Numbers of pairs of entries by first occurrence, and their masks.
+
+ghost use Rattle.std.specs.Prelude.{◌≡◌, ℕ, ◌*◌, ◌^◌, ◌<◌, ◌≤◌, length, IfOk};
+ghost use Rattle.definitions.specs.Widths.{same_pair};
+ghost use Rattle.subfunction_classes.specs.Numbering.{ranks};
+ghost use Rattle.subfunction_classes.specs.Places as places;
+ghost use Rattle.pair_numbering.specs.MaskedNumbers.{NumbersMasked};
+ghost use Rattle.pair_numbering.specs.Numbers.{ArePairsNumbered};
+
+use indexmap::IndexSet;
+use pair_numbering::{EntryPairs, MaskedNumbers, MaskedPairs, join_masks, number_with_masks};
+use std::alloc::{AllocError, Global};
+
+/// The numbers of the pairs, in an `IndexSet`.
+fn index_pairs(alloc: Global, entries: &EntryPairs<'_>) -> Result<Vec<u32>, AllocError>
+    ensures { IfOk result (λ v. v.items ≡
+        ranks same_pair (places.pairs entries.now.numbers (2 ^ entries.now.rank))) }
+{
+    let half = entries.len();
+    let mut seen = IndexSet::with_capacity(alloc, half)?;
+    let mut out = Vec::with_capacity(alloc, half)?;
+    for j in 0..half {
+        let (number, _) = seen.insert_full(entries.pair(j))?;
+        out.push(number as u32)?;
+    }
+    Ok(out)
+}
+
+/// The pair of each number: a pair with the next number is the first of its kind.
+fn distinct_pairs(
+    alloc: Global,
+    entries: &EntryPairs<'_>,
+    numbered: &[u32],
+) -> Result<Vec<(u32, u32)>, AllocError>
+    requires { numbered.now ≡
+        ranks same_pair (places.pairs entries.now.numbers (2 ^ entries.now.rank)) }
+    ensures { IfOk result
+        (λ v. ArePairsNumbered entries.now.numbers entries.now.rank numbered.now v.items) }
+{
+    let mut pairs = Vec::new(alloc);
+    for (j, number) in numbered.iter().enumerate() {
+        if *number as usize == pairs.len() {
+            pairs.push(entries.pair(j))?;
+        }
+    }
+    Ok(pairs)
+}
+
+/// The numbers of the pairs and their masks, in an `IndexSet`.
+fn number_pairs_by_index(
+    alloc: Global,
+    pairs: &MaskedPairs<'_>,
+) -> Result<MaskedNumbers, AllocError>
+    ensures { IfOk result (λ v. NumbersMasked pairs.now v.numbers.items v.masks.items) }
+{
+    prove!(pairs.rank() < 16);
+    let indexed = index_pairs(alloc, &pairs.entries)?;
+    let distinct = distinct_pairs(alloc, &pairs.entries, &indexed)?;
+    let joined = join_masks(alloc, &distinct, pairs.x, pairs.masks)?;
+    Ok(MaskedNumbers {
+        numbers: indexed,
+        masks: joined,
+    })
+}
+
+/// The numbers of the pairs and their masks: in an `IndexSet` if `indexed` is true, else in the
+/// fastest way.
+pub(crate) fn number_by(
+    alloc: Global,
+    pairs: &MaskedPairs<'_>,
+    indexed: bool,
+) -> Result<MaskedNumbers, AllocError>
+    ensures { IfOk result (λ v. NumbersMasked pairs.now v.numbers.items v.masks.items) }
+{
+    if indexed {
+        number_pairs_by_index(alloc, pairs)
+    } else {
+        number_with_masks(alloc, pairs)
+    }
+}

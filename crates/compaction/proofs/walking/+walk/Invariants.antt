@@ -1,5 +1,0 @@
-use Rattle.subfunction_classes.specs.Table.{free_below}
-use Rattle.compaction.proofs.walking.+walk.Given as goal
-
-abbrev pub decreases-walk : goal.decreases-walk
-decreases-walk l = free_below l.branch.now.decided l.table.now.problem.inputs

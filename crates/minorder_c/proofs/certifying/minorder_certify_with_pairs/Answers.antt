@@ -1,8 +1,0 @@
-use Rattle.std.proofs.Common.{rules}
-use Rattle.minorder_c.proofs.certifying.minorder_certify_with_pairs.Goals as goal
-
-pub returns-then-text-bytes-clause-short : goal.returns-then-text-bytes-clause-short
-returns-then-text-bytes-clause-short c = search rules
-
-pub returns-else-text-bytes-clause-written : goal.returns-else-text-bytes-clause-written
-returns-else-text-bytes-clause-written c = search rules

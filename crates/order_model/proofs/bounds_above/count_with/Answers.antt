@@ -1,6 +1,0 @@
-use Rattle.std.proofs.Common.{arith, length-take}
-use Rattle.definitions.proofs.Lists.Ranges.{filter_at_most}
-use Rattle.order_model.proofs.bounds_above.count_with.Goals as goal
-
-pub overflow_add-count : goal.overflow_add-count
-overflow_add-count c = grind (arith, filter_at_most, length-take)

@@ -1,0 +1,10 @@
+use Rattle.std.proofs.Common.{◌≡◌, ◌+◌, length}
+use Rattle.solutions.specs.LayerCosts.{AreLayersFor}
+use Rattle.order_solve.proofs.layers.layers_of.Given as goal
+
+abbrev pub invariant-loop-size : goal.invariant-loop-size
+invariant-loop-size g l = record {
+  many : length l.layers.items ≡ l._size + 1;
+  layers_are : AreLayersFor l.instance l.layers.items;
+  ahead : l.ahead.problem ≡ l.instance.problem;
+}

@@ -1,5 +1,0 @@
-use Rattle.std.proofs.Common.{rules}
-use Rattle.order_solve.proofs.working.post_cell.Goals as goal
-
-pub returns-clause-posted : goal.returns-clause-posted
-returns-clause-posted g c = search rules

@@ -1,0 +1,50 @@
+//! What a search can do before its bound is known.
+
+ghost use Rattle.std.specs.Prelude.{◌≡◌, IfOk};
+
+use compaction::Preparation;
+use order_model::{Limit, LowerBound, Pairs, Problem, Workers};
+use solutions::{layers_to_prepare, pairs_to_keep};
+use std::alloc::{AllocError, Global};
+use std::thread::Threads;
+
+/// The pairs that a search with such a lower bound is likely to keep where some are asked for.
+fn likely_pairs(
+    alloc: Global,
+    problem: &Problem,
+    asked: &Pairs,
+    lower_bound: LowerBound,
+) -> Result<Pairs, AllocError>
+    requires { asked.now.inputs ≡ problem.now.inputs }
+{
+    match lower_bound {
+        LowerBound::Widths => pairs_to_keep(alloc, problem, asked),
+        LowerBound::Variables => Ok(asked.copied()),
+    }
+}
+
+/// What a search for the first order of the fewest nodes among those that keep the pairs begins
+/// with: found by the workers while another thread sifts, say. The bound is the size of any diagram
+/// of the functions; from it is guessed how many layers hardly a set is clipped of. No rows are
+/// found if the search keeps pairs of symmetric variables, since few sets are then left, nor by one
+/// worker.
+pub fn prepare<'a, R: Threads + Sync>(
+    rt: &R,
+    alloc: Global,
+    problem: &'a Problem,
+    pairs: &Pairs,
+    limit: Limit,
+    workers: Workers,
+) -> Result<Preparation<'a>, AllocError>
+    requires { pairs.now.inputs ≡ problem.now.inputs }
+    ensures { IfOk result (λ p. p.problem ≡ problem.now) }
+{
+    let kept = likely_pairs(alloc, problem, pairs, limit.lower_bound)?;
+    if workers.count() == 1 {
+        let prepared = Preparation::of(alloc, problem, &kept)?;
+        return Ok(prepared);
+    }
+    let end = layers_to_prepare(problem, pairs, &kept, limit);
+    let prepared = Preparation::by_workers(rt, alloc, problem, &kept, end, workers)?;
+    Ok(prepared)
+}

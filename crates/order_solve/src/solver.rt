@@ -1,0 +1,121 @@
+//! The solver.
+
+ghost use Rattle.std.specs.Prelude.{◌≡◌, IfOk};
+ghost use Rattle.definitions.specs.Problems.{functions};
+ghost use Rattle.definitions.specs.declared.limits.LowerBound.TheVariants.{Variables};
+ghost use Rattle.definitions.specs.Cells.{widths_taken};
+ghost use Rattle.symmetries.specs.SymmetricPairs.{IsHarmless};
+ghost use Rattle.solutions.specs.Bounded.{IsBounded};
+ghost use Rattle.solutions.specs.Solutions.{IsOptimumFor, IsSolution};
+
+use crate::alone::layers_alone;
+use crate::layers::layers_of;
+use compaction::Preparation;
+use order_model::{Crew, Gate, Limit, LowerBound, Pairs, Problem, SizedOrder, Workers};
+use sifting::Sifted;
+use solutions::{AllCells, Instance, Solution, optimum_of, pairs_to_keep, solution_of};
+use std::alloc::{AllocError, Global};
+use std::thread::Threads;
+
+/// What the search is for that a sifted order bounds: its size is the bound, and pairs are kept to
+/// which each order that keeps its pairs can be sorted.
+fn instance_of<'a>(
+    problem: &'a Problem,
+    sifted: &'a Sifted,
+    pairs: &'a Pairs,
+    lower_bound: LowerBound,
+) -> Instance<'a>
+    requires problem { sifted.now.problem ≡ problem.now }
+    requires inputs { pairs.now.inputs ≡ problem.now.inputs }
+    requires harmless { IsHarmless problem.now.inputs (functions problem.now) sifted.now.pairs
+        pairs.now.pairs }
+    ensures problem { result.problem ≡ problem.now }
+    ensures pairs { result.pairs ≡ pairs.now }
+    ensures lower_bound { result.lower_bound ≡ lower_bound }
+    ensures bound { result.bound ≡ sifted.now.size }
+    ensures bounded { IsBounded result }
+{
+    prove!(problem.outputs() <= 16);
+    prove!(problem.inputs() <= 16);
+    let limit = Limit {
+        bound: sifted.size(),
+        lower_bound,
+    };
+    Instance::new(problem, pairs, limit)
+}
+
+/// The first order of the fewest nodes among those that keep the pairs of a sifted order of the
+/// same functions. The size of that order bounds the search, which counts on the nodes above a set
+/// that the set's widths ask for, and begins with what was prepared. The gate is called by the
+/// workers for each set but the empty one.
+///
+/// Memory alone is refused: if any worker met it, no layer is done over.
+pub fn find_optimum<R: Threads + Sync, G: Gate>(
+    rt: &R,
+    alloc: Global,
+    prepared: Preparation<'_>,
+    sifted: Sifted,
+    workers: Workers,
+    gate: &G,
+) -> Result<SizedOrder, AllocError>
+    requires { sifted.problem ≡ prepared.problem }
+    ensures { IfOk result (IsOptimumFor prepared.entry.problem sifted.pairs) }
+{
+    let problem = prepared.problem();
+    let pairs = pairs_to_keep(alloc, problem, sifted.pairs())?;
+    let instance = instance_of(problem, &sifted, &pairs, LowerBound::Widths);
+    let layers = layers_of(&Crew::new(rt, workers, gate), alloc, &instance, prepared)?;
+    let cells = AllCells::of_layers(&instance, layers);
+    optimum_of(alloc, &cells)
+}
+
+/// The order of `find_optimum`, by the calling thread alone.
+pub fn find_optimum_alone(
+    alloc: Global,
+    problem: &Problem,
+    sifted: Sifted,
+) -> Result<SizedOrder, AllocError>
+    requires { sifted.problem ≡ problem.now }
+    ensures { IfOk result (IsOptimumFor problem.now sifted.pairs) }
+{
+    let pairs = pairs_to_keep(alloc, problem, sifted.pairs())?;
+    let instance = instance_of(problem, &sifted, &pairs, LowerBound::Widths);
+    let cells = AllCells::of_layers(&instance, layers_alone(alloc, &instance)?);
+    optimum_of(alloc, &cells)
+}
+
+/// The order of `find_optimum`, with what its certificate lists. For that the search counts on one
+/// node above a set for each essential variable outside, and no more.
+pub fn solve<R: Threads + Sync, G: Gate>(
+    rt: &R,
+    alloc: Global,
+    prepared: Preparation<'_>,
+    sifted: Sifted,
+    workers: Workers,
+    gate: &G,
+) -> Result<Solution, AllocError>
+    requires { sifted.problem ≡ prepared.problem }
+    ensures solution { IfOk result (IsSolution prepared.entry.problem sifted.pairs) }
+    ensures widths { IfOk result
+        (λ s. s.widths ≡ widths_taken prepared.entry.problem.inputs
+        (functions prepared.entry.problem) sifted.pairs Variables sifted.size) }
+{
+    let problem = prepared.problem();
+    let instance = instance_of(problem, &sifted, sifted.pairs(), LowerBound::Variables);
+    let layers = layers_of(&Crew::new(rt, workers, gate), alloc, &instance, prepared)?;
+    let cells = AllCells::of_layers(&instance, layers);
+    solution_of(alloc, &cells)
+}
+
+/// The solution of `solve`, by the calling thread alone.
+pub fn solve_alone(alloc: Global, problem: &Problem, sifted: Sifted) -> Result<Solution, AllocError>
+    requires { sifted.problem ≡ problem.now }
+    ensures solution { IfOk result (IsSolution problem.now sifted.pairs) }
+    ensures widths { IfOk result
+        (λ s. s.widths ≡ widths_taken problem.now.inputs (functions problem.now) sifted.pairs
+        Variables sifted.size) }
+{
+    let instance = instance_of(problem, &sifted, sifted.pairs(), LowerBound::Variables);
+    let cells = AllCells::of_layers(&instance, layers_alone(alloc, &instance)?);
+    solution_of(alloc, &cells)
+}

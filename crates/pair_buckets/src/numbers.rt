@@ -1,0 +1,183 @@
+//! One more variable: the pairs of classes that differ in it are numbered.
+
+ghost use Rattle.std.specs.Prelude.{◌≡◌, ℕ, ◌/◌, ◌^◌, ◌<◌, ◌≤◌, map, get_or, length, IfOk, IsTrue, OnOk};
+ghost use Rattle.subfunction_classes.specs.Dependence.{joined_mask};
+ghost use Rattle.subfunction_classes.specs.PairTables.{AreApart, AreOwn, IsPaired, IsPairTable, NumbersPairs};
+ghost use Rattle.subfunction_classes.specs.Places as places;
+
+use crate::pair_numbers::PairNumbers;
+use definitions::{Mask, VarIx};
+use std::alloc::{AllocError, Global};
+use subfunction_classes::join_mask;
+
+/// The number of each pair, and what the functions with each number depend on.
+#[derive(Drop)]
+pub struct Numbered {
+    pub numbers: Vec<u32>,
+    pub masks: Vec<Mask>,
+}
+
+impl Numbered {
+    /// Room for the numbers of `pairs` pairs.
+    pub fn with_room(alloc: Global, pairs: usize) -> Result<Numbered, AllocError> {
+        Ok(Numbered {
+            numbers: Vec::with_capacity(alloc, pairs)?,
+            masks: Vec::with_capacity(alloc, pairs)?,
+        })
+    }
+}
+
+/// The place of the entry of pair `j` at which the variable is 0, below which the set has none.
+#[inline(always)]
+fn low_place(x: VarIx, j: usize) -> usize
+    requires variable { x < 16 }
+    requires place { j < 2 ^ 32 }
+    ensures { result ≡ places.low_place (2 ^ x) j }
+{
+    let below = (1usize << x) - 1;
+    2 * j - (j & below)
+}
+
+/// Pair `j`: the entries at which the variable is 0 and 1.
+#[inline(always)]
+pub fn pair_at(numbers: &[u32], x: VarIx, j: usize) -> (u32, u32)
+    requires paired { IsPaired numbers.now x }
+    requires place { j < length numbers.now / 2 }
+    ensures { result ≡ places.pair_at numbers.now (2 ^ x) j }
+{
+    let low = low_place(x, j);
+    let high = low + (1usize << x);
+    (numbers[low], numbers[high])
+}
+
+/// An odd number whose multiples spread over the words of 32 bits.
+const SPREAD: u32 = 2_654_435_761;
+
+/// How many buckets `pairs` pairs of `classes` classes get.
+fn buckets_for(pairs: usize, classes: usize) -> usize
+    requires pairs { pairs ≤ 2 ^ 20 }
+    requires classes { classes ≤ 2 ^ 20 }
+    ensures { 0 < result }
+{
+    let most = (pairs + 1).min(classes * classes).max(1);
+    most.next_power_of_two()
+}
+
+/// What a lower class is multiplied by for its bucket: the number of classes if each pair then has
+/// its own, else `SPREAD`.
+fn factor_for(buckets: usize, classes: usize) -> u32
+    requires { classes ≤ 2 ^ 20 }
+{
+    if classes * classes <= buckets {
+        classes as u32
+    } else {
+        SPREAD
+    }
+}
+
+/// Writes the masks of pairs.
+fn fill_masks(
+    pairs: &PairNumbers,
+    x: VarIx,
+    masks: &[Mask],
+    joined: &mut Vec<Mask>,
+) -> Result<(), AllocError>
+    requires variable { x < 16 }
+    requires lower { (k : ℕ) → k < length pairs.now →
+        (get_or pairs.now k (0, 0)).0 < length masks.now }
+    requires upper { (k : ℕ) → k < length pairs.now →
+        (get_or pairs.now k (0, 0)).1 < length masks.now }
+    ensures { OnOk result (joined.new.items ≡ map (joined_mask masks.now x) pairs.now) }
+{
+    let count = pairs.len();
+    joined.resize(count, 0)?;
+    for k in 0..count {
+        joined[k] = join_mask(masks, x, pairs.pair(k));
+    }
+    Ok(())
+}
+
+/// Whether each entry is a class of its own.
+pub fn are_own(numbers: &[u32]) -> bool
+    ensures { IsTrue result → AreOwn numbers.now }
+{
+    for (i, number) in numbers.iter().enumerate() {
+        if *number as usize != i {
+            return false;
+        }
+    }
+    true
+}
+
+/// Writes the numbers of the pairs, which are distinct too, and their masks.
+fn number_distinct_pairs(
+    numbers: &[u32],
+    x: VarIx,
+    masks: &[Mask],
+    to: &mut Numbered,
+) -> Result<(), AllocError>
+    requires table { IsPairTable numbers.now x (length masks.now) }
+    requires distinct { AreApart numbers.now }
+    ensures { OnOk result
+        (NumbersPairs masks.now x (places.pairs numbers.now (2 ^ x)) to.new.numbers.items
+        to.new.masks.items) }
+{
+    let half = numbers.len() / 2;
+    to.numbers.resize(half, 0)?;
+    to.masks.resize(half, 0)?;
+    for j in 0..half {
+        to.numbers[j] = j as u32;
+        to.masks[j] = join_mask(masks, x, pair_at(numbers, x, j));
+    }
+    Ok(())
+}
+
+/// Writes the numbers of the pairs, by first occurrence, and their masks over what `to` has. `seen`
+/// is memory to work in.
+pub fn number_pairs(
+    numbers: &[u32],
+    x: VarIx,
+    masks: &[Mask],
+    seen: &mut PairNumbers,
+    to: &mut Numbered,
+) -> Result<(), AllocError>
+    requires table { IsPairTable numbers.now x (length masks.now) }
+    requires few { length masks.now ≤ 2 ^ 20 }
+    ensures { OnOk result
+        (NumbersPairs masks.now x (places.pairs numbers.now (2 ^ x)) to.new.numbers.items
+        to.new.masks.items) }
+{
+    if masks.len() == numbers.len() && are_own(numbers) {
+        return number_distinct_pairs(numbers, x, masks, to);
+    }
+    let half = numbers.len() / 2;
+    let buckets = buckets_for(half, masks.len());
+    let factor = factor_for(buckets, masks.len());
+    seen.restart(factor, buckets)?;
+    to.numbers.resize(half, 0)?;
+    for j in 0..half {
+        let number = seen.insert(pair_at(numbers, x, j))?;
+        to.numbers[j] = number;
+    }
+    fill_masks(seen, x, masks, &mut to.masks)?;
+    Ok(())
+}
+
+/// The numbers of the pairs, by first occurrence, and their masks, in newly allocated memory.
+pub fn numbered_pairs(
+    alloc: Global,
+    numbers: &[u32],
+    x: VarIx,
+    masks: &[Mask],
+) -> Result<Numbered, AllocError>
+    requires table { IsPairTable numbers.now x (length masks.now) }
+    requires few { length masks.now ≤ 2 ^ 20 }
+    ensures { IfOk result
+        (λ v. NumbersPairs masks.now x (places.pairs numbers.now (2 ^ x)) v.numbers.items
+        v.masks.items) }
+{
+    let mut seen = PairNumbers::new(alloc)?;
+    let mut to = Numbered::with_room(alloc, numbers.len() / 2)?;
+    number_pairs(numbers, x, masks, &mut seen, &mut to)?;
+    Ok(to)
+}

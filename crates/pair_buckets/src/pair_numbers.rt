@@ -1,0 +1,135 @@
+//! Numbers of pairs by first occurrence.
+
+ghost use Rattle.std.specs.Prelude.{◌≡◌, ◌≢◌, ℕ, ◌<◌, ◌^◌, ◌++◌, ◌∷◌, [], get_or, length, if◌then◌else◌, IfOk, IfSome, IfNone, OnOk, OnErr};
+ghost use Rattle.std.specs.List.{list_any, position_or_len};
+ghost use Rattle.definitions.specs.Widths.{same_pair};
+ghost use Rattle.pair_buckets.specs.Chains.{AreChainedPairs, pairs_of, befores_of, bucket_of};
+
+use std::alloc::{AllocError, Global};
+use std::marker::Model;
+
+/// A pair, and one more than the number of the pair before it in its bucket, or 0.
+#[derive(Clone, Copy, Debug)]
+pub(crate) struct Link {
+    pub(crate) pair: (u32, u32),
+    pub(crate) before: u32,
+}
+
+/// Pairs in the order in which they were put in, each once. The pairs of a bucket are chained, the
+/// last one first.
+#[derive(Drop)]
+pub struct PairNumbers {
+    factor: u32,
+    links: Vec<Link>,
+    // one more than the number of the last pair of each bucket, or 0
+    last: Vec<u32>,
+}
+
+impl Model for PairNumbers {
+    ghost use Rattle.std.specs.Prelude.{List, ℕ};
+    ghost use Rattle.pair_buckets.specs.Chains.{AreChainedPairs, pairs_of, befores_of};
+
+    ghost Value = { List (ℕ × ℕ) };
+
+    ghost view = { λ s. pairs_of s.links.items };
+
+    ghost invariant = { λ s. AreChainedPairs s.factor (pairs_of s.links.items)
+        (befores_of s.links.items) s.last.items };
+}
+
+/// The bucket of a pair. If the factor is the number of classes and their square the
+/// number of buckets, each pair has its own.
+#[inline(always)]
+fn bucket(factor: u32, buckets: usize, pair: (u32, u32)) -> usize
+    requires some { 0 < buckets }
+    ensures value { result ≡ bucket_of factor buckets pair }
+    ensures within { result < buckets }
+{
+    let key = pair.0.wrapping_mul(factor).wrapping_add(pair.1);
+    key as usize & (buckets - 1)
+}
+
+/// The number of a pair, if it has one, from the last pair of its bucket back.
+#[inline(always)]
+fn find(factor: u32, links: &[Link], last: &[u32], home: usize, pair: (u32, u32)) -> Option<u32>
+    requires chained { AreChainedPairs factor (pairs_of links.now) (befores_of links.now) last.now }
+    requires home { home ≡ bucket_of factor (length last.now) pair }
+    requires within { home < length last.now }
+    ensures found { IfSome result
+        (λ k. (k < length links.now) × (get_or (pairs_of links.now) k (0, 0) ≡ pair)) }
+    ensures none { IfNone result
+        ((k : ℕ) → k < length links.now → get_or (pairs_of links.now) k (0, 0) ≢ pair) }
+{
+    let mut next = last[home];
+    while next != 0 {
+        let link = links[next as usize - 1];
+        if link.pair.0 == pair.0 && link.pair.1 == pair.1 {
+            return Some(next - 1);
+        }
+        next = link.before;
+    }
+    None
+}
+
+impl PairNumbers {
+    /// No pairs.
+    pub fn new(alloc: Global) -> Result<PairNumbers, AllocError>
+        ensures { IfOk result (λ s. s ≡ []) }
+    {
+        let last = vec![in alloc; 0u32; 1]?;
+        Ok(PairNumbers {
+            factor: 1,
+            links: Vec::new(alloc),
+            last,
+        })
+    }
+
+    /// Takes out all pairs. Those that come get `buckets` buckets, and room for as many pairs.
+    pub fn restart(&mut self, factor: u32, buckets: usize) -> Result<(), AllocError>
+        requires { 0 < buckets }
+        ensures { self.new ≡ [] }
+    {
+        self.factor = factor;
+        self.links.clear();
+        self.last.fill(0);
+        self.last.resize(buckets, 0)?;
+        self.links.reserve(buckets)
+    }
+
+    /// The number of a pair, which is put in if it is new.
+    #[inline(always)]
+    pub fn insert(&mut self, pair: (u32, u32)) -> Result<u32, AllocError>
+        requires { length self.old < 2 ^ 20 }
+        ensures number { IfOk result (λ k. k ≡ position_or_len (same_pair pair) self.old) }
+        ensures pairs { OnOk result
+            (self.new ≡
+            (if list_any (same_pair pair) self.old then self.old else self.old ++ pair ∷ [])) }
+        ensures err { OnErr result (self.new ≡ self.old) }
+    {
+        let home = bucket(self.factor, self.last.len(), pair);
+        if let Some(number) = find(self.factor, &self.links, &self.last, home, pair) {
+            return Ok(number);
+        }
+        let before = self.last[home];
+        let number = self.links.len() as u32;
+        self.links.push(Link { pair, before })?;
+        self.last[home] = number + 1;
+        Ok(number)
+    }
+
+    /// How many pairs there are.
+    pub fn len(&self) -> usize
+        ensures { result ≡ length self.now }
+    {
+        self.links.len()
+    }
+
+    /// The pair with a number.
+    #[inline(always)]
+    pub fn pair(&self, number: usize) -> (u32, u32)
+        requires { number < length self.now }
+        ensures { result ≡ get_or self.now number (0, 0) }
+    {
+        self.links[number].pair
+    }
+}

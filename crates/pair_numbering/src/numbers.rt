@@ -1,0 +1,77 @@
+//! Numbers of pairs by first occurrence, and their masks, in the fastest of several ways.
+
+ghost use Rattle.std.specs.Prelude.{◌≡◌, ℕ, ◌*◌, ◌^◌, ◌<◌, ◌≤◌, length, IfOk};
+ghost use Rattle.subfunction_classes.specs.PairTables.{IsPairTable};
+ghost use Rattle.pair_numbering.specs.Numbers.{ArePairsNumbered};
+ghost use Rattle.pair_numbering.specs.MaskedNumbers.{NumbersMasked};
+
+use crate::cells::number_pairs_by_cells;
+use crate::chains::{find_first_pairs, number_firsts};
+use crate::entries::EntryPairs;
+use crate::masks::{MaskedPairs, join_masks};
+use crate::slots::number_pairs_by_slots;
+use definitions::Mask;
+use std::alloc::{AllocError, Global};
+
+/// Pairs are numbered by cells if there are no more cells than this for each pair.
+const MOST_CELLS_PER_PAIR: usize = 16;
+
+/// The number of each pair, and the mask of each number.
+#[derive(Drop)]
+pub struct MaskedNumbers {
+    pub numbers: Vec<u32>,
+    pub masks: Vec<Mask>,
+}
+
+/// The number of each pair, and the pair of each number.
+#[derive(Drop)]
+pub struct NumberedPairs {
+    pub numbers: Vec<u32>,
+    pub pairs: Vec<(u32, u32)>,
+}
+
+/// The numbers of the pairs of entries: by slots, or by chains if slots are crowded. All classes
+/// are below `classes`.
+pub fn number_entries(
+    alloc: Global,
+    entries: &EntryPairs<'_>,
+    classes: usize,
+) -> Result<NumberedPairs, AllocError>
+    requires table { IsPairTable entries.now.numbers entries.now.rank classes }
+    requires few { classes ≤ 2 ^ 20 }
+    ensures { IfOk result
+        (λ v. ArePairsNumbered entries.now.numbers entries.now.rank v.numbers.items
+        v.pairs.items) }
+{
+    if let Some(numbered) = number_pairs_by_slots(alloc, entries, classes)? {
+        return Ok(numbered);
+    }
+    let first = find_first_pairs(alloc, entries, classes)?;
+    number_firsts(alloc, entries, &first)
+}
+
+/// The numbers of the pairs, and the masks of the numbers, from those of the classes: by a cell for
+/// each pair of classes if these are few, else by slots or chains.
+pub fn number_with_masks(
+    alloc: Global,
+    pairs: &MaskedPairs<'_>,
+) -> Result<MaskedNumbers, AllocError>
+    ensures { IfOk result (λ v. NumbersMasked pairs.now v.numbers.items v.masks.items) }
+{
+    prove!(pairs.rank() < 16);
+    let classes = pairs.masks.len();
+    let half = pairs.entries.len();
+    let cells = classes * classes;
+    if cells <= MOST_CELLS_PER_PAIR * half {
+        let mut cells = vec![in alloc; 0u16; cells]?;
+        if let Some(numbered) = number_pairs_by_cells(alloc, pairs, &mut cells)? {
+            return Ok(numbered);
+        }
+    }
+    let numbered = number_entries(alloc, &pairs.entries, classes)?;
+    let joined = join_masks(alloc, &numbered.pairs, pairs.x, pairs.masks)?;
+    Ok(MaskedNumbers {
+        numbers: numbered.numbers,
+        masks: joined,
+    })
+}

@@ -1,7 +1,0 @@
-use Rattle.std.proofs.Common.{arith}
-use Rattle.truth_table.proofs.LeafClasses.{upper_inside}
-use Rattle.truth_table.proofs.merging.push_upper.Goals as goal
-
-pub index-requires : goal.index-requires
-index-requires c =
-    omega (arith, upper_inside c.args.points.now.items c.loop-i.points.items c.args.x c.loop-i.i (omega arith) c.loop-i.invariant)
