@@ -1,5 +1,5 @@
-//! Fewer edges, of which one fails if one of all does. Where variables may be exchanged without a
-//! change of any function, value or judged edge, a set and its image have edges of equal widths,
+//! Some of the edges, of which one fails if any edge does. Where variables may be exchanged without
+//! a change of any function, value or judged edge, a set and its image have edges of equal widths,
 //! and one of both need be judged.
 
 ghost use Rattle.std.specs.Prelude.{◌≡◌, ◌<◌, ◌^◌, ℕ, IfOk, IfSome, IsTrue, length, slice_index};
@@ -60,7 +60,7 @@ fn leave_out_by(edges: Edges, exchange: &Exchange, fewer: &mut Vec<u16>) -> bool
     true
 }
 
-/// Fewer edges, if variables may be exchanged: those into sets that lead on are left out.
+/// Fewer edges, if variables may be exchanged: those into sets with a greater image are left out.
 pub(crate) fn fewer_edges(alloc: Global, edges: Edges) -> Result<Option<Vec<u16>>, AllocError>
     ensures { IfOk result (λ o. IfSome o (λ v. AreEnough edges.entry v.items)) }
 {

@@ -74,7 +74,7 @@ impl<'a> WidthsAhead<'a> {
         self.bytes.is_empty()
     }
 
-    /// With what others found. If memory is refused it stays.
+    /// Appends what others found. If memory is refused this stays.
     pub fn append(&mut self, others: WidthsAhead<'_>) -> Result<(), AllocError>
         requires { others.problem ≡ self.old.problem }
         ensures ok { OnOk result (self.new ≡ with_others self.old others.entry) }
@@ -84,7 +84,7 @@ impl<'a> WidthsAhead<'a> {
         self.bytes.append(&mut others.bytes)
     }
 
-    /// With the rows of one more low byte. The tally rises by their widths.
+    /// Adds the rows of one low byte, and to the tally the number of their widths.
     pub(crate) fn keep(&mut self, byte: ByteRows, tally: &mut Tally) -> Result<(), AllocError>
         requires few { length byte.needed ≤ 2 ^ 8 }
         requires right { HoldsRows self.old.problem byte }
@@ -154,7 +154,7 @@ impl Places {
 }
 
 /// Where the widths of a layer's blocks come from: the tables that walks share, what was found
-/// ahead, and the pairs that sets have to be in orders with for their rows to be found ahead.
+/// ahead, and the pairs by which sets have to be lawful for their rows to be found ahead.
 #[derive(Drop)]
 pub struct WidthSource<'a> {
     shared: &'a SharedTables<'a>,

@@ -108,8 +108,8 @@ impl<'a> SharedTables<'a> {
         Ok(Part { found, tally })
     }
 
-    /// The rows of what is wanted, by the calling thread: of all sets up to a size, or those of
-    /// them that serve for the others.
+    /// The rows of what is wanted, by the calling thread. `end` is noted as the size of the largest
+    /// sets of which rows are to be found.
     pub fn rows_alone(
         &self,
         alloc: Global,
@@ -167,7 +167,7 @@ fn collect<'a>(
 }
 
 impl<'a> SharedTables<'a> {
-    /// The rows of `rows_alone`, by the workers, and how many widths they hold.
+    /// The rows of `rows_alone`, by the workers, and how many widths they hold; none if `end` is 0.
     pub fn rows_by_workers<R: Threads + Sync>(
         &self,
         rt: &R,
@@ -214,7 +214,7 @@ impl<'a> Model for Preparation<'a> {
 }
 
 impl<'a> Preparation<'a> {
-    /// Without rows, by the calling thread. The sets are those in orders with the pairs.
+    /// Without rows, by the calling thread. The sets are those that are lawful by the pairs.
     pub fn of(
         alloc: Global,
         problem: &'a Problem,
@@ -229,8 +229,8 @@ impl<'a> Preparation<'a> {
         })
     }
 
-    /// With the rows of the sets up to a size that are in orders with the pairs, of each orbit the
-    /// first, by the workers. With size 0 there are none.
+    /// With the rows of the lawful sets up to a size, of each orbit the first, by the workers. With
+    /// size 0 there are none.
     pub fn by_workers<R: Threads + Sync>(
         rt: &R,
         alloc: Global,

@@ -22,8 +22,8 @@ pub(crate) struct WidthRequest {
     ghost request: { IsRequest inputs low needed.items },
 }
 
-/// Sets of which rows are to be found: those of sizes from the first to the last one that are in
-/// orders with the pairs, and of each orbit the first alone. Any will do.
+/// Sets of which rows are to be found: the lawful ones of sizes from the first to the last one, and
+/// of each orbit the first alone. Which sets these are decides time alone.
 #[derive(Clone, Copy)]
 pub struct Wanted<'a, 'b> {
     pub pairs: &'a Pairs,
@@ -109,7 +109,7 @@ impl WidthRequest {
         }
     }
 
-    /// Whatever of some variables are members of a set is wanted, too, if the set has the low byte.
+    /// Adds those of some variables that are members of a set; nothing if its low byte is another.
     pub(crate) fn add_members(&mut self, set: Mask, variables: Mask) {
         if u32::from(set) < 1u32 << self.inputs && set % 256 == Mask::from(self.low) {
             self.add(set, variables & set);

@@ -13,7 +13,7 @@ pub struct Requests {
     bytes: Vec<WidthRequest>,
 }
 
-/// Where members of a set go.
+/// The variables to which members of a set go.
 fn members_of_image(image: &Image, members: Mask) -> Mask {
     let mut found: Mask = 0;
     for x in 0..16u8 {
@@ -43,7 +43,8 @@ impl Requests {
         Ok(Requests { bytes })
     }
 
-    /// With the widths of an image that are those of some members of a set.
+    /// Adds what is wanted of an image: the variables to which some members of a set go. Nothing if
+    /// there is no request of its low byte.
     pub fn add_image(&mut self, image: &Image, members: Mask) {
         if let Some(request) = self.bytes.get_mut(usize::from(image.set % 256)) {
             request.add_members(image.set, members_of_image(image, members));

@@ -274,7 +274,7 @@ impl<'a> SharedTables<'a> {
         }
     }
 
-    /// These tables with the orbits of the sets that are in orders with some pairs.
+    /// These tables with the orbits of the sets that are lawful by some pairs.
     pub(crate) fn with_orbits(
         self,
         alloc: Global,

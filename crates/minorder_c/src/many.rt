@@ -44,7 +44,7 @@ fn is_shape(given: &GivenTables, places: usize, counts: usize, many: usize) -> b
         && is_length(counts, many, given.inputs as usize)
 }
 
-/// Puts one problem's answers behind the others.
+/// Appends the answers of one problem.
 fn put(
     alloc: Global,
     given: &GivenTables,

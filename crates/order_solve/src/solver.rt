@@ -17,8 +17,8 @@ use solutions::{AllCells, Instance, Solution, optimum_of, pairs_to_keep, solutio
 use std::alloc::{AllocError, Global};
 use std::thread::Threads;
 
-/// What the search is for that a sifted order bounds: its size is the bound, and pairs are kept to
-/// which each order that keeps its pairs can be sorted.
+/// The instance of a search: the size of a sifted order is the bound. Each order that keeps the
+/// sifted one's pairs can be sorted into one that keeps these.
 fn instance_of<'a>(
     problem: &'a Problem,
     sifted: &'a Sifted,
@@ -45,11 +45,11 @@ fn instance_of<'a>(
 }
 
 /// The first order of the fewest nodes among those that keep the pairs of a sifted order of the
-/// same functions. The size of that order bounds the search, which counts on the nodes above a set
-/// that the set's widths ask for, and begins with what was prepared. The gate is called by the
-/// workers for each set but the empty one.
+/// same functions. The size of that order bounds the search, which uses the lower bound by widths
+/// and begins with what was prepared. The gate is called by the workers for each set but the empty
+/// one.
 ///
-/// Memory alone is refused: if any worker met it, no layer is done over.
+/// The only error is that memory is wanting; no layer is then done over.
 pub fn find_optimum<R: Threads + Sync, G: Gate>(
     rt: &R,
     alloc: Global,

@@ -102,7 +102,7 @@ fn sift_and_prepare<'a, R: Threads + Sync>(
         let sifting = sift(rt, alloc, manager, workers)?;
         return Ok((sifting, prepared));
     }
-    // what owns the manager borrows no instance: of a closure that does both, `join` tells nothing
+    // `join` tells nothing of a closure that owns one value and borrows another
     let sifting = move || -> Result<Sifting, AllocError>
         requires { IsSync R.row }
         ensures { IfOk result (IsSiftingOf manager) }

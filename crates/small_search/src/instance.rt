@@ -11,12 +11,12 @@ use order_model::{Mask, Pairs, Problem};
 use std::alloc::{AllocError, Global};
 use std::marker::Model;
 
-/// More than 16 widths of 2^20 at most, and the nodes above a set.
+/// Exceeds any cost: 16 widths of at most 2^20, and 16 nodes above.
 pub(crate) const NO_BOUND: u32 = 1 << 25;
 
 /// What a search is for: the truth tables of some functions, packed in words of 64 points, one
 /// after the other, and the pairs that an order must keep. What stands behind a table's last point
-/// doesn't count. No cost reaches the bound.
+/// doesn't count. No cost of a lawful set reaches the bound.
 #[derive(Drop)]
 pub struct Search<'a> {
     inputs: u8,

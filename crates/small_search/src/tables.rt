@@ -143,8 +143,8 @@ impl PathTables {
         Ok(())
     }
 
-    /// From the tables on the way to the set before it in the order of masks, makes those to `set`:
-    /// the set without its lowest variable stands on that way.
+    /// Turns the tables on the way to the set before `set`, by their masks, into those on the way
+    /// to `set`: makes one table, from that of the set without its lowest variable.
     #[inline(always)]
     pub(crate) fn add_lowest(&mut self, search: &Search<'_>, set: Mask) -> Result<(), AllocError>
         requires some { 0 < set }

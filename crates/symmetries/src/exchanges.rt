@@ -69,17 +69,18 @@ impl Exchange {
     }
 }
 
-/// The smallest variable to which exchanges, or pairs that orders keep, relate each variable.
+/// A representative of each variable's group: the variables that exchanges, or pairs that orders
+/// keep, relate.
 #[derive(Clone, Copy)]
 struct Groups {
-    smallest: [VarIx; 16],
+    representative: [VarIx; 16],
 }
 
 impl Groups {
     /// The groups of variables that pairs relate.
     fn of(pairs: &Pairs) -> Groups {
         let mut groups = Groups {
-            smallest: [0, 1, 2, 3, 4, 5, 6, 7, 8, 9, 10, 11, 12, 13, 14, 15],
+            representative: [0, 1, 2, 3, 4, 5, 6, 7, 8, 9, 10, 11, 12, 13, 14, 15],
         };
         for a in 0..pairs.inputs() {
             let below = pairs.below(a);
@@ -97,11 +98,11 @@ impl Groups {
         requires first { x < 16 }
         requires second { y < 16 }
     {
-        let one = self.smallest[x as usize];
-        let other = self.smallest[y as usize];
-        for smallest in &mut self.smallest {
-            if *smallest == other {
-                *smallest = one;
+        let one = self.representative[x as usize];
+        let other = self.representative[y as usize];
+        for representative in &mut self.representative {
+            if *representative == other {
+                *representative = one;
             }
         }
     }
@@ -121,7 +122,7 @@ impl Groups {
         requires first { x < 16 }
         requires second { y < 16 }
     {
-        self.smallest[x as usize] != self.smallest[y as usize]
+        self.representative[x as usize] != self.representative[y as usize]
     }
 
     /// Whether some two variables of equal marks are in two groups.
@@ -170,7 +171,9 @@ impl<'a> Search<'a> {
         })
     }
 
-    /// An exchange of two variables that none so far relates, if one is found.
+    /// An exchange of two variables of different groups, if one is found: the groups of all
+    /// partners are then joined. An exchange that changes a function is a failure; after
+    /// `MOST_FAILURES` nothing more is tried.
     fn exchange_of(
         &mut self,
         alloc: Global,
@@ -204,8 +207,8 @@ impl<'a> Search<'a> {
 /// exchanged one that leads from one to the other, alone or by several. Variables that the pairs
 /// relate are taken to be exchanged already. Some may be missed.
 ///
-/// With n inputs it takes some steps for each point and output, if variables are alike, and else
-/// those that count the ones of the functions.
+/// At most n - 1 exchanges of n variables are found, and at most 8 that fail are tried, each in a
+/// step a point. If no two variables have equal marks, only the ones of the functions are counted.
 pub fn exchanges_of(
     alloc: Global,
     problem: &Problem,

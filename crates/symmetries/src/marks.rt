@@ -30,7 +30,8 @@ fn ones_with(words: &[u64], x: VarIx) -> u32
     count
 }
 
-/// Of each variable a mark that takes little time: how often the functions are 1 with it.
+/// Of each variable a mark that takes little time: a hash of the numbers of points at which each
+/// function and the variable are 1.
 pub(crate) fn quick_marks(problem: &Problem) -> [u32; 16] {
     let mut marks = [0u32; 16];
     for output in 0..problem.outputs() {
@@ -85,7 +86,8 @@ fn copy_upper(sums: &[u32], half: usize, upper: &mut [u32])
     }
 }
 
-/// The marks of a variable with those below it, from sums over the points at which it is 1.
+/// The marks of a variable with those below it, from sums over the points at which it is 1. The
+/// sums are folded away.
 fn marks_below(sums: &mut [u32], x: VarIx) -> [u32; 16]
     requires variable { x < 16 }
     requires sums { 2 ^ x ≤ length sums.old }

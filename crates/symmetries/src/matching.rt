@@ -1,5 +1,5 @@
-//! Which variables to exchange, by their marks. Any answer is right: an exchange is asked whether
-//! it changes anything.
+//! Which variables to exchange, by their marks. Any answer is right: each exchange is tested on all
+//! points.
 
 ghost use Rattle.std.specs.Prelude.{◌≡◌, ◌<◌, ◌≤◌, ℕ, IfSome, length, slice_index};
 
@@ -38,7 +38,8 @@ impl Matching {
         self.placed |= 1 << x | 1 << y;
     }
 
-    /// Whether marks stay as they are if two variables are partners besides those that are.
+    /// Whether two variables have equal marks, also with each variable that has a partner and that
+    /// partner.
     fn keep_marks(&self, marks: &Marks, x: VarIx, y: VarIx) -> bool
         requires first { x < 16 }
         requires second { y < 16 }

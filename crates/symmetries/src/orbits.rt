@@ -9,10 +9,10 @@ use order_model::{Mask, Pairs, Problem, VarIx};
 use std::alloc::{AllocError, Global};
 use std::marker::Model;
 
-/// The most exchanges that lead from a set to another.
+/// No more steps are followed from a set; a longer way costs only time.
 const MOST_STEPS: u8 = 32;
 
-/// The most exchanges that are used: each that is sought makes two groups of variables one.
+/// The most exchanges that are used; each that is found makes two groups of variables one.
 const MOST_EXCHANGES: usize = 16;
 
 /// Where exchanges take a set, and where they take each variable.
@@ -33,7 +33,7 @@ fn own_variables() -> [VarIx; 16]
     variables
 }
 
-/// The partner of a variable; 0 if it has none.
+/// The partner of a variable; 0 past the last one.
 fn partner_of(partners: &[VarIx], x: VarIx) -> VarIx
     ensures { x < length partners.now → result ≡ slice_index partners.now x }
 {
@@ -114,7 +114,7 @@ impl Steps {
         }
     }
 
-    /// Reaches the sets to which an exchange takes some set, if they are in orders with the pairs.
+    /// Reaches the sets to which an exchange takes some set, if they are lawful.
     fn step_from(
         &mut self,
         set: Mask,
@@ -173,7 +173,7 @@ impl Steps {
         Ok(())
     }
 
-    /// The steps to all sets that are in orders with the pairs, each from the first of its orbit:
+    /// The steps to all sets that are lawful, each from the first of its orbit:
     /// that with the fewest high variables, of these the one with the smallest mask.
     fn of(
         alloc: Global,
@@ -218,7 +218,7 @@ impl<'a> Model for Orbits<'a> {
 }
 
 impl<'a> Orbits<'a> {
-    /// The orbits of the sets that are in orders with some pairs; nothing if no variables are found
+    /// The orbits of the sets that are lawful by some pairs; nothing if no variables are found
     /// that may be exchanged.
     pub fn of(
         alloc: Global,
@@ -249,7 +249,7 @@ impl<'a> Orbits<'a> {
         }
     }
 
-    /// Whether a set is the first of its orbit, or in none.
+    /// Whether a set is the first of its orbit, or not lawful.
     pub fn is_first(&self, set: Mask) -> bool {
         self.step(set).is_none()
     }
