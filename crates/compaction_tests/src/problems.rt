@@ -22,7 +22,7 @@ pub(crate) static PROBLEMS: [Tables; 7] = [
 ];
 
 /// Sets a value. The problem is to have the output and the point.
-fn set_one(rt: &impl Abort, problem: &mut Problem, output: usize, point: u32) {
+pub(crate) fn set_one(rt: &impl Abort, problem: &mut Problem, output: usize, point: u32) {
     assert!(rt; output < problem.outputs() as usize && point < 1 << problem.inputs());
     problem.set(output as u8, point);
 }
