@@ -4,7 +4,7 @@
 
 mod above;
 mod arguments;
-mod certificates;
+mod certification;
 mod diagrams;
 mod exact;
 mod levels;

@@ -1,5 +1,5 @@
 use Rattle.std.proofs.Common.{rules}
-use Rattle.minorder_c.proofs.certificates.minorder_certify_with_pairs.Goals as goal
+use Rattle.minorder_c.proofs.certification.minorder_certify_with_pairs.Goals as goal
 
 pub returns-then-text-bytes-clause-short : goal.returns-then-text-bytes-clause-short
 returns-then-text-bytes-clause-short c = search rules

@@ -3,7 +3,7 @@ use Rattle.definitions.specs.Diagrams.{IsFirstKeeping}
 use Rattle.definitions.specs.KeptPairs.{KeptPairs}
 use Rattle.definitions.specs.Problems.{TruthTables, functions}
 use Rattle.minorder_c.proofs.Certificates.{solution_text}
-use Rattle.minorder_c.proofs.certificates.text_of.Goals as goal
+use Rattle.minorder_c.proofs.certification.text_of.Goals as goal
 
 pub returns : goal.returns
 returns c =
