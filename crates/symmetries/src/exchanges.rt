@@ -204,8 +204,9 @@ impl<'a> Search<'a> {
 }
 
 /// Exchanges of variables under which no function changes, for any two variables that may be
-/// exchanged one that leads from one to the other, alone or by several. Variables that the pairs
-/// relate are taken to be exchanged already. Some may be missed.
+/// exchanged one that leads from one to the other, alone or by several. Each variable is tried with
+/// near smaller ones first: sets without a greater image are then few. Variables that the pairs
+/// relate are taken to be exchanged already. Some exchanges may be missed.
 ///
 /// At most n - 1 exchanges of n variables are found, and at most 8 that fail are tried, each in a
 /// step a point. If no two variables have equal marks, only the ones of the functions are counted.
@@ -224,8 +225,8 @@ pub fn exchanges_of(
     }
     let mut search = Search::new(alloc, problem, groups)?;
     for x in 0..inputs {
-        for y in x + 1..inputs {
-            if let Some(exchange) = search.exchange_of(alloc, x, y)? {
+        for between in 0..x {
+            if let Some(exchange) = search.exchange_of(alloc, x - 1 - between, x)? {
                 found.push(exchange)?;
             }
         }
