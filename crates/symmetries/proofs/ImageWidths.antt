@@ -1,9 +1,9 @@
 -- The widths over the image of a set.
 --     member_bit, partner_member      the members of a set by its bits; those of its image are their partners
---     image_width      the width of a variable's partner over the image of a set is that of the variable over the set
+--     image_width, renamed_width      the width of a variable's partner over the image of a set is that of the variable over the set
 --     own_widths      a set keeps its own widths
---     kept_after      widths that are kept are kept by one exchange more
-use Rattle.std.proofs.Common.{◌≡◌, ℕ, ◌^◌, ◌<◌, ◌≤◌, not, ◌&&◌, List, length, slice_index, eqb, sym, ap, ◌∙◌, subst, arith}
+--     kept_after, renamed_after      widths that are kept are kept by one exchange more
+use Rattle.std.proofs.Common.{◌≡◌, ℕ, ◌^◌, ◌<◌, ◌≤◌, not, ◌&&◌, List, length, slice_index, eqb, refl, sym, ap, ◌∙◌, subst, arith}
 use Rattle.std.specs.Int.{bit_at}
 use Rattle.std.specs.Prelude.{nat_eq}
 use Rattle.definitions.specs.Orders.{has, members, without}
@@ -15,9 +15,11 @@ use Rattle.definitions.proofs.Bits.Masks.{has_members}
 use Rattle.definitions.proofs.Widths.Recurrence.{has_without}
 use Rattle.symmetries.specs.Exchanges.{IsExchange}
 use Rattle.symmetries.specs.Images.{IsImage}
-use Rattle.symmetries.specs.Orbits.{ExchangeOf, IsExchangeOf, KeepsWidths, width_into}
+use Rattle.symmetries.specs.Orbits.{ExchangeOf, IsAfter, IsExchangeOf, KeepsWidths, TakesWidths, width_into}
+use Rattle.symmetries.specs.Renamings.{IsRenamed, RenamedOf}
 use Rattle.symmetries.proofs.Partners.{same_partner}
-use Rattle.symmetries.proofs.SymmetricWidths.{width_exchanged}
+use Rattle.symmetries.proofs.PointValues.{renamed_back, renamed_moved}
+use Rattle.symmetries.proofs.SymmetricWidths.{AreMoved, symmetric_moved, width_moved}
 
 -- a variable of n is a member of a set just if its bit is in the mask
 pub member_bit : (n S y : ℕ) → y < n → has (members n S) y ≡ eqb (bit_at S y) 1
@@ -37,49 +39,60 @@ without_partner n partners exchange S T x y image m l =
     ∙ ap (λ b. has (members n S) y && not b) (same_partner n partners exchange x y m l)
     ∙ sym (has_without x (members n S) y)
 
--- the width of a variable's partner over the image of a set is that of the variable over the set
-pub image_width : (p : TruthTables) (e : ExchangeOf) → IsExchangeOf p e → (S x : ℕ) → S < 2 ^ p.inputs → x < p.inputs →
-    width_into p (slice_index e.images S) (slice_index e.partners x) ≡ width_into p S x
-unfolding width_into
-image_width p e is S x small inside = both
+-- if functions are each other's at exchanged points, the width of a variable's partner over the image of a set is that of the variable over the set
+moved_width : (n : ℕ) (F G : List Function) (partners : List ℕ) → IsExchange n partners → AreMoved n partners F G → AreMoved n partners G F →
+    (S T x : ℕ) → IsImage n partners S T → x < n →
+    width n G (without (slice_index partners x) (members n T)) (slice_index partners x) ≡ width n F (without x (members n S)) x
+moved_width n F G partners exchange to_g to_f S T x image inside = omega (arith, to, from)
   where
-    n : ℕ
-    n = p.inputs
-
-    F : List Function
-    F = functions p
-
     here : List ℕ
     here = without x (members n S)
 
     there : List ℕ
-    there = without (slice_index e.partners x) (members n (slice_index e.images S))
+    there = without (slice_index partners x) (members n T)
 
-    image : IsImage n e.partners S (slice_index e.images S)
-    image = is.images_are.each S small
+    same : (y : ℕ) → y < n → has there (slice_index partners y) ≡ has here y
+    same y l = without_partner n partners exchange S T x y image inside l
 
-    same : (y : ℕ) → y < n → has there (slice_index e.partners y) ≡ has here y
-    same y l = without_partner n e.partners is.is_exchange S (slice_index e.images S) x y image inside l
+    again : (y : ℕ) → y < n → has here (slice_index partners y) ≡ has there y
+    again y l = sym (same (slice_index partners y) (exchange.inside y l)) ∙ ap (has there) (exchange.back y l)
 
-    again : (y : ℕ) → y < n → has here (slice_index e.partners y) ≡ has there y
-    again y l =
-        sym (same (slice_index e.partners y) (is.is_exchange.inside y l)) ∙ ap (has there) (is.is_exchange.back y l)
+    to : width n G there (slice_index partners x) ≤ width n F here x
+    to = width_moved n F G partners exchange to_g here there x inside same
 
-    to : width n F there (slice_index e.partners x) ≤ width n F here x
-    to = width_exchanged n F e.partners is.is_exchange is.symmetric here there x inside same
-
-    from : width n F here x ≤ width n F there (slice_index e.partners x)
+    from : width n F here x ≤ width n G there (slice_index partners x)
     from =
-        subst (λ y. width n F here y ≤ width n F there (slice_index e.partners x)) (is.is_exchange.back x inside)
-        (width_exchanged n F e.partners is.is_exchange is.symmetric there here (slice_index e.partners x) (is.is_exchange.inside x inside) again)
+        subst (λ y. width n F here y ≤ width n G there (slice_index partners x)) (exchange.back x inside)
+        (width_moved n G F partners exchange to_f there here (slice_index partners x) (exchange.inside x inside) again)
 
-    both : width n F there (slice_index e.partners x) ≡ width n F here x
-    both = omega (arith, to, from)
+-- under an exchange that changes no function the width of a variable's partner over the image of a set is that of the variable over the set
+pub image_width : (p : TruthTables) (e : ExchangeOf) → IsExchangeOf p e → (S x : ℕ) → S < 2 ^ p.inputs → x < p.inputs →
+    width_into p (slice_index e.images S) (slice_index e.partners x) ≡ width_into p S x
+unfolding width_into
+image_width p e is S x small =
+    let moved = symmetric_moved p.inputs (functions p) e.partners is.symmetric in
+    moved_width p.inputs (functions p) (functions p) e.partners is.is_exchange moved moved S (slice_index e.images S) x (is.images_are.each S small)
+
+-- so it is with the functions that have exchanged variables
+pub renamed_width : (p : TruthTables) (r : RenamedOf) → IsRenamed p r → (S x : ℕ) → S < 2 ^ p.inputs → x < p.inputs →
+    width_into r.problem (slice_index r.exchange.images S) (slice_index r.exchange.partners x) ≡ width_into p S x
+unfolding width_into
+renamed_width p r is S x small inside =
+    ap (λ n. width n (functions r.problem) (without y (members n T)) y) is.inputs
+    ∙ moved_width p.inputs (functions p) (functions r.problem) r.exchange.partners is.is_exchange (renamed_moved p r is) (renamed_back p r is) S T x
+    (is.images_are.each S small) inside
+  where
+    y : ℕ
+    y = slice_index r.exchange.partners x
+
+    T : ℕ
+    T = slice_index r.exchange.images S
 
 -- a set keeps its own widths
 pub own_widths : (p : TruthTables) (S : ℕ) (variables : List ℕ) → p.inputs ≤ 16 → S < 2 ^ p.inputs → ((x : ℕ) → x < 16 → slice_index variables x ≡ x) →
     KeepsWidths p S S variables
 own_widths p S variables few small own = record {
+  inputs = refl;
   small = small;
   inside = λ x l. subst (λ y. y < p.inputs) (sym (own x (omega arith))) l;
   bits = λ x l. ap (bit_at S) (own x (omega arith));
@@ -87,23 +100,43 @@ own_widths p S variables few small own = record {
 }
 
 -- widths that are kept are kept by one exchange more
-pub kept_after : (p : TruthTables) (e : ExchangeOf) (S T : ℕ) (variables moved : List ℕ) → p.inputs ≤ 16 → IsExchangeOf p e → KeepsWidths p S T variables →
-    ((x : ℕ) → x < 16 → slice_index variables x < length e.partners → slice_index moved x ≡ slice_index e.partners (slice_index variables x)) →
-    KeepsWidths p S (slice_index e.images T) moved
-kept_after p e S T variables moved few is kept each = record {
+pub kept_after : (p q : TruthTables) (e : ExchangeOf) (S T U : ℕ) (variables moved : List ℕ) → p.inputs ≤ 16 → IsExchangeOf q e →
+    TakesWidths p q S T variables → IsAfter e T variables U moved → TakesWidths p q S U moved
+kept_after p q e S T U variables moved few is kept after = subst (λ V. TakesWidths p q S V moved) (sym after.set) (record {
+  inputs = kept.inputs;
   small = image.small;
-  inside = λ x l. subst (λ y. y < p.inputs) (sym (goes x l)) (is.is_exchange.inside (slice_index variables x) (kept.inside x l));
+  inside = λ x l. subst (λ y. y < q.inputs) (sym (goes x l)) (is.is_exchange.inside (slice_index variables x) (kept.inside x l));
   bits = λ x l.
       ap (bit_at (slice_index e.images T)) (goes x l)
       ∙ image.bits (slice_index e.partners (slice_index variables x)) (is.is_exchange.inside _ (kept.inside x l))
       ∙ ap (bit_at T) (is.is_exchange.back (slice_index variables x) (kept.inside x l)) ∙ kept.bits x l;
   widths = λ x l.
-      ap (width_into p (slice_index e.images T)) (goes x l)
-      ∙ image_width p e is T (slice_index variables x) kept.small (kept.inside x l) ∙ kept.widths x l;
-}
+      ap (width_into q (slice_index e.images T)) (goes x l)
+      ∙ image_width q e is T (slice_index variables x) kept.small (kept.inside x l) ∙ kept.widths x l;
+})
   where
-    image : IsImage p.inputs e.partners T (slice_index e.images T)
+    image : IsImage q.inputs e.partners T (slice_index e.images T)
     image = is.images_are.each T kept.small
 
     goes : (x : ℕ) → x < p.inputs → slice_index moved x ≡ slice_index e.partners (slice_index variables x)
-    goes x l = each x (omega arith) (omega (arith, is.is_exchange.long, kept.inside x l))
+    goes x l = after.each x (omega arith) (omega (arith, is.is_exchange.long, kept.inside x l))
+
+-- an exchange takes a set's own widths to those of the functions with exchanged variables
+pub renamed_after : (p : TruthTables) (r : RenamedOf) (S U : ℕ) (variables moved : List ℕ) → p.inputs ≤ 16 → IsRenamed p r → S < 2 ^ p.inputs →
+    ((x : ℕ) → x < 16 → slice_index variables x ≡ x) → IsAfter r.exchange S variables U moved → TakesWidths p r.problem S U moved
+renamed_after p r S U variables moved few is small own after = subst (λ V. TakesWidths p r.problem S V moved) (sym after.set) (record {
+  inputs = is.inputs;
+  small = subst (λ n. slice_index r.exchange.images S < 2 ^ n) (sym is.inputs) image.small;
+  inside = λ x l. subst (λ y. y < r.problem.inputs) (sym (goes x l)) (omega (arith, is.is_exchange.inside x l, is.inputs));
+  bits = λ x l.
+      ap (bit_at (slice_index r.exchange.images S)) (goes x l)
+      ∙ image.bits (slice_index r.exchange.partners x) (is.is_exchange.inside x l) ∙ ap (bit_at S) (is.is_exchange.back x l);
+  widths = λ x l. ap (width_into r.problem (slice_index r.exchange.images S)) (goes x l) ∙ renamed_width p r is S x small l;
+})
+  where
+    image : IsImage p.inputs r.exchange.partners S (slice_index r.exchange.images S)
+    image = is.images_are.each S small
+
+    goes : (x : ℕ) → x < p.inputs → slice_index moved x ≡ slice_index r.exchange.partners x
+    goes x l =
+        after.each x (omega arith) (omega (arith, is.is_exchange.long, own x (omega arith))) ∙ ap (slice_index r.exchange.partners) (own x (omega arith))

@@ -5,4 +5,5 @@ pub mod SymmetricPoints
 pub mod SortedOrders
 pub mod ImageTables
 pub mod PointValues
+pub mod RenamedValues
 pub mod ImageWidths

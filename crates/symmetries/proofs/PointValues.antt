@@ -2,8 +2,9 @@
 --     TellTo t j values      points with equal numbers have equal values of the first j functions
 --     room      one bit more fits 16 bits
 --     tell_more      with one function more
+--     renamed_moved, renamed_back      functions with exchanged variables are the others at exchanged points, both ways
 --     symmetric_by_values, exchange_by_values      where points and their images have equal numbers, variables may be exchanged
-use Rattle.std.proofs.Common.{◌≡◌, ℕ, ◌+◌, ◌*◌, ◌^◌, ◌<◌, ◌≤◌, Bool, true, false, inl, inr, List, [], length, get_or, slice_index, sym, ap, ◌∙◌, subst, arith, pow_mono, pow_pos}
+use Rattle.std.proofs.Common.{◌≡◌, ℕ, zero, suc, ◌+◌, ◌*◌, ◌^◌, ◌<◌, ◌≤◌, Bool, true, false, inl, inr, List, [], ◌∷◌, length, map, get_or, slice_index, refl, sym, ap, ◌∙◌, subst, arith, pow_mono, pow_pos}
 use mir.Val.{bool_byte}
 use Rattle.std.proofs.lemmas.Bool.{cases_eq, cases_lt}
 use Rattle.std.proofs.lemmas.Grind.{pow_more}
@@ -12,11 +13,14 @@ use Rattle.std.proofs.lemmas.Nat.Bits.{same_from_bits_below}
 use Rattle.definitions.specs.Functions.{Point, weight, number, from_table, SameFunction}
 use Rattle.definitions.specs.Problems.{TruthTables, functions, packed_bit, table_at, table_in, value_at}
 use Rattle.definitions.proofs.Bits.PointNumbers.{number-small, bit-number}
+use Rattle.definitions.proofs.Lists.Sets.{Among, among_from_map, among_map}
 use Rattle.subfunction_classes.proofs.ValueRows.{bit_in}
 use Rattle.symmetries.specs.Exchanges.{AreSymmetric, IsExchange, exchanged}
 use Rattle.symmetries.specs.Images.{AreImages, TellValues}
 use Rattle.symmetries.specs.Orbits.{IsExchangeOf}
-use Rattle.symmetries.proofs.SymmetricWidths.{bit_exchanged, length_exchanged}
+use Rattle.symmetries.specs.Renamings.{IsRenamed, RenamedOf}
+use Rattle.std.specs.Int.{bit_at}
+use Rattle.symmetries.proofs.SymmetricWidths.{AreMoved, bit_exchanged, length_exchanged}
 
 -- points with equal numbers have equal values of the first j functions
 pub record TellTo (t : TruthTables) (j : ℕ) (values : List ℕ) : Type 0 where
@@ -67,6 +71,59 @@ number_exchanged n partners images e are p l =
     same_from_bits_below n (number (exchanged n partners p)) (slice_index images (number p)) other image.small (λ y less.
     bit-number (exchanged n partners p) y (omega arith) ∙ ap weight (bit_exchanged n partners p y less)
     ∙ sym (image.bits y less ∙ bit-number p (slice_index partners y) (omega arith)))
+
+-- an exchange is its own inverse on points and sets
+images_back : (n : ℕ) (partners images : List ℕ) → IsExchange n partners → AreImages n partners images → (k : ℕ) → k < 2 ^ n →
+    slice_index images (slice_index images k) ≡ k
+images_back n partners images e are k l =
+    let here = are.each k l in
+    let there = are.each (slice_index images k) here.small in
+    same_from_bits_below n (slice_index images (slice_index images k)) k there.small l
+    (λ y less. there.bits y less ∙ here.bits (slice_index partners y) (e.inside y less) ∙ ap (bit_at k) (e.back y less))
+
+-- an element stands at some place
+place_of : {X : Type 0} (d x : X) (xs : List X) → Among x xs → (j : ℕ) × (j < length xs) × (get_or xs j d ≡ x)
+place_of d x [] h = absurd h
+place_of d x (y ∷ ys) h = elim h [
+  | inl e ↦ (0, omega arith, sym e)
+  | inr r ↦ (let place = place_of d x ys r in (suc place.0, omega (arith, place.1), place.2))
+]
+
+-- what stands at a place is an element
+among_place : {X : Type 0} (d : X) (xs : List X) (j : ℕ) → j < length xs → Among (get_or xs j d) xs
+among_place d [] j l = absurd (omega arith)
+among_place d (x ∷ xs) zero l = inl refl
+among_place d (x ∷ xs) (suc j) l = inr (among_place d xs j (omega arith))
+
+-- where tables have the values of others at images, their functions are those at exchanged points
+moved_by_values : (n : ℕ) (partners images : List ℕ) (ts us : List (List Bool)) → IsExchange n partners → AreImages n partners images → length us ≡ length ts →
+    ((j k : ℕ) → j < length ts → k < 2 ^ n → get_or (get_or us j []) k false ≡ get_or (get_or ts j []) (slice_index images k) false) →
+    AreMoved n partners (map from_table ts) (map from_table us)
+unfolding SameFunction from_table
+moved_by_values n partners images ts us e are long values g m =
+    let own = among_from_map from_table g us m in
+    let place = place_of [] own.0 us own.1 in
+    let fewer : place.0 < length ts = omega (arith, place.1) in (
+      from_table (get_or ts place.0 []),
+      among_map from_table (get_or ts place.0 []) ts (among_place [] ts place.0 fewer),
+      λ p l.
+          ap (λ f. f p) own.2 ∙ ap (λ u. get_or u (number p) false) (sym place.2)
+          ∙ values place.0 (number p) fewer (subst (λ k. number p < 2 ^ k) l (number-small p))
+          ∙ ap (λ k. get_or (get_or ts place.0 []) k false) (sym (number_exchanged n partners images e are p l)),
+    )
+
+-- the functions with exchanged variables are the others at exchanged points
+pub renamed_moved : (p : TruthTables) (r : RenamedOf) → IsRenamed p r → AreMoved p.inputs r.exchange.partners (functions p) (functions r.problem)
+renamed_moved p r is = moved_by_values p.inputs r.exchange.partners r.exchange.images p.tables r.problem.tables is.is_exchange is.images_are is.outputs is.values
+
+-- and the others are these at exchanged points
+pub renamed_back : (p : TruthTables) (r : RenamedOf) → IsRenamed p r → AreMoved p.inputs r.exchange.partners (functions r.problem) (functions p)
+renamed_back p r is =
+    moved_by_values p.inputs r.exchange.partners r.exchange.images r.problem.tables p.tables is.is_exchange is.images_are (sym is.outputs)
+    (λ j k l m.
+    let image = is.images_are.each k m in
+    sym (is.values j (slice_index r.exchange.images k) (omega (arith, is.outputs)) image.small
+    ∙ ap (value_at p j) (images_back p.inputs r.exchange.partners r.exchange.images is.is_exchange is.images_are k m)))
 
 -- where points and their images have equal numbers, the functions are symmetric
 pub symmetric_by_values : (t : TruthTables) (partners images values : List ℕ) → IsExchange t.inputs partners → AreImages t.inputs partners images →

@@ -1,6 +1,8 @@
 -- Widths of symmetric functions: an exchange of variables that no function notices takes subfunctions to subfunctions.
 --     length_exchanged, bit_exchanged      a point with exchanged variables, by its bits
---     width_exchanged      the width of a variable's partner over the partners of a set is at most the width of the variable over the set
+--     AreMoved n partners F G      each function of G is one of F at exchanged points
+--     width_moved      the width of a variable's partner in G, over the partners of a set, is at most the width of the variable over the set in F
+--     symmetric_moved, width_exchanged      so it is with symmetric functions as both
 use Rattle.std.proofs.Common.{◌≡◌, ℕ, ◌<◌, ◌≤◌, Bool, true, false, cond, inl, inr, List, ◌∷◌, map, length, set, slice_index, sym, ap, ◌∙◌, arith, zero-add}
 use Rattle.std.specs.List.{filter}
 use Rattle.std.specs.Set.{unique_keys}
@@ -28,6 +30,10 @@ length_exchanged n partners p = length-map-range_with_len (λ y. bit p (slice_in
 -- each variable has its partner's value
 pub bit_exchanged : (n : ℕ) (partners : List ℕ) (p : Point) (y : ℕ) → y < n → bit (exchanged n partners p) y ≡ bit p (slice_index partners y)
 bit_exchanged n partners p y lt = get_or-map-range_with_len (λ z. bit p (slice_index partners z)) 0 n y y false lt (zero-add y)
+
+-- each function of G is one of F at exchanged points
+abbrev pub AreMoved : ℕ → List ℕ → List Function → List Function → Type 0
+AreMoved n partners F G = (g : Function) → Among g G → (f : Function) × Among f F × SameFunction n g (λ p. f (exchanged n partners p))
 
 -- the variables outside a set are variables
 below_outside : (n : ℕ) (T : List ℕ) → Below n (outside n T)
@@ -74,20 +80,20 @@ module _ (n : ℕ) (partners : List ℕ) (e : IsExchange n partners) where
   outside_exchanged S T image x inside y lt = grind (arith, has_outside, has_variables)
 
   -- a subfunction that fixes the partners of some variables is one that fixes those, at exchanged points
-  exchanged_reached : (F : List Function) → AreSymmetric n F partners → (xs ys : List ℕ) → Below n xs → Below n ys →
+  exchanged_reached : (F G : List Function) → AreMoved n partners F G → (xs ys : List ℕ) → Below n xs → Below n ys →
       ((y : ℕ) → y < n → has ys (slice_index partners y) ≡ has xs y) →
-      (g : Function) → Among g (reach F ys) → (k : Function) × Among k (reach F xs) × SameFunction n g (λ p. k (exchanged n partners p))
+      (g : Function) → Among g (reach G ys) → (k : Function) × Among k (reach F xs) × SameFunction n g (λ p. k (exchanged n partners p))
   unfolding reach SameFunction
-  exchanged_reached F symmetric xs ys b c h g r =
-      let from = among_from_flat_map (subfunctions ys) g F r in
-      let f = from.0 in
-      let fix = subfunctions_fix n ys c f g from.2 in
+  exchanged_reached F G are xs ys b c h g r =
+      let from = among_from_flat_map (subfunctions ys) g G r in
+      let own = are from.0 from.1 in
+      let f = own.0 in
+      let fix = subfunctions_fix n ys c from.0 g from.2 in
       let a = fix.0 in
-      let to = fixing_reached n xs b f (exchanged n partners a) in
-      let kept = all_among (λ u. SameFunction n u (λ p. u (exchanged n partners p))) F f (recursion_from_All _ F symmetric) from.1 in (
+      let to = fixing_reached n xs b f (exchanged n partners a) in (
         to.0,
-        among_flat_map (subfunctions xs) f F to.0 from.1 to.1,
-        λ p l. fix.2 p l ∙ kept (mix n ys a p) (length-mix n ys a p) ∙ ap f (mixed a p) ∙ sym (to.2 (exchanged n partners p) (length_exchanged n partners p)),
+        among_flat_map (subfunctions xs) f F to.0 own.1 to.1,
+        λ p l. fix.2 p l ∙ own.2 (mix n ys a p) (length-mix n ys a p) ∙ ap f (mixed a p) ∙ sym (to.2 (exchanged n partners p) (length_exchanged n partners p)),
       )
     where
       mixed : (a p : Point) → exchanged n partners (mix n ys a p) ≡ mix n xs (exchanged n partners a) (exchanged n partners p)
@@ -123,13 +129,23 @@ module _ (n : ℕ) (partners : List ℕ) (e : IsExchange n partners) where
           let once = among_unique same_table same_table_decides counted (table n k) (among_map (table n) k _ there) in
           grind (arith, table_exchanged, among_map)
 
--- the width of a variable's partner over the partners of a set is at most the width of the variable over the set
-pub width_exchanged : (n : ℕ) (F : List Function) (partners : List ℕ) → IsExchange n partners → AreSymmetric n F partners → (S T : List ℕ) (x : ℕ) → x < n →
-    ((y : ℕ) → y < n → has T (slice_index partners y) ≡ has S y) → width n F T (slice_index partners x) ≤ width n F S x
+-- the width of a variable's partner in G, over the partners of a set, is at most the width of the variable over the set in F
+pub width_moved : (n : ℕ) (F G : List Function) (partners : List ℕ) → IsExchange n partners → AreMoved n partners F G → (S T : List ℕ) (x : ℕ) → x < n →
+    ((y : ℕ) → y < n → has T (slice_index partners y) ≡ has S y) → width n G T (slice_index partners x) ≤ width n F S x
 unfolding width
-width_exchanged n F partners e symmetric S T x inside image =
+width_moved n F G partners e are S T x inside image =
     let xs = outside n (x ∷ S) in
     let ys = outside n (slice_index partners x ∷ T) in
-    dependents_exchanged n partners e (reach F xs) (reach F ys) x inside
-    (exchanged_reached n partners e F symmetric xs ys (below_outside n (x ∷ S)) (below_outside n (slice_index partners x ∷ T))
+    dependents_exchanged n partners e (reach F xs) (reach G ys) x inside
+    (exchanged_reached n partners e F G are xs ys (below_outside n (x ∷ S)) (below_outside n (slice_index partners x ∷ T))
     (outside_exchanged n partners e S T image x inside))
+
+-- symmetric functions are their own at exchanged points
+pub symmetric_moved : (n : ℕ) (F : List Function) (partners : List ℕ) → AreSymmetric n F partners → AreMoved n partners F F
+symmetric_moved n F partners symmetric g m =
+    (g, m, all_among (λ u. SameFunction n u (λ p. u (exchanged n partners p))) F g (recursion_from_All _ F symmetric) m)
+
+-- so it is with symmetric functions as both
+pub width_exchanged : (n : ℕ) (F : List Function) (partners : List ℕ) → IsExchange n partners → AreSymmetric n F partners → (S T : List ℕ) (x : ℕ) → x < n →
+    ((y : ℕ) → y < n → has T (slice_index partners y) ≡ has S y) → width n F T (slice_index partners x) ≤ width n F S x
+width_exchanged n F partners e symmetric = width_moved n F F partners e (symmetric_moved n F partners symmetric)

@@ -1,4 +1,5 @@
 pub mod Exchanges
 pub mod Images
 pub mod Orbits
+pub mod Renamings
 pub mod SymmetricPairs

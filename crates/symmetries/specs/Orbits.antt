@@ -2,8 +2,10 @@
 --     ExchangeOf      the partners of the variables, and the image of each set
 --     IsExchangeOf p e      an exchange under which no function changes, with its images
 --     width_into p S x      the width of a variable over a set without it
---     KeepsWidths p S T variables      variables go to variables so that those of S go to those of T, with their widths
-use Rattle.std.specs.Prelude.{◌≡◌, ℕ, ◌^◌, ◌<◌, List, slice_index}
+--     IsAfter e T variables U moved      where an exchange takes a set and variables
+--     TakesWidths p q S T variables      variables of p go to ones of q so that those of S go to those of T, with their widths
+--     KeepsWidths p S T variables      so it is within one problem
+use Rattle.std.specs.Prelude.{◌≡◌, ℕ, ◌^◌, ◌<◌, List, length, slice_index}
 use Rattle.std.specs.Int.{bit_at}
 use Rattle.definitions.specs.Orders.{members, without}
 use Rattle.definitions.specs.Problems.{TruthTables, functions}
@@ -26,9 +28,19 @@ pub record IsExchangeOf (p : TruthTables) (e : ExchangeOf) : Type 0 where
 unfoldable pub width_into : TruthTables → ℕ → ℕ → ℕ
 width_into p S x = width p.inputs (functions p) (without x (members p.inputs S)) x
 
--- each variable goes to one: the members of S to those of T, and widths stay
-pub record KeepsWidths (p : TruthTables) (S T : ℕ) (variables : List ℕ) : Type 0 where
-  pub small : T < 2 ^ p.inputs
-  pub inside : (x : ℕ) → x < p.inputs → slice_index variables x < p.inputs
+-- an exchange takes a set to its image, and variables to their partners
+pub record IsAfter (e : ExchangeOf) (T : ℕ) (variables : List ℕ) (U : ℕ) (moved : List ℕ) : Type 0 where
+  pub set : U ≡ slice_index e.images T
+  pub each : (x : ℕ) → x < 16 → slice_index variables x < length e.partners → slice_index moved x ≡ slice_index e.partners (slice_index variables x)
+
+-- each variable of p goes to one of q: the members of S to those of T, and widths stay
+pub record TakesWidths (p q : TruthTables) (S T : ℕ) (variables : List ℕ) : Type 0 where
+  pub inputs : q.inputs ≡ p.inputs
+  pub small : T < 2 ^ q.inputs
+  pub inside : (x : ℕ) → x < p.inputs → slice_index variables x < q.inputs
   pub bits : (x : ℕ) → x < p.inputs → bit_at T (slice_index variables x) ≡ bit_at S x
-  pub widths : (x : ℕ) → x < p.inputs → width_into p T (slice_index variables x) ≡ width_into p S x
+  pub widths : (x : ℕ) → x < p.inputs → width_into q T (slice_index variables x) ≡ width_into p S x
+
+-- so it is within one problem
+abbrev pub KeepsWidths : TruthTables → ℕ → ℕ → List ℕ → Type 0
+KeepsWidths p = TakesWidths p p

@@ -2,7 +2,7 @@
 
 ghost use Rattle.std.specs.Prelude.{◌≡◌, ◌<◌, ◌≤◌, ◌^◌, ℕ, All, IfOk, IfSome, OnOk, length, slice_index};
 ghost use Rattle.symmetries.specs.Exchanges.{IsExchange};
-ghost use Rattle.symmetries.specs.Images.{TellValues};
+ghost use Rattle.symmetries.specs.Images.{AreImages, TellValues};
 ghost use Rattle.symmetries.specs.Orbits.{IsExchangeOf};
 
 use crate::images::{are_alike, images_of, is_exchange};
@@ -31,6 +31,24 @@ impl Model for Exchange {
 impl Exchange {
     ghost use Rattle.definitions.specs.Problems.{TruthTables};
 
+    /// The exchange with such partners, if they are one.
+    pub(crate) fn of(
+        alloc: Global,
+        inputs: u8,
+        partners: &[VarIx],
+    ) -> Result<Option<Exchange>, AllocError>
+        requires few { inputs ≤ 16 }
+        ensures exchange { IfOk result (λ o. IfSome o (λ e. IsExchange inputs e.partners)) }
+        ensures images { IfOk result (λ o. IfSome o (λ e. AreImages inputs e.partners e.images)) }
+    {
+        if !is_exchange(inputs, partners) {
+            return Ok(None);
+        }
+        let images = images_of(alloc, inputs, partners)?;
+        let partners = partners.to_vec(alloc)?;
+        Ok(Some(Exchange { partners, images }))
+    }
+
     /// The exchange, if it changes no function, by their values at each point.
     fn if_alike(
         alloc: Global,
@@ -43,15 +61,13 @@ impl Exchange {
         ensures { (p : TruthTables) → p.inputs ≡ inputs → TellValues p points.now →
             IfOk result (λ o. IfSome o (IsExchangeOf p)) }
     {
-        if !is_exchange(inputs, partners) {
+        let Some(exchange) = Exchange::of(alloc, inputs, partners)? else {
+            return Ok(None);
+        };
+        if !are_alike(points, exchange.images()) {
             return Ok(None);
         }
-        let images = images_of(alloc, inputs, partners)?;
-        if !are_alike(points, &images) {
-            return Ok(None);
-        }
-        let partners = partners.to_vec(alloc)?;
-        Ok(Some(Exchange { partners, images }))
+        Ok(Some(exchange))
     }
 
     /// Each variable's partner.

@@ -14,5 +14,9 @@ mod points;
 // Sets that exchanges take to one another.
 mod orbits;
 
+// Problems with exchanged variables.
+mod renaming;
+
 pub use exchanges::{Exchange, exchanges_of};
 pub use orbits::{Image, Orbits};
+pub use renaming::Renaming;

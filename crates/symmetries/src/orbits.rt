@@ -2,7 +2,7 @@
 
 ghost use Rattle.std.specs.Prelude.{◌≡◌, ◌<◌, ◌≤◌, ◌^◌, ℕ, All, IfOk, IfSome, OnOk, length, slice_index};
 ghost use Rattle.definitions.specs.Problems.{TruthTables};
-ghost use Rattle.symmetries.specs.Orbits.{IsExchangeOf, KeepsWidths};
+ghost use Rattle.symmetries.specs.Orbits.{IsAfter, IsExchangeOf, KeepsWidths, TakesWidths};
 
 use crate::exchanges::{Exchange, exchanges_of};
 use order_model::{Mask, Pairs, Problem, VarIx};
@@ -57,8 +57,10 @@ fn moved(variables: &[VarIx; 16], partners: &[VarIx]) -> [VarIx; 16]
 
 impl Image {
     /// The set itself.
-    fn of(set: Mask) -> Image
-        ensures { (p : TruthTables) → p.inputs ≤ 16 → set < 2 ^ p.inputs →
+    pub(crate) fn of(set: Mask) -> Image
+        ensures set { result.set ≡ set }
+        ensures own { (x : ℕ) → x < 16 → slice_index result.variables x ≡ x }
+        ensures widths { (p : TruthTables) → p.inputs ≤ 16 → set < 2 ^ p.inputs →
             KeepsWidths p set result.set result.variables }
     {
         Image {
@@ -67,11 +69,10 @@ impl Image {
         }
     }
 
-    /// The image after one exchange more.
-    fn after(self, exchange: &Exchange) -> Image
-        ensures { (p : TruthTables) (S : ℕ) → p.inputs ≤ 16 → IsExchangeOf p exchange.now →
-            KeepsWidths p S self.set self.variables →
-            KeepsWidths p S result.set result.variables }
+    /// The image after one exchange more, if that has one of it.
+    pub(crate) fn after(self, exchange: &Exchange) -> Image
+        ensures { self.set < length exchange.now.images →
+            IsAfter exchange.now self.set self.variables result.set result.variables }
     {
         let Some(set) = exchange.images().get(usize::from(self.set)) else {
             return self;
@@ -260,7 +261,17 @@ impl<'a> Orbits<'a> {
         ensures { KeepsWidths self.now set result.set result.variables }
     {
         prove!(self.problem.inputs() <= 16);
-        let mut image = Image::of(set);
+        self.first_from(Image::of(set))
+    }
+
+    /// Where exchanges take the image of a set: to the first set of its orbit, if some steps lead
+    /// there.
+    pub fn first_from(&self, from: Image) -> Image
+        ensures { (p : TruthTables) (S : ℕ) → p.inputs ≤ 16 →
+            TakesWidths p self.now S from.set from.variables →
+            TakesWidths p self.now S result.set result.variables }
+    {
+        let mut image = from;
         for _step in 0..MOST_STEPS {
             let Some(exchange) = self.step(image.set) else {
                 break;

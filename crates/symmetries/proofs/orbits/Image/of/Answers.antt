@@ -1,5 +1,5 @@
 use Rattle.symmetries.proofs.ImageWidths.{own_widths}
 use Rattle.symmetries.proofs.orbits.Image.of.Goals as goal
 
-pub returns : goal.returns
-returns c p few small = own_widths p c.args.set c.own_variables.result few small c.own_variables.ensures
+pub returns-clause-widths : goal.returns-clause-widths
+returns-clause-widths c p few small = own_widths p c.args.set c.own_variables.result few small c.own_variables.ensures
