@@ -7,7 +7,7 @@ use crate::sixteen::tables_of;
 use cert_check::{Verdict, check, check_alone};
 use certificate::{Certificate, CertificateParts};
 use order_model::{ListedCell, NoGate, Pairs, VarIx, Workers};
-use order_solve::{Preparation, Solution, solve};
+use order_solve::{Preparation, Solution, renaming_of, solve};
 use sifting::laws::diagrams_have_their_problems_tables;
 use sifting::{Manager, Sifted};
 use std::alloc::Global;
@@ -104,8 +104,8 @@ fn solution_of<R: Abort + Threads + Sync>(
     requires { pairs.inputs ≡ tables.now.inputs }
 {
     let workers = Workers::new(2).expect(rt, "two workers");
-    let problem = tables.problem();
-    let prepared = Preparation::by_workers(rt, alloc, problem, &pairs, 16, workers);
+    let renaming = renaming_of(alloc, tables.problem()).expect(rt, "memory");
+    let prepared = Preparation::by_workers(rt, alloc, &renaming, &pairs, 16, workers);
     let prepared = prepared.expect(rt, "memory");
     let sifted = sifted_of(rt, alloc, tables, pairs);
     solve(rt, alloc, prepared, sifted, workers, &NoGate).expect(rt, "memory")

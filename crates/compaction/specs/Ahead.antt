@@ -2,12 +2,11 @@
 --     AheadOf      a problem, rows that were found ahead, and the size of the largest sets of which rows are to be found
 --     AreAhead p rows      the rows hold what was wanted, of a problem's variables
 --     none_ahead p end      nothing is found
---     widths_ahead found      how many widths the rows hold
 --     with_others found others      with what others found of the same problem
-use Rattle.std.specs.Prelude.{ℕ, List, [], ◌++◌, sum_by}
+use Rattle.std.specs.Prelude.{ℕ, List, [], ◌++◌}
 use Rattle.std.specs.List.{All}
 use Rattle.definitions.specs.Problems.{TruthTables}
-use Rattle.compaction.specs.Rows.{HoldsRows, RowsOf, wanted_count}
+use Rattle.compaction.specs.Rows.{HoldsRows, RowsOf}
 
 -- the functions, rows that were found ahead of the layers of their sets, and the size of the largest sets of which rows are to be found
 pub record AheadOf : Type 0 where
@@ -22,10 +21,6 @@ none_ahead p end = record { problem = p; rows = []; end = end }
 -- the rows hold what was wanted of the sets
 abbrev pub AreAhead : TruthTables → List RowsOf → Type 0
 AreAhead p rows = All (HoldsRows p) rows
-
--- how many widths the rows hold
-abbrev pub widths_ahead : AheadOf → ℕ
-widths_ahead found = sum_by (λ r. wanted_count r.needed) found.rows
 
 -- with the rows that others found, of the same functions
 abbrev pub with_others : AheadOf → AheadOf → AheadOf

@@ -5,3 +5,4 @@ pub mod Requests
 pub mod Rows
 pub mod Strips
 pub mod Walks
+pub mod Preparations

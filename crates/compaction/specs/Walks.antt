@@ -5,18 +5,14 @@
 --     FillsOwn t w old new      the row of the table's own set is filled
 --     AreAsked p b needed      what is asked of a block's sets are their members
 --     AreRowsOf p b needed rows      the rows hold the widths that are asked
---     HasRoom tallies widths      the tallies can take so many widths, and what is found ahead
---     Counts widths old before new after      one tally rises by so many widths, the other by what is found ahead
 use Rattle.std.specs.Prelude.{◌≡◌, ◌≢◌, ℕ, ◌+◌, ◌*◌, ◌^◌, ◌<◌, ◌≤◌, List, length, slice_index, bit_and}
 use Rattle.std.specs.Int.{bit_at}
 use Rattle.definitions.specs.Problems.{TruthTables}
 use Rattle.subfunction_classes.specs.Table.{ClassesOf}
 use Rattle.subset_layers.specs.Layers.{BlockOf, block_masks}
-use Rattle.compaction.specs.Ahead.{AheadOf, widths_ahead}
 use Rattle.compaction.specs.HighBytes.{HasByte}
 use Rattle.compaction.specs.Rows.{AreWidthRows, AreRowsFilled, AreMembers, IsRowFilled}
 use Rattle.compaction.specs.Strips.{low_variables}
-use Rattle.compaction.specs.declared.tally.Tallies.{Tallies}
 use Rattle.compaction.specs.declared.request.WidthRequest.{WidthRequest}
 
 -- the low variables and the members of the table's set are decided
@@ -46,16 +42,3 @@ pub record AreAsked (p : TruthTables) (b : BlockOf) (needed : List ℕ) : Type 0
 -- the rows hold the widths that are asked of a block's sets
 abbrev pub AreRowsOf : TruthTables → BlockOf → List ℕ → List (List ℕ) → Type 0
 AreRowsOf p b needed rows = AreWidthRows p (block_masks b) needed rows
-
--- there is room for so many widths, and for those that are found ahead
-pub record HasRoom (tallies : Tallies) (widths : ℕ) : Type 0 where
-  pub cells : tallies.cells + widths ≤ 2 ^ 32
-  pub ahead : tallies.ahead ≤ 2 ^ 32
-
--- one tally rises by so many widths, the other by those that are found ahead, of the same functions
-pub record Counts (widths : ℕ) (old : AheadOf) (before : Tallies) (new : AheadOf) (after : Tallies) : Type 0 where
-  pub problem : new.problem ≡ old.problem
-  pub end : new.end ≡ old.end
-  pub cells : after.cells ≡ before.cells + widths
-  pub ahead : after.ahead + widths_ahead old ≡ before.ahead + widths_ahead new
-  pub few : after.ahead ≤ before.ahead + 2 ^ 16

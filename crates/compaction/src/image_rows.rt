@@ -3,7 +3,7 @@
 ghost use Rattle.std.specs.Prelude.{◌≡◌, ◌<◌, ◌≤◌, ◌%◌, ◌==◌, ℕ, if◌then◌else◌, IfSome, IsTrue, slice_index};
 ghost use Rattle.std.specs.Int.{bit_at};
 ghost use Rattle.definitions.specs.Problems.{TruthTables};
-ghost use Rattle.symmetries.specs.Orbits.{KeepsWidths};
+ghost use Rattle.symmetries.specs.Orbits.{TakesWidths};
 ghost use Rattle.compaction.specs.Requests.{AreMembersOf};
 ghost use Rattle.compaction.specs.Rows.{HoldsRows, IsWidthRow};
 
@@ -52,11 +52,16 @@ fn members_moved(row: &WidthRow, variables: &[VarIx; 16], needed: Mask) -> Width
 }
 
 impl ByteRows {
+    /// Whether all widths of a set with the low byte are there.
+    pub(crate) fn is_whole(&self, set: Mask) -> bool {
+        self.request.needed.get(usize::from(set >> 8)) == Some(&set)
+    }
+
     /// The widths of some members of a set from the row of its image, which has the low byte, if
     /// they are all there.
     pub(crate) fn row_by_image(&self, image: &Image, needed: Mask) -> Option<WidthRow>
-        ensures { (p : TruthTables) (set : ℕ) → p.inputs ≤ 16 → HoldsRows p self.now →
-            KeepsWidths p set image.now.set image.now.variables →
+        ensures { (p q : TruthTables) (set : ℕ) → p.inputs ≤ 16 → HoldsRows q self.now →
+            TakesWidths p q set image.now.set image.now.variables →
             image.now.set % 256 ≡ self.now.low → AreMembersOf p.inputs set needed →
             IfSome result (IsWidthRow p set needed) }
     {

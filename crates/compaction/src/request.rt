@@ -25,7 +25,7 @@ pub(crate) struct WidthRequest {
 /// Sets of which rows are to be found: the lawful ones of sizes from the first to the last one, and
 /// of each orbit the first alone. Which sets these are decides time alone.
 #[derive(Clone, Copy)]
-pub struct Wanted<'a, 'b> {
+pub(crate) struct Wanted<'a, 'b> {
     pub pairs: &'a Pairs,
     pub orbits: Option<&'b Orbits<'b>>,
     pub first: u32,
@@ -121,43 +121,13 @@ impl WidthRequest {
         self.needed.iter().all(|members| *members == 0)
     }
 
-    /// All members of the sets of which rows are to be found.
-    pub(crate) fn of_sets(
-        alloc: Global,
-        inputs: u8,
-        low: u8,
-        wanted: &Wanted<'_, '_>,
-    ) -> Result<WidthRequest, AllocError>
-        requires inputs { inputs ≤ 16 }
-        requires low { low < 2 ^ inputs }
-        ensures inputs { IfOk result (λ w. w.inputs ≡ inputs) }
-        ensures low { IfOk result (λ w. w.low ≡ low) }
-    {
-        let mut request = WidthRequest::none(alloc, inputs, low)?;
-        let limit = 1u32 << inputs;
-        let highs = (limit / 256).clamp(1, 256) as Mask;
-        for high in 0..highs {
-            let set = high * 256 + Mask::from(low);
-            if u32::from(set) < limit && wanted.has(set) {
-                request.add(set, set);
+    /// Adds all members of the sets of which rows are to be found.
+    pub(crate) fn add_sets(&mut self, wanted: &Wanted<'_, '_>) {
+        for high in 0..self.needed.len().min(256) as Mask {
+            let set = high * 256 + Mask::from(self.low);
+            if wanted.has(set) {
+                self.add_members(set, set);
             }
         }
-        Ok(request)
-    }
-
-    /// Whether all that is wanted of a block's sets is asked for.
-    pub(crate) fn has_block(&self, block: &Block, needed: &[Mask]) -> bool
-        requires needed { length needed.now ≡ length (block_masks block.now) }
-        ensures { IsTrue result → Asks self.now.needed.items (block_masks block.now) needed.now }
-    {
-        for (i, mask) in block.masks().iter().enumerate() {
-            let Some(members) = self.needed.get(usize::from(*mask >> 8)) else {
-                return false;
-            };
-            if needed[i] & *members != needed[i] {
-                return false;
-            }
-        }
-        true
     }
 }

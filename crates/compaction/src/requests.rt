@@ -26,21 +26,32 @@ fn members_of_image(image: &Image, members: Mask) -> Mask {
 }
 
 impl Requests {
-    /// All members of the sets of which rows are to be found.
-    pub fn of_sets(
-        alloc: Global,
-        inputs: u8,
-        wanted: &Wanted<'_, '_>,
-    ) -> Result<Requests, AllocError>
+    /// Nothing is wanted.
+    pub(crate) fn none(alloc: Global, inputs: u8) -> Result<Requests, AllocError>
         requires { inputs ≤ 16 }
     {
         let mut bytes = Vec::with_capacity(alloc, 256)?;
         for low in 0..256u16 {
             if u32::from(low) < 1u32 << inputs {
-                bytes.push(WidthRequest::of_sets(alloc, inputs, low as u8, wanted)?)?;
+                bytes.push(WidthRequest::none(alloc, inputs, low as u8)?)?;
             }
         }
         Ok(Requests { bytes })
+    }
+
+    /// Whether nothing is wanted.
+    pub fn is_empty(&self) -> bool {
+        self.bytes.iter().all(|request| request.is_empty())
+    }
+
+    /// Adds all members of the sets of which rows are to be found; of the low bytes of which
+    /// something is wanted already, or of all.
+    pub(crate) fn add_sets(&mut self, wanted: &Wanted<'_, '_>, all: bool) {
+        for request in &mut self.bytes {
+            if all || !request.is_empty() {
+                request.add_sets(wanted);
+            }
+        }
     }
 
     /// Adds what is wanted of an image: the variables to which some members of a set go. Nothing if

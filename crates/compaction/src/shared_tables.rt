@@ -9,32 +9,28 @@ ghost use Rattle.compaction.specs.Joining.{AreJoined};
 use crate::bytes::ByteKeys;
 use crate::names::AllNamePairs;
 use crate::strips::{Strips, low_variables};
-use order_model::{Mask, Pairs, Problem, VarIx, Workers};
+use order_model::{Mask, Problem, VarIx, Workers};
 use std::alloc::{AllocError, Global};
 use std::marker::Model;
 use std::thread;
 use std::thread::Threads;
-use symmetries::Orbits;
 
 /// Truth tables of no more distinct strips than these have the tables of all low sets made
 /// beforehand, which take 6,561 numbers a strip.
 const MOST_STRIPS: usize = 1 << 10;
 
 /// What the walks of all blocks share: the class tables of all sets of low variables if they are
-/// small, else the keys of the sets of the lowest three variables; the pairs of names for the sets
-/// of high variables; and the orbits of sets, if they were sought and variables may be exchanged.
-/// They are made once a search.
+/// small, else the keys of the sets of the lowest three variables; and the pairs of names for the
+/// sets of high variables. They are made once a search.
 #[derive(Drop)]
 pub struct SharedTables<'a> {
     problem: &'a Problem,
     tables: Vec<Strips<'a>>,
     keys: Vec<ByteKeys<'a>>,
     names: AllNamePairs,
-    orbits: Option<Orbits<'a>>,
 }
 
 impl<'a> Model for SharedTables<'a> {
-    ghost use Rattle.std.specs.Prelude.{◌≡◌, IfSome};
     ghost use Rattle.definitions.specs.Problems.{TruthTables};
     ghost use Rattle.compaction.specs.Strips.{AreOfFirstSets};
 
@@ -43,8 +39,7 @@ impl<'a> Model for SharedTables<'a> {
     ghost view = { λ b. b.problem.now };
 
     ghost invariant = { λ b. AreOfFirstSets b.problem.now b.tables.items
-        × AreOfFirstSets b.problem.now b.keys.items
-        × IfSome b.orbits (λ o. o ≡ b.problem.now) };
+        × AreOfFirstSets b.problem.now b.keys.items };
 }
 
 /// Tables that were made.
@@ -237,7 +232,6 @@ impl<'a> SharedTables<'a> {
             tables: tables_of_low_sets(&CallingThread, alloc, problem, empty)?,
             keys,
             names,
-            orbits: None,
         })
     }
 
@@ -257,7 +251,6 @@ impl<'a> SharedTables<'a> {
             tables: tables_of_low_sets(&threads, alloc, problem, empty)?,
             keys,
             names,
-            orbits: None,
         })
     }
 
@@ -270,20 +263,7 @@ impl<'a> SharedTables<'a> {
             tables: Vec::new(alloc),
             keys: Vec::new(alloc),
             names: AllNamePairs::none(alloc),
-            orbits: None,
         }
-    }
-
-    /// These tables with the orbits of the sets that are lawful by some pairs.
-    pub(crate) fn with_orbits(
-        self,
-        alloc: Global,
-        pairs: &Pairs,
-    ) -> Result<SharedTables<'a>, AllocError>
-        ensures { IfOk result (λ b. b ≡ self.entry) }
-    {
-        let orbits = Orbits::of(alloc, self.problem, pairs)?;
-        Ok(SharedTables { orbits, ..self })
     }
 
     /// The problem.
@@ -291,13 +271,6 @@ impl<'a> SharedTables<'a> {
         ensures { result.now ≡ self.now }
     {
         self.problem
-    }
-
-    /// The orbits of sets, if they were sought and variables may be exchanged.
-    pub fn orbits(&self) -> Option<&Orbits<'a>>
-        ensures { IfSome result (λ o. o.now ≡ self.now) }
-    {
-        self.orbits.as_ref()
     }
 
     /// The pairs of names.

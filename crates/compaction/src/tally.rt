@@ -20,26 +20,6 @@ impl Model for Tally {
     ghost view = { λ t. t.count };
 }
 
-/// What walks take: widths that cells take, and widths that are found ahead of their layer.
-#[derive(Drop)]
-pub struct Tallies {
-    pub cells: Tally,
-    pub ahead: Tally,
-}
-
-impl Tallies {
-    /// None yet.
-    pub fn new() -> Tallies
-        ensures cells { result.cells ≡ 0 }
-        ensures ahead { result.ahead ≡ 0 }
-    {
-        Tallies {
-            cells: Tally::new(),
-            ahead: Tally::new(),
-        }
-    }
-}
-
 /// How many widths are wanted.
 pub(crate) fn count_wanted(needed: &[Mask]) -> u64
     requires { length needed.now ≤ 2 ^ 20 }

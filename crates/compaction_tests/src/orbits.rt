@@ -5,7 +5,7 @@ use compaction::Preparation;
 use order_model::{Pairs, Problem, Workers};
 use std::alloc::Global;
 use std::process::Abort;
-use symmetries::Orbits;
+use symmetries::{Orbits, Renaming};
 
 /// x0 x1 + x2 x3.
 const TWO_PRODUCTS: Tables = (4, &[0xf888]);
@@ -61,12 +61,18 @@ fn orbits_are_of_lawful_sets(rt: HostRuntime) {
     assert!(rt; first_of(&rt, rt.alloc(), &problem, &pairs, 0x400) == 0x200);
 }
 
-// The first sets have 1, 2, 2, 3 and 4 members.
 #[test]
 fn first_sets_alone_have_rows(rt: HostRuntime) {
     let problem = problem_of(&rt, rt.alloc(), TWO_PRODUCTS);
+    assert!(rt; problem.inputs() == 4);
     let pairs = Pairs::none(4);
     let workers = Workers::new(2).expect(&rt, "workers");
-    let prepared = Preparation::by_workers(&rt, rt.alloc(), &problem, &pairs, 4, workers);
-    assert!(rt; prepared.expect(&rt, "memory").widths() == 12);
+    let renaming = Renaming::none(&problem);
+    let found = Preparation::by_workers(&rt, rt.alloc(), &renaming, &pairs, 4, workers);
+    let prepared = found.expect(&rt, "memory");
+    let source = prepared.source();
+    for set in 1..16u16 {
+        let is_first = FIRST_SETS[usize::from(set)] == set;
+        assert!(rt; source.is_found(set) == is_first);
+    }
 }

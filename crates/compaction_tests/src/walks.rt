@@ -1,38 +1,12 @@
-//! The row of one set, by itself and by walks that look ahead.
+//! The row of one set, by itself and from rows that were found before.
 
-ghost use Rattle.std.specs.Prelude.{◌≡◌, ◌≤◌, ◌^◌};
-ghost use Rattle.compaction.specs.Rows.{wanted_count};
-ghost use Rattle.compaction.specs.Walks.{AreAsked};
-
-use crate::problems::{MULTIPLEXER, five_bit_numbers, problem_of};
-use compaction::{SharedTables, Tallies, Tally, WidthSource, WidthsAhead, block_widths};
+use crate::problems::{MULTIPLEXER, cubes, five_bit_numbers, problem_of, set_one};
+use compaction::{Preparation, Tally, block_widths, renaming_of};
 use order_model::{Mask, Pairs, Problem, WidthRow};
 use std::alloc::Global;
 use std::process::Abort;
 use subset_layers::{Block, Layer};
-
-/// The rows of a block by walks that look ahead to sets of three variables, and how many widths are
-/// taken for it and ahead.
-fn rows_by_walks(
-    rt: &impl Abort,
-    alloc: Global,
-    problem: &Problem,
-    shared: &SharedTables<'_>,
-    block: &Block,
-    needed: &[Mask],
-) -> (Vec<WidthRow>, Tallies)
-    requires shared { shared.now ≡ problem.now }
-    requires asked { AreAsked problem.now block.now needed.now }
-    requires room { wanted_count needed.now ≤ 2 ^ 32 }
-{
-    let ahead = WidthsAhead::up_to(alloc, problem, 3);
-    let mut found = WidthsAhead::up_to(alloc, problem, 0);
-    let mut tallies = Tallies::new();
-    let pairs = Pairs::none(10);
-    let walks = WidthSource::new(shared, &ahead, &pairs);
-    let widths = walks.block_rows(alloc, block, needed, &mut found, &mut tallies);
-    (widths.expect(rt, "memory").into_rows(), tallies)
-}
+use symmetries::Renaming;
 
 /// The row of a set that is alone in its block, for which two widths are taken.
 fn row_by_itself(rt: &impl Abort, alloc: Global, problem: &Problem, block: &Block) -> WidthRow {
@@ -45,43 +19,81 @@ fn row_by_itself(rt: &impl Abort, alloc: Global, problem: &Problem, block: &Bloc
     widths.row(0)
 }
 
-/// How many widths are found ahead by walks to the set of the two lowest variables, alone in its
-/// block. They are to give this row for it, for which two widths are taken.
-fn ahead_by_walks(
+/// The row of the set that is alone in a block, from a row that is found for it.
+fn row_found(
+    rt: &impl Abort,
+    alloc: Global,
+    renaming: &Renaming<'_>,
+    block: &Block,
+) -> WidthRow {
+    let inputs = renaming.problem().inputs();
+    assert!(rt; inputs == block.inputs());
+    assert!(rt; block.len() == 1);
+    let needed = block.mask(0);
+    let pairs = Pairs::none(inputs);
+    let mut prepared = Preparation::of(alloc, renaming, &pairs).expect(rt, "memory");
+    assert!(rt; needed == 0x0003 && prepared.end() == 0);
+    let image = prepared.image_of(needed);
+    let mut requests = prepared.requests(alloc).expect(rt, "memory");
+    requests.add_image(&image, needed);
+    assert!(rt; !requests.is_empty() && !prepared.source().is_found(image.set));
+    let found = prepared.find_alone(alloc, &requests, 2);
+    found.expect(rt, "memory");
+    let source = prepared.source();
+    assert!(rt; source.is_found(image.set));
+    let mut tally = Tally::new();
+    let rows = source.block_rows(alloc, block, &[needed], &mut tally).expect(rt, "memory");
+    assert!(rt; rows.len() == 1 && tally.count() == 2);
+    rows[0]
+}
+
+/// The row of the set of the two lowest variables, alone in a block of the sets of two: by itself,
+/// from a row that is found, and from one of the problem in which such variables are the lowest
+/// ones. They are to be the same.
+fn row_at(
     rt: &impl Abort,
     alloc: Global,
     problem: &Problem,
-    block: &Block,
-    row: WidthRow,
-) -> u64 {
-    assert!(rt; problem.inputs() == block.inputs());
-    assert!(rt; block.len() == 1);
-    let needed = block.mask(0);
-    assert!(rt; needed == 0x0003);
-    let shared = SharedTables::of(alloc, problem).expect(rt, "memory");
-    let (rows, tallies) = rows_by_walks(rt, alloc, problem, &shared, block, &[needed]);
-    assert!(rt; rows.as_slice() == [row].as_slice() && tallies.cells.count() == 2);
-    tallies.ahead.count()
-}
-
-/// The row of the set of the two lowest variables, alone in a block of the sets of two, by itself;
-/// and how many widths are found by walks that look ahead, which are to give the same row.
-fn row_at(rt: &impl Abort, alloc: Global, problem: &Problem, place: usize) -> (WidthRow, u64) {
+    place: usize,
+    lowest: Mask,
+) -> WidthRow {
     let layer = Layer::of(alloc, problem.inputs(), 2).expect(rt, "memory");
     assert!(rt; place < layer.blocks());
     let block = layer.block(place);
     let row = row_by_itself(rt, alloc, problem, &block);
-    (row, ahead_by_walks(rt, alloc, problem, &block, row))
+    let found = row_found(rt, alloc, &Renaming::none(problem), &block);
+    let renaming = Renaming::to_lowest(alloc, problem, lowest).expect(rt, "memory");
+    assert!(rt; renaming.is_renamed());
+    let renamed = row_found(rt, alloc, &renaming, &block);
+    assert!(rt; found == row && renamed == row);
+    row
 }
 
-// Of ten variables the walk goes on to two sets of three, with the ninth variable and with the
-// tenth.
 #[test]
 fn a_row_has_the_widths_of_its_set(rt: HostRuntime) {
     let multiplexer = problem_of(&rt, rt.alloc(), MULTIPLEXER);
-    let (row, ahead) = row_at(&rt, rt.alloc(), &multiplexer, 0);
-    assert!(rt; row == [1, 1, 0, 0, 0, 0, 0, 0, 0, 0, 0, 0, 0, 0, 0, 0] && ahead == 0);
+    let row = row_at(&rt, rt.alloc(), &multiplexer, 0, 0x0004);
+    assert!(rt; row == [1, 1, 0, 0, 0, 0, 0, 0, 0, 0, 0, 0, 0, 0, 0, 0]);
     let numbers = five_bit_numbers(&rt, rt.alloc());
-    let (_, ahead) = row_at(&rt, rt.alloc(), &numbers, 3);
-    assert!(rt; ahead == 6);
+    let _ = row_at(&rt, rt.alloc(), &numbers, 3, 0x0300);
+}
+
+/// x0 x5 + x1 x6 + x2 x7 + x3 x8 + x4 x9.
+fn five_products(rt: &impl Abort, alloc: Global) -> Problem {
+    let mut problem = Problem::new(alloc, 10, 1).expect(rt, "memory");
+    for point in 0..1024u32 {
+        if point & (point >> 5) != 0 {
+            set_one(rt, &mut problem, 0, point);
+        }
+    }
+    problem
+}
+
+// With products whole among the lowest variables the truth table has two distinct strips; else four.
+#[test]
+fn variables_are_renamed_where_that_leaves_fewer_strips(rt: HostRuntime) {
+    let products = five_products(&rt, rt.alloc());
+    assert!(rt; renaming_of(rt.alloc(), &products).expect(&rt, "memory").is_renamed());
+    let cubes = cubes(&rt, rt.alloc());
+    assert!(rt; !renaming_of(rt.alloc(), &cubes).expect(&rt, "memory").is_renamed());
 }

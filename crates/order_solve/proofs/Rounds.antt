@@ -1,7 +1,6 @@
 -- A worker's rounds: a claim, and the posts of its block.
 --     Working t s0 s count      what a worker keeps from s0 to s
 --     working_none, working_stays, working_round      at the start, where claims stay, after a round
---     IsFewAhead s count, few_room, few_round      how many widths are found ahead at most
 use Rattle.std.proofs.Common.{◌≡◌, ℕ, ◌<◌, ◌≤◌, ◌*◌, ◌^◌, slice_get, arith, ◌+◌, Bool, true, false, not, ◌&&◌, List, Some, inl, inr, refl, sym, ap, ◌∙◌, subst, nat_eq}
 use Rattle.std.specs.List.{filter}
 use Rattle.std.proofs.lemmas.Bool.{false≢true, cases_Bool, and_parts, and_from}
@@ -94,14 +93,3 @@ pub round_closes : (s s1 s2 : SeatOf) (p : ℕ) (b : BlockOf) → ClaimsBlock s 
 round_closes s s1 s2 p b h stays =
     subst (λ (xs : List Bool). open_marks xs < open_marks s.worker.claims) (sym (stays.claims ∙ ap (λ (z : SeatOf). z.worker.claims) h.is))
     (fewer_open s.worker.claims p (ap (λ (z : SeatOf). claimed z.worker p) (sym h.is) ∙ h.there) (was_open s s1 p b h))
-
--- at most 2 ^ 16 widths are found ahead for each block up to the last that the seat claimed
-abbrev pub IsFewAhead : SeatOf → ℕ → Type 0
-IsFewAhead s count = (q : ℕ) → ((r : ℕ) → claimed s.worker r ≡ true → r < q) → count ≤ 2 ^ 16 * q
-
-module _ (s s1 s2 : SeatOf) (count p : ℕ) (b : BlockOf) (h : ClaimsBlock s s1 p b) (few : IsFewAhead s count) where
-  pub few_room : count ≤ 2 ^ 24
-  few_room = grind (arith, slice_get_within, few_blocks)
-
-  pub few_round : (more : ℕ) → StaysClaimed s1 s2 → more ≤ count + 2 ^ 16 → IsFewAhead s2 more
-  few_round more stays le q all = grind arith

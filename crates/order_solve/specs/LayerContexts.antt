@@ -1,23 +1,20 @@
 -- What the workers of a layer read.
---     ContextOf      what the cells are for, the layer, the costs of the layer before, and whether there is a source of widths
---     context_with instance layer before      without one
+--     ContextOf, context_with instance layer before      what the cells are for, the layer, and the costs of the layer before
 --     IsContext c      the costs are the definition's, and the layer is the one after theirs
-use Rattle.std.specs.Prelude.{◌≡◌, ◌+◌, Bool, false}
+use Rattle.std.specs.Prelude.{◌≡◌, ◌+◌}
 use Rattle.subset_layers.specs.Layers.{LayerOf, layer_with}
 use Rattle.subset_layers.specs.Costs.{CostsOf}
 use Rattle.layer_core.specs.Instances.{InstanceOf}
 use Rattle.solutions.specs.LayerCosts.{AreCostsFor}
 
--- what the cells are for, the layer, the costs of the layer before, and whether there is a source of widths
+-- what the cells are for, the layer, and the costs of the layer before
 pub record ContextOf : Type 0 where
   pub instance : InstanceOf
   pub layer : LayerOf
   pub before : CostsOf
-  pub has_source : Bool
 
--- without a source of widths
 abbrev pub context_with : InstanceOf → LayerOf → CostsOf → ContextOf
-context_with instance layer before = record { instance = instance; layer = layer; before = before; has_source = false }
+context_with instance layer before = record { instance = instance; layer = layer; before = before }
 
 -- the layer is the one after the costs', which are the definition's
 pub record IsContext (c : ContextOf) : Type 0 where

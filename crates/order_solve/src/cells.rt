@@ -1,45 +1,39 @@
 //! The cells of a block's sets.
 
-ghost use Rattle.std.specs.Prelude.{◌≡◌, false, map, IfOk, OnOk};
+ghost use Rattle.std.specs.Prelude.{◌≡◌, ◌+◌, ◌^◌, ◌≤◌, map, IfOk, OnOk};
 ghost use Rattle.compaction.specs.Rows.{AreWidthRows, wanted_count};
-ghost use Rattle.compaction.specs.Walks.{AreAsked, AreRowsOf, Counts, HasRoom};
+ghost use Rattle.compaction.specs.Walks.{AreAsked, AreRowsOf};
 ghost use Rattle.subset_layers.specs.Layers.{layer_of, block_masks};
 ghost use Rattle.solutions.specs.Needs.{needed, widths_for};
 ghost use Rattle.solutions.specs.LayerCosts.{AreCells};
 
 use crate::context::LayerContext;
-use compaction::{Tallies, WidthsAhead, block_widths};
+use compaction::{Tally, block_widths};
 use order_model::{Mask, WidthRow};
 use solutions::needs_of_block;
 use std::alloc::{AllocError, Global};
 use subset_layers::{Block, Cell, least_cell};
 
-/// The widths that are wanted of a block's sets. What the walk finds ahead goes to `found`.
+/// The widths that are wanted of a block's sets. The tally rises by their number.
 fn widths_of(
     alloc: Global,
     block: &Block,
     context: &LayerContext<'_>,
     needed: &[Mask],
-    found: &mut WidthsAhead<'_>,
-    tallies: &mut Tallies,
+    tally: &mut Tally,
 ) -> Result<Vec<WidthRow>, AllocError>
     requires asked { AreAsked context.now.instance.problem block.now needed.now }
-    requires found { found.old.problem ≡ context.now.instance.problem }
-    requires room { HasRoom tallies.old (wanted_count needed.now) }
+    requires room { tally.old + wanted_count needed.now ≤ 2 ^ 32 }
     ensures rows { IfOk result
         (λ rows. AreRowsOf context.now.instance.problem block.now needed.now rows.items) }
-    ensures counts { OnOk result
-        (Counts (wanted_count needed.now) found.old tallies.old found.new tallies.new) }
-    ensures alone { context.now.has_source ≡ false → OnOk result (found.new ≡ found.old) }
+    ensures counts { OnOk result (tally.new ≡ tally.old + wanted_count needed.now) }
 {
     let instance = context.instance;
     let Some(source) = context.source else {
-        let cells = &mut tallies.cells;
-        let widths = block_widths(alloc, instance.problem, block, needed, cells)?;
+        let widths = block_widths(alloc, instance.problem, block, needed, tally)?;
         return Ok(widths.into_rows());
     };
-    let widths = source.block_rows(alloc, block, needed, found, tallies)?;
-    Ok(widths.into_rows())
+    source.block_rows(alloc, block, needed, tally)
 }
 
 /// The cells of a block's sets, in their order, from the rows of their widths.
@@ -70,25 +64,22 @@ fn cells_by_rows(
     Ok(cells)
 }
 
-/// The cells of a block's sets, in their order. Widths of later layers go to `found`. One tally
-/// rises by the number of widths that the cells take, the other by that of those found ahead.
+/// The cells of a block's sets, in their order. The tally rises by the number of widths that they
+/// take.
 pub(crate) fn cells_of_block(
     alloc: Global,
     block: &Block,
     context: &LayerContext<'_>,
-    found: &mut WidthsAhead<'_>,
-    tallies: &mut Tallies,
+    tally: &mut Tally,
 ) -> Result<Vec<Cell>, AllocError>
     requires layer { layer_of block.now ≡ context.now.layer }
-    requires found { found.old.problem ≡ context.now.instance.problem }
-    requires room { HasRoom tallies.old (widths_for context.now.instance (block_masks block.now)) }
+    requires room { tally.old + widths_for context.now.instance (block_masks block.now) ≤ 2 ^ 32 }
     ensures cells { IfOk result (λ v. AreCells context.now.instance (block_masks block.now) v.items) }
-    ensures counts { OnOk result (Counts (widths_for context.now.instance (block_masks block.now))
-        found.old tallies.old found.new tallies.new) }
-    ensures alone { context.now.has_source ≡ false → OnOk result (found.new ≡ found.old) }
+    ensures counts { OnOk result
+        (tally.new ≡ tally.old + widths_for context.now.instance (block_masks block.now)) }
 {
     prove!(context.instance.inputs() <= 16);
     let needs = needs_of_block(alloc, context.instance, context.before, block)?;
-    let rows = widths_of(alloc, block, context, &needs, found, tallies)?;
+    let rows = widths_of(alloc, block, context, &needs, tally)?;
     cells_by_rows(alloc, block, context, &rows)
 }

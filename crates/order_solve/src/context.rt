@@ -1,6 +1,6 @@
 //! What the workers of a layer read.
 
-ghost use Rattle.std.specs.Prelude.{◌≡◌, true};
+ghost use Rattle.std.specs.Prelude.{◌≡◌};
 
 use compaction::WidthSource;
 use solutions::Instance;
@@ -18,13 +18,12 @@ pub struct LayerContext<'a> {
 }
 
 impl<'a> Model for LayerContext<'a> {
-    ghost use Rattle.std.specs.Prelude.{◌≡◌, IfSome, is_some};
+    ghost use Rattle.std.specs.Prelude.{◌≡◌, IfSome};
     ghost use Rattle.order_solve.specs.LayerContexts.{ContextOf, context_with, IsContext};
 
     ghost Value = { ContextOf };
 
-    ghost view = { λ c. record (context_with c.instance.now c.layer.now c.before.now)
-        { has_source = is_some c.source } };
+    ghost view = { λ c. context_with c.instance.now c.layer.now c.before.now };
 
     ghost invariant = { λ c. IsContext (context_with c.instance.now c.layer.now c.before.now)
         × IfSome c.source (λ w. w.now ≡ c.instance.now.problem) };
@@ -49,7 +48,7 @@ impl<'a> LayerContext<'a> {
     /// This context with a source of widths.
     pub(crate) fn with_source(self, source: &'a WidthSource<'a>) -> LayerContext<'a>
         requires { source.now ≡ self.instance.problem }
-        ensures { result ≡ record self.entry { has_source = true } }
+        ensures { result ≡ self.entry }
     {
         LayerContext {
             source: Some(source),

@@ -1,6 +1,6 @@
 //! The cells of a layer by workers.
 
-ghost use Rattle.std.specs.Prelude.{◌≡◌, ◌≤◌, All, IfOk, OnOk, vec_len};
+ghost use Rattle.std.specs.Prelude.{◌≡◌, ◌≤◌, All, IfOk, vec_len};
 ghost use Rattle.std.specs.Thread.{IsSync};
 ghost use Rattle.subset_layers.specs.Layers.{masks_of};
 ghost use Rattle.solutions.specs.LayerCosts.{AreCells};
@@ -8,7 +8,6 @@ ghost use Rattle.solutions.specs.LayerCosts.{AreCells};
 use crate::alone::cells_alone;
 use crate::context::LayerContext;
 use crate::worker::{WorkerResult, work_layer};
-use compaction::WidthsAhead;
 use layer_board::{Board, BoardSeat, CloseError};
 use order_model::{Crew, Gate};
 use solutions::busy_workers;
@@ -40,57 +39,45 @@ fn number_seats(alloc: Global, board: &Board, seats: Vec<BoardSeat>) -> Result<V
     Ok(jobs)
 }
 
-/// A seat of the workers, if none of them ran out of memory. What they found ahead goes to `found`.
+/// A seat of the workers, if none of them ran out of memory.
 fn gather(
     board: &Board,
-    ended: Vec<Result<WorkerResult<'_>, AllocError>>,
-    found: &mut WidthsAhead<'_>,
+    ended: Vec<Result<WorkerResult, AllocError>>,
 ) -> Result<BoardSeat, AllocError>
     requires some { 1 ≤ vec_len ended }
     requires seats { All (λ r. IfOk r (λ e. e.seat.board ≡ board.now)) ended.items }
-    requires found { found.old.problem ≡ board.now.brief.instance.problem }
-    ensures seat { IfOk result (λ s. s.board ≡ board.now) }
-    ensures found { OnOk result (found.new.problem ≡ found.old.problem) }
+    ensures { IfOk result (λ s. s.board ≡ board.entry.now) }
 {
     let mut ended = ended;
-    let WorkerResult {
-        seat,
-        tally: _,
-        ahead: _,
-        found: first,
-    } = ended.pop().unwrap()?;
-    found.append(first)?;
+    let WorkerResult { seat, tally: _ } = ended.pop().unwrap()?;
     while let Some(end) = ended.pop() {
-        found.append(end?.found)?;
+        end?;
     }
     Ok(seat)
 }
 
 /// Posts the cells of a layer by workers, each on a thread of its own, and returns a seat of
-/// theirs. What they find ahead goes to `found`.
+/// theirs.
 fn post_by_workers<R: Threads + Sync, G: Gate>(
     crew: &Crew<'_, R, G>,
     alloc: Global,
     board: &Board,
     seats: Vec<BoardSeat>,
     context: &LayerContext<'_>,
-    found: &mut WidthsAhead<'_>,
 ) -> Result<BoardSeat, AllocError>
     requires some { 1 ≤ vec_len seats }
     requires few { vec_len seats ≤ 64 }
     requires seats { All (λ s. s.board ≡ board.now) seats.items }
     requires instance { board.now.brief.instance ≡ context.now.instance }
     requires layer { board.now.brief.layer ≡ context.now.layer }
-    requires found { found.old.problem ≡ context.now.instance.problem }
-    ensures seat { IfOk result (λ s. s.board ≡ board.now) }
-    ensures found { OnOk result (found.new.problem ≡ found.old.problem) }
+    ensures { IfOk result (λ s. s.board ≡ board.entry.now) }
 {
     let gate = crew.gate;
     let jobs = number_seats(alloc, board, seats)?;
     let ended = thread::map_vec(
         crew.rt,
         jobs,
-        &|job: Job| -> Result<WorkerResult<'_>, AllocError>
+        &|job: Job| -> Result<WorkerResult, AllocError>
             requires { IsSync G.row × (job.seat.board ≡ board.now)
                 × (board.now.brief.instance ≡ context.now.instance)
                 × (board.now.brief.layer ≡ context.now.layer) }
@@ -100,21 +87,18 @@ fn post_by_workers<R: Threads + Sync, G: Gate>(
             work_layer(alloc, board, seat, worker, context, gate)
         },
     )?;
-    gather(board, ended, found)
+    gather(board, ended)
 }
 
-/// The cells of a layer in its order, by workers. What they find ahead goes to `found`. If some
-/// cell is missing although none of them ran out of memory, the calling thread does the layer over
-/// alone, with widths from the same source.
+/// The cells of a layer in its order, by workers. If some cell is missing although none of them ran
+/// out of memory, the calling thread does the layer over alone, with widths from the same source.
 pub(crate) fn cells_of_layer<R: Threads + Sync, G: Gate>(
     crew: &Crew<'_, R, G>,
     alloc: Global,
     context: &LayerContext<'_>,
-    found: &mut WidthsAhead<'_>,
 ) -> Result<Vec<Cell>, AllocError>
-    requires { found.old.problem ≡ context.now.instance.problem }
-    ensures cells { IfOk result (λ v. AreCells context.now.instance (masks_of context.now.layer) v.items) }
-    ensures found { OnOk result (found.new.problem ≡ found.old.problem) }
+    ensures { IfOk result (λ v.
+        AreCells context.entry.now.instance (masks_of context.entry.now.layer) v.items) }
 {
     let instance = context.instance;
     let (board, seats) = Board::new(
@@ -125,10 +109,10 @@ pub(crate) fn cells_of_layer<R: Threads + Sync, G: Gate>(
         busy_workers(instance, context.layer, crew.workers),
         instance.pairs,
     )?;
-    let seat = post_by_workers(crew, alloc, &board, seats, context, found)?;
+    let seat = post_by_workers(crew, alloc, &board, seats, context)?;
     match board.close(alloc, seat) {
         Ok(cells) => Ok(cells),
-        Err((_, CloseError::Missing(_))) => cells_alone(alloc, context, found),
+        Err((_, CloseError::Missing(_))) => cells_alone(alloc, context),
         Err((_, CloseError::OutOfMemory)) => Err(AllocError),
     }
 }

@@ -15,9 +15,10 @@ mod cells;
 mod context;
 mod worker;
 
-pub use compaction::Preparation;
+pub use compaction::{Preparation, renaming_of};
 pub use context::LayerContext;
 pub use preparation::prepare;
 pub use solutions::{Instance, Solution};
 pub use solver::{find_optimum, find_optimum_alone, solve, solve_alone};
+pub use symmetries::Renaming;
 pub use worker::{WorkerResult, work_layer};

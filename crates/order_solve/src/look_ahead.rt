@@ -1,85 +1,109 @@
-//! How far the walks of a layer look ahead.
+//! Which rows of widths are found before a layer asks for them.
 
 ghost use Rattle.std.specs.Prelude.{◌≡◌};
 ghost use Rattle.subset_layers.specs.Layers.{layer_of};
 ghost use Rattle.solutions.specs.LayerCosts.{AreDone};
 
 use crate::context::LayerContext;
-use compaction::{Requests, SharedTables, Wanted, WidthsAhead};
+use compaction::{Preparation, Requests, WidthSource};
 use solutions::{Instance, likely_end, needs_of_block};
 use std::alloc::{AllocError, Global};
 use subset_layers::{Block, Costs, Layer};
-use symmetries::Orbits;
 
-/// What was found ahead, as long as that reaches to the next layer. Else nothing, and rows are to
-/// be found of all layers that are likely to be wanted nearly whole.
-pub(crate) fn look_ahead<'a>(
-    alloc: Global,
-    instance: &Instance<'_>,
-    ahead: WidthsAhead<'a>,
-    done: &[Costs],
-) -> WidthsAhead<'a>
-    requires { AreDone instance.now done.now }
-    ensures { result.problem ≡ ahead.entry.problem }
+/// Requests for rows, and the size of the largest sets that have some.
+#[derive(Drop)]
+pub(crate) struct LookAhead {
+    pub(crate) requests: Requests,
+    pub(crate) end: u8,
+}
+
+/// Whether all widths were found of the images of a block's sets, as far as these are lawful.
+fn is_found(
+    context: &LayerContext<'_>,
+    prepared: &Preparation<'_>,
+    source: &WidthSource<'_>,
+    block: &Block,
+) -> bool
+    requires prepared { prepared.now.problem ≡ context.now.instance.problem }
+    requires layer { layer_of block.now ≡ context.now.layer }
 {
-    if done.len() <= usize::from(ahead.end()) {
-        return ahead;
+    let instance = context.instance;
+    for set in block.masks() {
+        if instance.pairs.lawful(*set) && !source.is_found(prepared.image_of(*set).set) {
+            return false;
+        }
     }
-    WidthsAhead::up_to(alloc, ahead.problem(), likely_end(instance, done))
+    true
 }
 
 /// Adds what serves for the cells of a block's sets.
 fn add_needs(
     alloc: Global,
     context: &LayerContext<'_>,
-    orbits: &Orbits<'_>,
+    prepared: &Preparation<'_>,
     block: &Block,
     requests: &mut Requests,
 ) -> Result<(), AllocError>
-    requires orbits { orbits.now ≡ context.now.instance.problem }
+    requires prepared { prepared.now.problem ≡ context.now.instance.problem }
     requires layer { layer_of block.now ≡ context.now.layer }
 {
     let needs = needs_of_block(alloc, context.instance, context.before, block)?;
     for (i, set) in block.masks().iter().enumerate() {
         if needs[i] != 0 {
-            requests.add_image(&orbits.first_of(*set), needs[i]);
+            requests.add_image(&prepared.image_of(*set), needs[i]);
         }
     }
     Ok(())
 }
 
-/// What is wanted of the first sets of orbits, if variables may be exchanged and nothing was found
-/// ahead: all that serves for the cells of the next layer, and all members of larger sets up to the
-/// size to which rows are to be found.
-pub(crate) fn orbit_requests(
+/// Requests for all that serves for the cells of those blocks of the next layer of which not all
+/// was found yet.
+fn requests_of_layer(
     alloc: Global,
     instance: &Instance<'_>,
-    shared: &SharedTables<'_>,
-    ahead: &WidthsAhead<'_>,
+    prepared: &Preparation<'_>,
     done: &[Costs],
-) -> Result<Option<Requests>, AllocError>
-    requires shared { shared.now ≡ instance.now.problem }
+) -> Result<Requests, AllocError>
+    requires prepared { prepared.now.problem ≡ instance.now.problem }
     requires done { AreDone instance.now done.now }
 {
-    let Some(orbits) = shared.orbits() else {
-        return Ok(None);
-    };
-    if !ahead.is_empty() {
-        return Ok(None);
-    }
     let layer = Layer::of(alloc, instance.inputs(), done.len() as u8)?;
     let before = &done[done.len() - 1];
     let context = LayerContext::new(instance, &layer, before);
-    let larger = Wanted {
-        pairs: instance.pairs,
-        orbits: Some(orbits),
-        first: done.len() as u32 + 1,
-        last: u32::from(ahead.end()),
-    };
-    let mut requests = Requests::of_sets(alloc, instance.inputs(), &larger)?;
+    let mut requests = prepared.requests(alloc)?;
+    let source = prepared.source();
     for place in 0..layer.blocks() {
         let block = layer.block(place);
-        add_needs(alloc, &context, orbits, &block, &mut requests)?;
+        if !is_found(&context, prepared, &source, &block) {
+            add_needs(alloc, &context, prepared, &block, &mut requests)?;
+        }
     }
-    Ok(Some(requests))
+    Ok(requests)
+}
+
+/// What rows are to be found before the next layer, if not all that serve for its cells were: these,
+/// and with the same low bytes those of larger sets up to the size to which nearly whole layers are
+/// likely to be wanted.
+pub(crate) fn look_ahead(
+    alloc: Global,
+    instance: &Instance<'_>,
+    prepared: &Preparation<'_>,
+    done: &[Costs],
+) -> Result<Option<LookAhead>, AllocError>
+    requires prepared { prepared.now.problem ≡ instance.now.problem }
+    requires done { AreDone instance.now done.now }
+{
+    let mut requests = requests_of_layer(alloc, instance, prepared, done)?;
+    if requests.is_empty() {
+        return Ok(None);
+    }
+    prove!(instance.inputs() <= 16);
+    let size = done.len() as u8;
+    let end = if size > prepared.end() {
+        likely_end(instance, done).max(size)
+    } else {
+        prepared.end()
+    };
+    prepared.add_larger(&mut requests, size + 1, end);
+    Ok(Some(LookAhead { requests, end }))
 }

@@ -7,6 +7,7 @@ use order_model::{Limit, LowerBound, Pairs, Problem, Workers};
 use solutions::{layers_to_prepare, pairs_to_keep};
 use std::alloc::{AllocError, Global};
 use std::thread::Threads;
+use symmetries::Renaming;
 
 /// The pairs that a search with such a lower bound is likely to keep where some are asked for.
 fn likely_pairs(
@@ -31,20 +32,21 @@ fn likely_pairs(
 pub fn prepare<'a, R: Threads + Sync>(
     rt: &R,
     alloc: Global,
-    problem: &'a Problem,
+    renaming: &'a Renaming<'a>,
     pairs: &Pairs,
     limit: Limit,
     workers: Workers,
 ) -> Result<Preparation<'a>, AllocError>
-    requires { pairs.now.inputs ≡ problem.now.inputs }
-    ensures { IfOk result (λ p. p.problem ≡ problem.now) }
+    requires { pairs.now.inputs ≡ renaming.now.problem.inputs }
+    ensures { IfOk result (λ p. p.problem ≡ renaming.now.problem) }
 {
+    let problem = renaming.problem();
     let kept = likely_pairs(alloc, problem, pairs, limit.lower_bound)?;
     if workers.count() == 1 {
-        let prepared = Preparation::of(alloc, problem, &kept)?;
+        let prepared = Preparation::of(alloc, renaming, &kept)?;
         return Ok(prepared);
     }
     let end = layers_to_prepare(problem, pairs, &kept, limit);
-    let prepared = Preparation::by_workers(rt, alloc, problem, &kept, end, workers)?;
+    let prepared = Preparation::by_workers(rt, alloc, renaming, &kept, end, workers)?;
     Ok(prepared)
 }

@@ -1,9 +1,8 @@
 //! A worker at the board of a layer.
 
-ghost use Rattle.std.specs.Prelude.{◌≡◌, ℕ, false, [], Some, IfOk, IsTrue};
+ghost use Rattle.std.specs.Prelude.{◌≡◌, ℕ, IfOk, IsTrue};
 ghost use Rattle.definitions.specs.Orders.{has};
 ghost use Rattle.subset_layers.specs.Layers.{block_masks};
-ghost use Rattle.compaction.specs.Ahead.{widths_ahead};
 ghost use Rattle.layer_core.specs.Instances.{cell_for};
 ghost use Rattle.layer_board.specs.Views.{has_claimed, knows_filled};
 ghost use Rattle.layer_core.specs.Pairing.{pair_of};
@@ -13,21 +12,17 @@ ghost use Rattle.order_solve.specs.Gains.{gains, gained, IsPosted, StaysClaimed}
 
 use crate::cells::cells_of_block;
 use crate::context::LayerContext;
-use compaction::{Tallies, Tally, WidthsAhead};
+use compaction::Tally;
 use layer_board::{Board, BoardSeat};
 use order_model::{Gate, Mask};
 use std::alloc::{AllocError, Global};
 use subset_layers::{Block, Cell};
 
-/// What a worker hands back: its seat, how many widths its cells took and how many it found ahead,
-/// and the rows that it found.
+/// What a worker hands back: its seat, and how many widths its cells took.
 #[derive(Drop)]
-pub struct WorkerResult<'a> {
+pub struct WorkerResult {
     pub seat: BoardSeat,
     pub tally: Tally,
-    pub ahead: Tally,
-    pub found: WidthsAhead<'a>,
-    pub ghost same_problem: { found.problem ≡ seat.board.brief.instance.problem },
 }
 
 /// A worker at a board: what it is lent, its number, and what it calls between a claim and its
@@ -92,14 +87,14 @@ fn post_block<G: Gate>(worker: &Worker<'_, G>, seat: &mut BoardSeat, block: &Blo
 /// called for each set between the claim of its block and its post. Workers are numbered from 1.
 ///
 /// If memory is refused the seat is lost, and what was posted stays.
-pub fn work_layer<'a, G: Gate>(
+pub fn work_layer<G: Gate>(
     alloc: Global,
     board: &Board,
     mut seat: BoardSeat,
     worker: u8,
-    context: &LayerContext<'a>,
+    context: &LayerContext<'_>,
     gate: &G,
-) -> Result<WorkerResult<'a>, AllocError>
+) -> Result<WorkerResult, AllocError>
     requires seat { seat.board ≡ board.now }
     requires instance { board.now.brief.instance ≡ context.now.instance }
     requires layer { board.now.brief.layer ≡ context.now.layer }
@@ -112,24 +107,13 @@ pub fn work_layer<'a, G: Gate>(
     ensures posted { IfOk result
         (λ e. (mask : ℕ) → IsTrue (gains seat e.seat mask) → IsTrue (knows_filled e.seat mask)) }
     ensures tally { IfOk result (λ e. e.tally ≡ widths_for context.now.instance (gained seat e.seat)) }
-    ensures ahead { IfOk result (λ e. e.ahead ≡ widths_ahead e.found) }
-    ensures alone { context.now.has_source ≡ false → IfOk result
-        (λ e. (e.ahead ≡ 0) × (e.found.rows ≡ [])) }
 {
     prove!(context.instance.inputs() <= 16);
     let worker = Worker::new(board, context, worker, gate);
-    let mut tallies = Tallies::new();
-    let instance = context.instance;
-    let mut found = WidthsAhead::up_to(alloc, instance.problem, 0);
+    let mut tally = Tally::new();
     while let Some(claim) = board.claim(&mut seat) {
-        let cells = cells_of_block(alloc, claim.block(), context, &mut found, &mut tallies)?;
+        let cells = cells_of_block(alloc, claim.block(), context, &mut tally)?;
         post_block(&worker, &mut seat, claim.block(), &cells);
     }
-    let Tallies { cells, ahead } = tallies;
-    Ok(WorkerResult {
-        seat,
-        tally: cells,
-        ahead,
-        found,
-    })
+    Ok(WorkerResult { seat, tally })
 }

@@ -10,7 +10,7 @@ use crate::best::{Best, best_order, small_best};
 use crate::diagrams::{file_order_levels_of, first_diagram};
 use crate::search_input::SearchInput;
 use order_model::{Diagram, Limit, LowerBound, Order, Workers, total};
-use order_solve::{Preparation, prepare};
+use order_solve::{Preparation, Renaming, prepare, renaming_of};
 use sifting::laws::diagrams_have_their_functions_tables;
 use sifting::{Manager, Sifted};
 use small_search::is_small;
@@ -65,9 +65,11 @@ fn manager_of(
 fn prepare_below<'a, R: Threads + Sync>(
     rt: &R,
     alloc: Global,
-    instance: &SearchInput<'a>,
+    instance: &SearchInput<'_>,
+    renaming: &'a Renaming<'a>,
     size: u32,
 ) -> Result<Preparation<'a>, AllocError>
+    requires { renaming.now.problem ≡ instance.now.tables.now }
     ensures { IfOk result (λ p. p.problem ≡ instance.now.tables.now) }
 {
     let limit = Limit {
@@ -78,9 +80,8 @@ fn prepare_below<'a, R: Threads + Sync>(
             LowerBound::Widths
         },
     };
-    let problem = instance.tables.problem();
     let workers = instance.busy_workers();
-    let prepared = prepare(rt, alloc, problem, instance.pairs, limit, workers)?;
+    let prepared = prepare(rt, alloc, renaming, instance.pairs, limit, workers)?;
     Ok(prepared)
 }
 
@@ -88,17 +89,19 @@ fn prepare_below<'a, R: Threads + Sync>(
 fn sift_and_prepare<'a, R: Threads + Sync>(
     rt: &R,
     alloc: Global,
-    instance: &SearchInput<'a>,
+    instance: &SearchInput<'_>,
+    renaming: &'a Renaming<'a>,
     manager: Manager,
 ) -> Result<(Sifting, Preparation<'a>), AllocError>
-    requires { IsFirstManager instance.now manager }
+    requires manager { IsFirstManager instance.now manager }
+    requires renaming { renaming.now.problem ≡ instance.now.tables.now }
     ensures sifting { IfOk result (λ r. IsSiftingFor instance.now r.0) }
     ensures prepared { IfOk result (λ r. r.1.problem ≡ instance.now.tables.now) }
 {
     let size = manager.size();
     let workers = instance.workers;
     if instance.busy_workers().count() == 1 {
-        let prepared = prepare_below(rt, alloc, instance, size)?;
+        let prepared = prepare_below(rt, alloc, instance, renaming, size)?;
         let sifting = sift(rt, alloc, manager, workers)?;
         return Ok((sifting, prepared));
     }
@@ -108,9 +111,9 @@ fn sift_and_prepare<'a, R: Threads + Sync>(
         ensures { IfOk result (IsSiftingOf manager) }
     { sift(rt, alloc, manager, workers) };
     let preparing = move || -> Result<Preparation<'_>, AllocError>
-        requires { IsSync R.row }
+        requires { IsSync R.row × (renaming.now.problem ≡ instance.now.tables.now) }
         ensures { IfOk result (λ p. p.problem ≡ instance.entry.now.tables.now) }
-    { prepare_below(rt, alloc, instance, size) };
+    { prepare_below(rt, alloc, instance, renaming, size) };
     let (sifting, prepared) = thread::join(rt, sifting, preparing);
     Ok((sifting?, prepared?))
 }
@@ -180,7 +183,8 @@ pub(crate) fn search<R: Threads + Sync>(
     if is_small(instance.tables.problem()) {
         return search_small(alloc, instance, manager, file_size);
     }
-    let (sifting, prepared) = sift_and_prepare(rt, alloc, instance, manager)?;
+    let renaming = renaming_of(alloc, instance.tables.problem())?;
+    let (sifting, prepared) = sift_and_prepare(rt, alloc, instance, &renaming, manager)?;
     let Sifting {
         sifted,
         size,

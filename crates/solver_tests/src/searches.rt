@@ -4,7 +4,7 @@ ghost use Rattle.std.specs.Prelude.{◌≡◌};
 
 use counted_io::Counting;
 use order_model::{Gate, Limit, LowerBound, NoGate, Order, Pairs, SizedOrder, VarIx, Workers};
-use order_solve::{Solution, find_optimum_alone, prepare, solve, solve_alone};
+use order_solve::{Solution, find_optimum_alone, prepare, renaming_of, solve, solve_alone};
 use pla_reader::read_cover;
 use sifting::laws::diagrams_have_their_problems_tables;
 use sifting::{Manager, Sifted};
@@ -63,7 +63,8 @@ fn solution_of<R: Abort + Threads + Sync, G: Gate>(
     };
     let problem = tables.problem();
     let pairs = Pairs::none(problem.inputs());
-    let prepared = prepare(rt, alloc, problem, &pairs, limit, workers).expect(rt, "memory");
+    let renaming = renaming_of(alloc, problem).expect(rt, "memory");
+    let prepared = prepare(rt, alloc, &renaming, &pairs, limit, workers).expect(rt, "memory");
     let sifted = sifted_of(rt, alloc, tables);
     solve(rt, alloc, prepared, sifted, workers, gate).expect(rt, "memory")
 }

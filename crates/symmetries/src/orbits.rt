@@ -10,7 +10,7 @@ use std::alloc::{AllocError, Global};
 use std::marker::Model;
 
 /// No more steps are followed from a set; a longer way costs only time.
-const MOST_STEPS: u8 = 32;
+const MOST_STEPS: u8 = 64;
 
 /// The most exchanges that are used; each that is found makes two groups of variables one.
 const MOST_EXCHANGES: usize = 16;

@@ -54,8 +54,7 @@ loop-place-preserved c =
           (blocks_more t l c.loop-place.place blk old new
           (subst (λ (z : LayerOf). slice_get (blocks_of z) c.loop-place.place ≡ Some blk) same c.block-block.ensures)
           c.loop-place.invariant.placed (λ q h. stay q (subst (λ (cells : List Cell). IsPlaced t l cells q) (sym v) h)) put p lt low);
-      found = c.in_ok-own.ensures.counts.problem ∙ c.loop-place.invariant.found;
     }
 
-pub returns-clause-cells : goal.returns-clause-cells
-returns-clause-cells c = grind (arith, all_placed, block_below)
+pub returns : goal.returns
+returns c = grind (arith, all_placed, block_below)

@@ -8,5 +8,4 @@ invariant-loop-place l = record {
   length_is : length l.cells.items ≡ length (masks_of l.context.layer);
   placed : (p : ℕ) → p < length (masks_of l.context.layer) → block_place l.context.layer p < l.place →
       IsPlaced l.context.instance l.context.layer l.cells.items p;
-  found : l.found.problem ≡ l.context.instance.problem;
 }

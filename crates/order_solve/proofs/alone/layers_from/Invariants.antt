@@ -6,5 +6,5 @@ abbrev pub invariant-loop-size : goal.invariant-loop-size
 invariant-loop-size l = record {
   many : length l.layers.items ≡ l._size + 1;
   layers_are : AreLayersFor l.instance l.layers.items;
-  ahead : l.ahead.problem ≡ l.instance.problem;
+  prepared : l.prepared.problem ≡ l.instance.problem;
 }

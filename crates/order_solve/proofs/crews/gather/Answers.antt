@@ -2,7 +2,6 @@ use Rattle.std.proofs.Common.{◌≡◌, Result, IfOk, IfSome, ap, ◌∙◌, su
 use Rattle.std.proofs.lemmas.List.Elements.{All-pop}
 use Rattle.std.specs.declared.alloc.AllocError.{AllocError}
 use Rattle.layer_board.specs.Views.{BoardId}
-use Rattle.compaction.specs.Ahead.{AheadOf}
 use Rattle.order_solve.specs.declared.worker.WorkerResult.{WorkerResult}
 use Rattle.order_solve.proofs.crews.gather.Goals as goal
 
@@ -11,12 +10,9 @@ abbrev EndsAt : BoardId → Result WorkerResult AllocError → Type 0
 EndsAt b r = IfOk r (λ e. e.seat.board ≡ b)
 
 pub loop-end-preserved : goal.loop-end-preserved
-loop-end-preserved c = (
-  (All-pop (EndsAt c.args.board.now) _ _ _ c.pop-in-loop-end.ensures.items c.loop-end.invariant.0).0,
-  ap (λ (z : AheadOf). z.problem) c.in_ok-append-2.ensures.ok ∙ c.loop-end.invariant.1,
-)
+loop-end-preserved c = (All-pop (EndsAt c.args.board.now) _ _ _ c.pop-in-loop-end.ensures.items c.loop-end.invariant).0
 
-pub returns-clause-seat : goal.returns-clause-seat
-returns-clause-seat c =
+pub returns : goal.returns
+returns c =
     let at = EndsAt c.args.board.now in
     subst at c.in_ok-seat.was (subst (λ o. IfSome o at) c.unwrap.ensures (All-pop at _ _ _ c.pop.ensures.items c.requires.seats).1)

@@ -9,13 +9,13 @@ use Rattle.order_solve.proofs.layers.next_layer.Goals as goal
 pub new-requires : goal.new-requires
 new-requires g c = grind (arith, slice_get_read)
 
-pub returns-clause-layer : goal.returns-clause-layer
-returns-clause-layer g c =
+pub returns : goal.returns
+returns g c =
     let t = c.args.instance.now in
     let size = length c.args.done.now in
     layer_is t size c.in_ok-layer.layer c.in_ok-cells.cells.items c.of-2.result
     (c.in_ok-layer.ensures ∙ ap (λ n. layer_with n size) c.inputs.ensures.value) c.of-2.ensures.value
-    (c.in_ok-cells.ensures.cells
+    (c.in_ok-cells.ensures
     ∙ (ap (λ (b : ContextOf). map (cell_for b.instance) (masks_of b.layer)) c.with_source-context.ensures
     ∙ ap (λ (b : ContextOf). map (cell_for b.instance) (masks_of b.layer)) c.new.ensures))
     c.of-2.ensures.exact

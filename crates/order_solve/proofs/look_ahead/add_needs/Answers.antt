@@ -10,12 +10,12 @@ pub needs_of_block-requires-clause-next : goal.needs_of_block-requires-clause-ne
 needs_of_block-requires-clause-next c =
     c.requires.layer ∙ ap (λ (b : ContextOf). b.layer) (sym c.context.view_is) ∙ own_layer _ c.context.invariant.0
 
-pub first_of-requires : goal.first_of-requires
-first_of-requires c =
+pub image_of-requires : goal.image_of-requires
+image_of-requires c =
     let is = c.masks-set-items.ensures in
     let small = (block_of_byte c.args.block.now c.loop-i.i (subst (λ (ms : List ℕ). c.loop-i.i < length ms) is c.loop-i-test.true)).0 in
     let own = c.requires.layer ∙ ap (λ (b : ContextOf). b.layer) (sym c.context.view_is) ∙ own_layer _ c.context.invariant.0 in
     subst (λ n. get_or c.masks-set-items.result.now c.loop-i.i 0 < 2 ^ n)
     (ap (λ (l : LayerOf). l.inputs) own ∙ c.context.invariant.0.inputs ∙ ap (λ (b : ContextOf). b.instance.problem.inputs) c.context.view_is
-    ∙ sym (ap (λ (p : TruthTables). p.inputs) c.requires.orbits))
+    ∙ sym (ap (λ (p : TruthTables). p.inputs) c.requires.prepared))
     (subst (λ (ms : List ℕ). get_or ms c.loop-i.i 0 < 2 ^ c.args.block.now.inputs) (sym is) small)

@@ -1,7 +1,6 @@
 use Rattle.std.proofs.Common.{rules, ◌≡◌, ℕ, ◌+◌, ◌≤◌, sym, ap, ◌∙◌, subst, arith}
 use Rattle.subset_layers.specs.Layers.{LayerOf, BlockOf, layer_of, block_masks}
 use Rattle.definitions.specs.Orders.{has}
-use Rattle.compaction.specs.Ahead.{AheadOf}
 use Rattle.layer_board.specs.Views.{BoardId}
 use Rattle.solutions.specs.Needs.{widths_for}
 use Rattle.order_solve.specs.LayerContexts.{ContextOf}
@@ -9,7 +8,7 @@ use Rattle.order_solve.specs.Gains.{IsPosted}
 use Rattle.order_solve.proofs.Posts.{no_more_stays}
 use Rattle.solutions.proofs.BlockPlaces.{block_layer}
 use Rattle.order_solve.proofs.ClaimedSets.{few_gained}
-use Rattle.order_solve.proofs.Rounds.{Working, working_none, working_stays, working_round, round_gains, claims_at, round_closes, few_room, few_round}
+use Rattle.order_solve.proofs.Rounds.{Working, working_none, working_stays, working_round, round_gains, claims_at, round_closes}
 use Rattle.order_solve.proofs.worker.work_layer.Goals as goal
 
 pub loop-claim-init : goal.loop-claim-init
@@ -27,12 +26,12 @@ cells_of_block-requires-clause-room g c =
     let s1 = c.claim.new.seat in
     let p = c.in-Some.claim.place in
     let b = c.in-Some.claim.block in
-    let w = c.loop-claim.invariant.working in
+    let w = c.loop-claim.invariant in
     let e = c.in-Some.ensures in
     let h = claims_at c.args.board.now s s1 p b (w.board ∙ c.requires.seat) e.block e.gained e.claimed e.later in
-    let gains : widths_for t _ ≡ c.loop-claim.tallies.cells + widths_for t (block_masks c.block.result.now) =
-    round_gains t c.args.seat s s1 s1 c.loop-claim.tallies.cells p b w h
-    ∙ ap (λ (z : BlockOf). c.loop-claim.tallies.cells + widths_for t (block_masks z)) (sym c.block.ensures) in
+    let gains : widths_for t _ ≡ c.loop-claim.tally + widths_for t (block_masks c.block.result.now) =
+    round_gains t c.args.seat s s1 s1 c.loop-claim.tally p b w h
+    ∙ ap (λ (z : BlockOf). c.loop-claim.tally + widths_for t (block_masks z)) (sym c.block.ensures) in
     let small : t.problem.inputs ≤ 16 =
     (let f = c.inputs.ensures.few in
     let v = c.inputs.ensures.value ∙ ap (λ (z : ContextOf). z.instance.problem.inputs) c.context.view_is in omega (arith, f, v)) in
@@ -41,14 +40,13 @@ cells_of_block-requires-clause-room g c =
     ∙ ap (λ (z : ContextOf). z.layer.inputs) (sym c.context.view_is) ∙ ap (λ (l : LayerOf). l.inputs) c.context.invariant.0.layer
     ∙ ap (λ (z : ContextOf). z.instance.problem.inputs) c.context.view_is)
     small in
-    let room = few_room s s1 s1 c.loop-claim.tallies.ahead p b h c.loop-claim.invariant.few in
-    record { cells = omega (arith, gains, few); ahead = omega (arith, room) }
+    omega (arith, gains, few)
 
 pub loop-claim-smaller : goal.loop-claim-smaller
 loop-claim-smaller g c =
     let s = c.loop-claim.seat in
     let s1 = c.claim.new.seat in
-    let w = c.loop-claim.invariant.working in
+    let w = c.loop-claim.invariant in
     let e = c.in-Some.ensures in
     round_closes s s1 c.post_block.new.seat c.in-Some.claim.place c.in-Some.claim.block
     (claims_at c.args.board.now s s1 c.in-Some.claim.place c.in-Some.claim.block (w.board ∙ c.requires.seat) e.block e.gained e.claimed
@@ -63,21 +61,14 @@ loop-claim-preserved g c =
     let s2 = c.post_block.new.seat in
     let p = c.in-Some.claim.place in
     let b = c.in-Some.claim.block in
-    let w = c.loop-claim.invariant.working in
+    let w = c.loop-claim.invariant in
     let e = c.in-Some.ensures in
     let h = claims_at c.args.board.now s s1 p b (w.board ∙ c.requires.seat) e.block e.gained e.claimed e.later in
     let all : (mask : ℕ) → has (block_masks b) mask ≡ _ → IsPosted s2 mask =
     λ mask m. c.post_block.ensures.posted mask (ap (λ (z : BlockOf). has (block_masks z) mask) c.block-in-Some.ensures ∙ m) in
-    record {
-      working =
-          subst (λ (n : ℕ). Working t c.args.seat s2 n)
-          (sym (c.in_ok-cells.ensures.counts.cells ∙ ap (λ (z : BlockOf). c.loop-claim.tallies.cells + widths_for t (block_masks z)) c.block.ensures))
-          (working_round t c.args.seat s s1 s2 c.loop-claim.tallies.cells p b w h c.post_block.ensures.stays all);
-      found = c.in_ok-cells.ensures.counts.problem ∙ c.loop-claim.invariant.found;
-      ahead = (let r = c.in_ok-cells.ensures.counts.ahead in let i = c.loop-claim.invariant.ahead in omega (arith, r, i));
-      few = few_round s s1 s2 c.loop-claim.tallies.ahead p b h c.loop-claim.invariant.few _ c.post_block.ensures.stays c.in_ok-cells.ensures.counts.few;
-      alone = λ none. ap (λ (z : AheadOf). z.rows) (c.in_ok-cells.ensures.alone none) ∙ c.loop-claim.invariant.alone none;
-    }
+    subst (λ (n : ℕ). Working t c.args.seat s2 n)
+    (sym (c.in_ok-cells.ensures.counts ∙ ap (λ (z : BlockOf). c.loop-claim.tally + widths_for t (block_masks z)) c.block.ensures))
+    (working_round t c.args.seat s s1 s2 c.loop-claim.tally p b w h c.post_block.ensures.stays all)
 
 pub returns-clause-ended : goal.returns-clause-ended
 returns-clause-ended g c = search rules

@@ -5,7 +5,7 @@ use Rattle.compaction.proofs.ImageRows.{row_of_image}
 use Rattle.compaction.proofs.high_walk.ByteRows.row_by_image.Goals as goal
 
 pub returns-then-asks_for : goal.returns-then-asks_for
-returns-then-asks_for c p set few holds keeps byte members =
+returns-then-asks_for c p q set few holds keeps byte members =
     let b = c.args.self.now in
     let T = c.args.image.now.set in
     let variables = c.args.image.now.variables in
@@ -22,7 +22,7 @@ returns-then-asks_for c p set few holds keeps byte members =
     ∙ ap (λ k. get_or c.self.inside.rows.items k []) place
     ∙ ap (λ (s : RowsOf). get_or s.rows (T / 256) []) c.self.view_is in
     let long : length c.deref.result.now ≡ length b.needed = ap length c.deref.ensures.value ∙ ap (λ (s : RowsOf). length s.needed) c.self.view_is in
-    row_of_image p b.low b.needed b.rows set T c.args.needed variables c.members_moved.result few holds.rows keeps byte (omega arith) members
+    row_of_image p q b.low b.needed b.rows set T c.args.needed variables c.members_moved.result few holds.rows keeps byte (omega arith) members
     (λ x small one. subst (λ m. bit_at m (slice_index variables x) ≡ 1) asked (c.asks_for.ensures c.if-asks_for.true x small one))
     (λ x small. c.members_moved.ensures x small
     ∙ ap (λ (us : List ℕ). cond (eqb (bit_at c.args.needed x) 1) (slice_index us (slice_index variables x)) 0) row)

@@ -1,9 +1,9 @@
 use Rattle.std.proofs.Common.{◌<◌, ◌^◌, ℕ, List, get_or, length, subst, sym}
 use Rattle.compaction.proofs.BlockRows.{block_of_byte}
-use Rattle.compaction.proofs.ahead.WidthSource.rows_by_orbits.Goals as goal
+use Rattle.compaction.proofs.source.WidthSource.rows_found.Goals as goal
 
-pub row_by_orbit-requires-clause-set : goal.row_by_orbit-requires-clause-set
-row_by_orbit-requires-clause-set c =
+pub row_of-requires-clause-set : goal.row_of-requires-clause-set
+row_of-requires-clause-set c =
     let is = c.masks-mask-items.ensures in
     let small = (block_of_byte c.args.block.now c.loop-i.i (subst (λ (ms : List ℕ). c.loop-i.i < length ms) is c.loop-i-test.true)).0 in
     subst (λ n. get_or c.masks-mask-items.result.now c.loop-i.i 0 < 2 ^ n) c.requires.asked.inputs

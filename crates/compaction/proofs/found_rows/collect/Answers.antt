@@ -1,6 +1,6 @@
 use Rattle.std.proofs.Common.{arith}
 use Rattle.std.proofs.lemmas.Grind.{common_steps}
-use Rattle.compaction.proofs.preparation.collect.Goals as goal
+use Rattle.compaction.proofs.found_rows.collect.Goals as goal
 
 pub loop-part-init : goal.loop-part-init
 loop-part-init c = grind arith

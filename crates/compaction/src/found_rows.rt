@@ -1,0 +1,152 @@
+//! Rows of what is asked for, low byte by low byte, by one thread or several.
+
+ghost use Rattle.std.specs.Prelude.{◌≡◌, All, IfOk};
+ghost use Rattle.compaction.specs.Rows.{HoldsRows};
+
+use crate::ahead::WidthsAhead;
+use crate::high_walk::{ByteRows, walked_rows};
+use crate::request::WidthRequest;
+use crate::requests::Requests;
+use crate::shared_tables::SharedTables;
+use order_model::{Problem, Workers};
+use std::alloc::{AllocError, Global};
+use std::sync::atomic::{AtomicU64, Ordering};
+use std::thread;
+use std::thread::Threads;
+
+/// The low bytes, which threads take one after another: those with the largest tables first.
+#[derive(Drop)]
+struct Turns {
+    bytes: [u8; 256],
+    taken: AtomicU64,
+}
+
+/// All bytes, by rising number of members.
+fn bytes_by_size() -> [u8; 256] {
+    let mut bytes = [0; 256];
+    let mut count = 0usize;
+    for size in 0..9u32 {
+        for byte in 0..256u16 {
+            if byte.count_ones() == size && count < 256 {
+                bytes[count] = byte as u8;
+                count += 1;
+            }
+        }
+    }
+    bytes
+}
+
+impl Turns {
+    /// None is taken.
+    fn new() -> Turns {
+        Turns {
+            bytes: bytes_by_size(),
+            taken: AtomicU64::new(0),
+        }
+    }
+
+    /// The next low byte, if one is left.
+    fn next(&self) -> Option<u8> {
+        let turn = self.taken.fetch_add(1, Ordering::SeqCst);
+        if turn < 256 {
+            Some(self.bytes[turn as usize])
+        } else {
+            None
+        }
+    }
+}
+
+impl<'a> SharedTables<'a> {
+    /// The rows of what is wanted of the sets with a low byte.
+    fn rows_of(&self, alloc: Global, request: &WidthRequest) -> Result<ByteRows, AllocError>
+        requires { request.now.inputs ≡ self.now.inputs }
+        ensures { IfOk result (HoldsRows self.now) }
+    {
+        let request = request.try_clone(alloc)?;
+        let (byte, _) = walked_rows(alloc, self, request)?;
+        Ok(byte)
+    }
+
+    /// The rows of the low bytes that a thread comes to take.
+    fn rows_by_turns(
+        &self,
+        alloc: Global,
+        requests: &Requests,
+        end: u8,
+        turns: &Turns,
+    ) -> Result<WidthsAhead<'a>, AllocError>
+        ensures { IfOk result (λ found. found.problem ≡ self.now) }
+    {
+        let mut found = WidthsAhead::up_to(alloc, self.problem(), end);
+        let inputs = self.problem().inputs();
+        for _turn in 0..256u32 {
+            let Some(low) = turns.next() else {
+                break;
+            };
+            if let Some(request) = requests.of_byte(low)
+                && request.inputs == inputs
+            {
+                let byte = self.rows_of(alloc, request)?;
+                found.keep(byte)?;
+            }
+        }
+        Ok(found)
+    }
+
+    /// The rows of what is wanted, by the calling thread. `end` is noted as the size of the largest
+    /// sets of which rows are to be found.
+    pub(crate) fn rows_alone(
+        &self,
+        alloc: Global,
+        requests: &Requests,
+        end: u8,
+    ) -> Result<WidthsAhead<'a>, AllocError>
+        ensures { IfOk result (λ found. found.problem ≡ self.now) }
+    {
+        self.rows_by_turns(alloc, requests, end, &Turns::new())
+    }
+}
+
+/// What all threads found.
+fn collect<'a>(
+    alloc: Global,
+    problem: &'a Problem,
+    end: u8,
+    parts: Vec<Result<WidthsAhead<'_>, AllocError>>,
+) -> Result<WidthsAhead<'a>, AllocError>
+    requires { All (λ r. IfOk r (λ found. found.problem ≡ problem.now)) parts.items }
+    ensures { IfOk result (λ found. found.problem ≡ problem.now) }
+{
+    let mut parts = parts;
+    let mut found = WidthsAhead::up_to(alloc, problem, end);
+    while let Some(part) = parts.pop() {
+        found.append(part?)?;
+    }
+    Ok(found)
+}
+
+impl<'a> SharedTables<'a> {
+    /// The rows of `rows_alone`, by the workers; none if `end` is 0.
+    pub(crate) fn rows_by_workers<R: Threads + Sync>(
+        &self,
+        rt: &R,
+        alloc: Global,
+        requests: &Requests,
+        end: u8,
+        workers: Workers,
+    ) -> Result<WidthsAhead<'a>, AllocError>
+        ensures { IfOk result (λ found. found.problem ≡ self.now) }
+    {
+        let count = usize::from(workers.count()) * usize::from(end.min(1));
+        let turns = Turns::new();
+        let parts = thread::map_indices(
+            rt,
+            alloc,
+            count,
+            &|_worker: usize| -> Result<WidthsAhead<'_>, AllocError>
+                ensures { IfOk result (λ found. found.problem ≡ self.entry.now) }
+            { self.rows_by_turns(alloc, requests, end, &turns) },
+        )?;
+        collect(alloc, self.problem(), end, parts)
+    }
+}

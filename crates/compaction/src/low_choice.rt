@@ -1,0 +1,250 @@
+//! Which variables are to be the lowest ones: eight under which the truth tables have few distinct
+//! strips, one of 256 entries for each assignment of the others. What is chosen decides time alone.
+
+ghost use Rattle.std.specs.Prelude.{◌≡◌, ◌<◌, ◌≤◌, length, IfOk};
+
+use order_model::packed::lower_half;
+use order_model::{Mask, Problem, VarIx};
+use std::alloc::{AllocError, Global};
+use symmetries::Renaming;
+
+/// An odd number whose multiples spread over the words of 64 bits.
+const SPREAD: u64 = 0x9E37_79B9_7F4A_7C15;
+
+/// The most pairs of variables that change places.
+const MOST_CHANGES: u8 = 8;
+
+/// A hash with one word more.
+fn mixed(hash: u64, word: u64) -> u64 {
+    let product = (hash ^ word).wrapping_mul(SPREAD);
+    product ^ (product >> 29)
+}
+
+/// A hash of two hashes, in this order.
+fn joined(first: u64, second: u64) -> u64 {
+    mixed(mixed(0, first), second)
+}
+
+/// Which of 16,384 values some hashes have.
+#[derive(Clone, Copy)]
+struct Seen {
+    words: [u64; 256],
+}
+
+impl Seen {
+    /// Notes a hash.
+    fn add(&mut self, hash: u64) {
+        let value = hash >> 50;
+        if let Some(word) = self.words.get_mut((value / 64) as usize) {
+            *word |= 1 << (value % 64);
+        }
+    }
+
+    /// How many values there are.
+    fn count(&self) -> u32 {
+        let mut count = 0u32;
+        for word in &self.words {
+            count = count.wrapping_add(word.count_ones());
+        }
+        count
+    }
+}
+
+/// Of each strip a hash of the half in which some low variable is 0, and one of the other half.
+#[derive(Drop)]
+struct Halves {
+    lower: Vec<u64>,
+    upper: Vec<u64>,
+}
+
+impl Halves {
+    /// The halves of strips of four words by a low variable.
+    fn of(alloc: Global, words: &[u64], low: VarIx) -> Result<Halves, AllocError>
+        requires { low < 8 }
+    {
+        let strips = words.len() / 4;
+        let mut lower = Vec::with_capacity(alloc, strips)?;
+        let mut upper = Vec::with_capacity(alloc, strips)?;
+        for strip in 0..strips {
+            let mut halves = (0, 0);
+            for place in 0..4 {
+                let word = words[4 * strip + place];
+                if low < 6 {
+                    let mask = lower_half(low);
+                    halves.0 = mixed(halves.0, word & mask);
+                    halves.1 = mixed(halves.1, word.wrapping_shr(1 << low) & mask);
+                } else if (place >> (low - 6)) & 1 == 0 {
+                    halves.0 = mixed(halves.0, word);
+                } else {
+                    halves.1 = mixed(halves.1, word);
+                }
+            }
+            lower.push(halves.0)?;
+            upper.push(halves.1)?;
+        }
+        Ok(Halves { lower, upper })
+    }
+
+    /// About how many distinct strips there are.
+    fn count(&self) -> u32 {
+        let mut seen = Seen { words: [0; 256] };
+        for (lower, upper) in self.lower.iter().zip(&self.upper) {
+            seen.add(joined(*lower, *upper));
+        }
+        seen.count()
+    }
+
+    /// About how many there are if the low variable changes places with a high one, which is so
+    /// many places above the lowest of these.
+    fn count_after(&self, place: u8) -> u32
+        requires { place < 8 }
+    {
+        let mut seen = Seen { words: [0; 256] };
+        let step = 1usize << place;
+        for halves in [&self.lower, &self.upper] {
+            for (strip, hash) in halves.iter().enumerate() {
+                if (strip >> place) & 1 == 0
+                    && let Some(other) = halves.get(strip | step)
+                {
+                    seen.add(joined(*hash, *other));
+                }
+            }
+        }
+        seen.count()
+    }
+}
+
+/// Truth tables whose variables change places.
+#[derive(Drop)]
+struct Tables {
+    words: Vec<u64>,
+    /// The variable at each place.
+    variables: [VarIx; 16],
+}
+
+/// Two places at which variables change, and about how many distinct strips there are then.
+#[derive(Clone, Copy)]
+struct Change {
+    low: VarIx,
+    high: VarIx,
+    strips: u32,
+    ghost is_low: { low < 8 },
+    ghost is_high: { high < 16 },
+}
+
+impl Tables {
+    /// The tables of a problem.
+    fn of(alloc: Global, problem: &Problem) -> Result<Tables, AllocError> {
+        let mut words = Vec::new(alloc);
+        for output in 0..problem.outputs() {
+            words.extend_from_slice(problem.words(output))?;
+        }
+        Ok(Tables {
+            words,
+            variables: [0, 1, 2, 3, 4, 5, 6, 7, 8, 9, 10, 11, 12, 13, 14, 15],
+        })
+    }
+
+    /// The change that leaves the fewest strips.
+    fn best_change(&self, alloc: Global, inputs: u8) -> Result<Option<Change>, AllocError>
+        requires { inputs ≤ 16 }
+    {
+        let mut best: Option<Change> = None;
+        for low in 0..8 {
+            let halves = Halves::of(alloc, &self.words, low)?;
+            for high in 8..inputs {
+                let strips = halves.count_after(high - 8);
+                if best.is_none_or(|change| strips < change.strips) {
+                    best = Some(Change { low, high, strips });
+                }
+            }
+        }
+        Ok(best)
+    }
+
+    /// Lets the variables at two places change.
+    fn make(&mut self, change: Change) {
+        self.variables
+            .swap(change.low as usize, change.high as usize);
+        exchange(&mut self.words, change.low, change.high);
+    }
+
+    /// The variables at the eight lowest places.
+    fn lowest(&self) -> Mask {
+        let mut set: Mask = 0;
+        for place in 0..8 {
+            let variable = self.variables[place];
+            if variable < 16 {
+                set |= 1 << variable;
+            }
+        }
+        set
+    }
+}
+
+/// Lets a low variable and a high one change places in truth tables.
+fn exchange(words: &mut [u64], low: VarIx, high: VarIx)
+    requires low { low < 8 }
+    requires high { high < 16 }
+{
+    let above = 1usize << high.saturating_sub(6);
+    for place in 0..words.len() {
+        if place & above != 0 {
+            continue;
+        }
+        if low < 6 {
+            let other = place | above;
+            if other < words.len() {
+                let shift = 1u32 << low;
+                let moved = (words[place].wrapping_shr(shift) ^ words[other]) & lower_half(low);
+                words[place] ^= moved.wrapping_shl(shift);
+                words[other] ^= moved;
+            }
+        } else {
+            let below = 1usize << (low - 6);
+            let other = (place ^ below) | above;
+            if place & below != 0 && other < words.len() {
+                words.swap(place, other);
+            }
+        }
+    }
+}
+
+/// Eight variables for the lowest places, if others than those that are there leave at most three
+/// quarters of the distinct strips: from the lowest ones by one change after another, each the best.
+fn lowest_of(alloc: Global, problem: &Problem) -> Result<Option<Mask>, AllocError>
+    requires { problem.now.inputs ≤ 16 }
+{
+    let mut tables = Tables::of(alloc, problem)?;
+    let first = Halves::of(alloc, &tables.words, 0)?.count();
+    let mut fewest = first;
+    for _change in 0..MOST_CHANGES {
+        match tables.best_change(alloc, problem.inputs())? {
+            Some(change) if change.strips < fewest => {
+                fewest = change.strips;
+                tables.make(change);
+            }
+            _ => break,
+        }
+    }
+    if fewest <= first - first / 4 {
+        Ok(Some(tables.lowest()))
+    } else {
+        Ok(None)
+    }
+}
+
+/// A renaming by which the lowest variables are ones under which class tables are small; none if it
+/// gains little, or if there are no others.
+pub fn renaming_of<'a>(alloc: Global, problem: &'a Problem) -> Result<Renaming<'a>, AllocError>
+    ensures { IfOk result (λ r. r.problem ≡ problem.now) }
+{
+    prove!(problem.inputs() <= 16);
+    if problem.inputs() <= 8 {
+        return Ok(Renaming::none(problem));
+    }
+    match lowest_of(alloc, problem)? {
+        Some(set) => Renaming::to_lowest(alloc, problem, set),
+        None => Ok(Renaming::none(problem)),
+    }
+}

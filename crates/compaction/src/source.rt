@@ -1,0 +1,113 @@
+//! Where the widths of a layer's blocks come from.
+
+ghost use Rattle.std.specs.Prelude.{◌≡◌, ◌+◌, ◌^◌, ◌<◌, ◌≤◌, IfOk, IfSome, OnOk, OnErr};
+ghost use Rattle.subset_layers.specs.Layers.{block_masks};
+ghost use Rattle.compaction.specs.Requests.{AreMembersOf};
+ghost use Rattle.compaction.specs.Rows.{AreWidthRows, IsWidthRow, wanted_count};
+ghost use Rattle.compaction.specs.Walks.{AreAsked, AreRowsOf};
+
+use crate::ahead::Places;
+use crate::blocks::block_widths;
+use crate::preparation::Preparation;
+use crate::tally::Tally;
+use order_model::{Mask, WidthRow};
+use std::alloc::{AllocError, Global};
+use std::marker::Model;
+use subset_layers::Block;
+
+/// Where the widths of a layer's blocks come from: rows that were found ahead, by which images have
+/// theirs.
+#[derive(Drop)]
+pub struct WidthSource<'a> {
+    prepared: &'a Preparation<'a>,
+    places: Places,
+}
+
+impl<'a> Model for WidthSource<'a> {
+    ghost use Rattle.definitions.specs.Problems.{TruthTables};
+
+    ghost Value = { TruthTables };
+
+    ghost view = { λ w. w.prepared.now.problem };
+}
+
+impl<'a> WidthSource<'a> {
+    /// The rows that were found.
+    pub(crate) fn new(prepared: &'a Preparation<'a>) -> WidthSource<'a>
+        ensures { result ≡ prepared.now.problem }
+    {
+        WidthSource {
+            prepared,
+            places: Places::of(prepared.found()),
+        }
+    }
+
+    /// Whether all widths of a set of the renamed problem were found.
+    pub fn is_found(&self, set: Mask) -> bool {
+        match self.prepared.found().rows_at(&self.places, (set % 256) as u8) {
+            Some(byte) => byte.is_whole(set),
+            None => false,
+        }
+    }
+
+    /// The row of a set, if nothing is wanted or the row of its image was found.
+    fn row_of(&self, set: Mask, needed: Mask) -> Option<WidthRow>
+        requires set { set < 2 ^ self.now.inputs }
+        requires members { AreMembersOf self.now.inputs set needed }
+        ensures { IfSome result (IsWidthRow self.now set needed) }
+    {
+        if needed == 0 {
+            return Some([0; 16]);
+        }
+        prove!(self.prepared.problem().inputs() <= 16);
+        let image = self.prepared.image_of(set);
+        let byte = self.prepared.found().rows_at(&self.places, (image.set % 256) as u8)?;
+        byte.row_by_image(&image, needed)
+    }
+
+    /// The rows of a block's sets, if all that serve for them were found.
+    fn rows_found(
+        &self,
+        alloc: Global,
+        block: &Block,
+        needed: &[Mask],
+    ) -> Result<Option<Vec<WidthRow>>, AllocError>
+        requires asked { AreAsked self.now block.now needed.now }
+        ensures { IfOk result (λ found. IfSome found
+            (λ rows. AreWidthRows self.now (block_masks block.now) needed.now rows.items)) }
+    {
+        let mut rows = Vec::with_capacity(alloc, block.len())?;
+        for (i, mask) in block.masks().iter().enumerate() {
+            let Some(row) = self.row_of(*mask, needed[i]) else {
+                return Ok(None);
+            };
+            rows.push(row)?;
+        }
+        Ok(Some(rows))
+    }
+
+    /// What is wanted of a block's sets, as `block_widths` gives it: from the rows that were found,
+    /// or else by a walk. The tally rises by the number of widths.
+    pub fn block_rows(
+        &self,
+        alloc: Global,
+        block: &Block,
+        needed: &[Mask],
+        tally: &mut Tally,
+    ) -> Result<Vec<WidthRow>, AllocError>
+        requires asked { AreAsked self.now block.now needed.now }
+        requires room { tally.old + wanted_count needed.now ≤ 2 ^ 32 }
+        ensures rows { IfOk result (λ rows. AreRowsOf self.now block.now needed.now rows.items) }
+        ensures ok { OnOk result (tally.new ≡ tally.old + wanted_count needed.now) }
+        ensures err { OnErr result (tally.new ≡ tally.old) }
+    {
+        prove!(block.len() <= 256);
+        if let Some(rows) = self.rows_found(alloc, block, needed)? {
+            tally.add_wanted(needed);
+            return Ok(rows);
+        }
+        let problem = self.prepared.problem();
+        let widths = block_widths(alloc, problem, block, needed, tally)?;
+        Ok(widths.into_rows())
+    }
+}
