@@ -1,7 +1,9 @@
 -- Sets that need not be judged, since an exchange of variables leads to greater ones.
---     leads_on      a set whose image is greater leads on
+--     leads_to, leads_back      a set and its image lead to each other
+--     leads_on      a set that leads to a greater one leads on
+--     leads_self, leads_by      a set leads to itself, and by another
 --     none_lost      if no edge fails among those that are left, none fails at all
-use Rattle.std.proofs.Common.{◌≡◌, ℕ, zero, suc, ◌+◌, ◌-◌, ◌^◌, ◌<◌, ◌≤◌, true, inl, inr, List, slice_index, eqb-true, eq-eqb, refl, sym, ap, ◌∙◌, arith}
+use Rattle.std.proofs.Common.{◌≡◌, ℕ, zero, suc, ◌+◌, ◌-◌, ◌^◌, ◌<◌, ◌≤◌, true, inl, inr, List, slice_index, eqb-true, eq-eqb, refl, sym, ap, ◌∙◌, subst, arith}
 use Rattle.std.specs.Int.{bit_at}
 use Rattle.std.proofs.lemmas.Bool.{cases_eq}
 use Rattle.std.proofs.lemmas.Nat.Bits.{bit_at-lt, same_from_bits_below}
@@ -15,7 +17,7 @@ use Rattle.symmetries.specs.Exchanges.{IsExchange}
 use Rattle.symmetries.proofs.Partners.{same_partner}
 use Rattle.symmetries.specs.Images.{IsImage, AreImages}
 use Rattle.symmetries.proofs.ImageWidths.{member_bit, partner_member}
-use Rattle.cert_check.specs.FewerEdges.{AreKept, LeadsOn, AreFewer}
+use Rattle.cert_check.specs.FewerEdges.{AreKept, LeadsOn, LeadsTo, AreFewer}
 use Rattle.cert_check.proofs.FirstEdges.{judged_within}
 use Rattle.cert_check.proofs.IntoSet.{bit_needs}
 
@@ -37,13 +39,13 @@ module _ (n : ℕ) (partners : List ℕ) (exchange : IsExchange n partners) wher
       let back = ap (has (members n U)) (sym (exchange.back y l)) in
       image.bits y l ∙ sym (same_bit n U S y (slice_index partners y) l m (back ∙ same (slice_index partners y) m)))
 
--- a set whose image is greater leads on
-pub leads_on : (n : ℕ) (F : List Function) (values judged partners images : List ℕ) → IsExchange n partners → AreImages n partners images →
+-- a set leads to its image
+pub leads_to : (n : ℕ) (F : List Function) (values judged partners images : List ℕ) → IsExchange n partners → AreImages n partners images →
     AreEdgeTables n values judged → AreKept n values judged images →
     (wide : (S T : List ℕ) (x : ℕ) → x < n → ((y : ℕ) → y < n → has T (slice_index partners y) ≡ has S y) →
     width n F T (slice_index partners x) ≤ width n F S x) →
-    (T : ℕ) → T < 2 ^ n → T < slice_index images T → LeadsOn n F values judged T
-leads_on n F values judged partners images exchange are tables kept wide T less greater S x f e =
+    (T : ℕ) → T < 2 ^ n → LeadsTo n F values judged T (slice_index images T)
+leads_to n F values judged partners images exchange are tables kept wide T less S x f e =
     let x' = slice_index partners x in
     let T' = slice_index images T in
     let image = are.each T less in
@@ -70,7 +72,37 @@ leads_on n F values judged partners images exchange are tables kept wide T less 
           ∙ ap (bit_at (slice_index judged T)) (exchange.back x f.small) ∙ o;
       fails = omega arith;
     } in
-    ((T' - 2 ^ x', x'), edge, omega arith)
+    ((T' - 2 ^ x', x'), edge, again)
+
+-- the image of a set's image is the set
+image_back : (n : ℕ) (partners images : List ℕ) → IsExchange n partners → AreImages n partners images → (T : ℕ) → T < 2 ^ n →
+    slice_index images (slice_index images T) ≡ T
+image_back n partners images exchange are T less =
+    let there = are.each T less in
+    let again = are.each (slice_index images T) there.small in
+    same_from_bits_below n (slice_index images (slice_index images T)) T again.small less (λ y l.
+    again.bits y l ∙ there.bits (slice_index partners y) (exchange.inside y l) ∙ ap (bit_at T) (exchange.back y l))
+
+-- its image leads back
+pub leads_back : (n : ℕ) (F : List Function) (values judged partners images : List ℕ) → IsExchange n partners → AreImages n partners images →
+    ((T : ℕ) → T < 2 ^ n → LeadsTo n F values judged T (slice_index images T)) →
+    (T : ℕ) → T < 2 ^ n → LeadsTo n F values judged (slice_index images T) T
+leads_back n F values judged partners images exchange are leads T less =
+    subst (LeadsTo n F values judged (slice_index images T)) (image_back n partners images exchange are T less)
+    (leads (slice_index images T) (are.each T less).small)
+
+module _ (n : ℕ) (F : List Function) (values judged : List ℕ) where
+  -- a set that leads to a greater one leads on
+  pub leads_on : (T U : ℕ) → LeadsTo n F values judged T U → T < U → LeadsOn n F values judged T
+  leads_on T U leads less S x f e = let a = leads S x f e in (a.0, a.1, omega (arith, a.2))
+
+  -- a set leads to itself
+  pub leads_self : (T : ℕ) → LeadsTo n F values judged T T
+  leads_self T S x f e = ((S, x), f, e)
+
+  -- and by another
+  pub leads_by : (T U V : ℕ) → LeadsTo n F values judged T U → LeadsTo n F values judged U V → LeadsTo n F values judged T V
+  leads_by T U V one other S x f e = let a = one S x f e in other a.0.0 a.0.1 a.1 a.2
 
 module _ (n : ℕ) (F : List Function) (values judged fewer : List ℕ) where
   -- if no edge fails among those that are left, none fails at all

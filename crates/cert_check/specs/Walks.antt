@@ -1,7 +1,9 @@
 -- What a walk finds.
 --     FailsAmong e      the edges of e that fail
 --     FailsInBlock e set y, FailsAt p, FailsInUpper p      those into a block of sets; into the one at which a walk stands; into its upper half
---     AreEnough e fewer, AreGuidesOf e images      fewer edges, of which one fails if one of e does; images of which greater ones lead on
+--     AreEnough e fewer      fewer edges, of which one fails if one of e does
+--     AreAllGuides e guides      exchanges by which sets and their images lead to each other
+--     LeadsOnIn e T, LeadsToFirst e first T      with each edge into T that fails, one into a greater set does; one into the first does
 --     CanStart root tops y end      tasks may begin at the empty set's table and those of sets of variables from y on
 use Rattle.std.specs.Prelude.{◌≡◌, ℕ, ◌+◌, ◌-◌, ◌^◌, ◌<◌, ◌≤◌, List}
 use Rattle.std.specs.List.{All}
@@ -10,7 +12,8 @@ use Rattle.cert_check.specs.declared.position.Edges.{Edges}
 use Rattle.cert_check.specs.declared.position.Position.{Position}
 use Rattle.cert_check.specs.Blocks.{StandsAt}
 use Rattle.cert_check.specs.Edges.{EdgeFails, FailsWithin}
-use Rattle.cert_check.specs.FewerEdges.{AreFewer, AreGuides, LeadsOn}
+use Rattle.symmetries.specs.Orbits.{ExchangeOf}
+use Rattle.cert_check.specs.FewerEdges.{AreFewer, AreGuides, LeadsOn, LeadsTo}
 use Rattle.cert_check.specs.Tables.{TableOf}
 
 -- an edge of e fails
@@ -29,13 +32,21 @@ FailsAt p = FailsInBlock p.edges p.table.now.set p.free
 abbrev pub FailsInUpper : Position → ℕ → ℕ → Type 0
 FailsInUpper p = FailsInBlock p.edges (p.table.now.set + 2 ^ (p.free - 1)) (p.free - 1)
 
+-- with each edge into a set that fails, one into a greater set does
+abbrev pub LeadsOnIn : Edges → ℕ → Type 0
+LeadsOnIn e = LeadsOn e.problem.now.inputs (functions e.problem.now) e.values.now e.judged.now
+
 -- the edges that are judged, but for some into sets from which others that fail lead on
 abbrev pub AreEnough : Edges → List ℕ → Type 0
-AreEnough e = AreFewer (LeadsOn e.problem.now.inputs (functions e.problem.now) e.values.now e.judged.now) e.judged.now
+AreEnough e = AreFewer (LeadsOnIn e) e.judged.now
 
--- sets with greater images lead on
-abbrev pub AreGuidesOf : Edges → List ℕ → Type 0
-AreGuidesOf e = AreGuides e.problem.now.inputs (functions e.problem.now) e.values.now e.judged.now
+-- one into the first does
+abbrev pub LeadsToFirst : Edges → ℕ → ℕ → Type 0
+LeadsToFirst e first T = (T < 2 ^ e.problem.now.inputs) × LeadsTo e.problem.now.inputs (functions e.problem.now) e.values.now e.judged.now T first
+
+-- sets and their images lead to each other
+abbrev pub AreAllGuides : Edges → List ExchangeOf → Type 0
+AreAllGuides e = All (λ g. AreGuides e.problem.now.inputs (functions e.problem.now) e.values.now e.judged.now g.images)
 
 -- tasks may begin at the table of the empty set and those of sets of variables from y on, each at the sets that have the same `end` highest variables
 pub record CanStart (root : Position) (tops : List TableOf) (y end : ℕ) : Type 0 where

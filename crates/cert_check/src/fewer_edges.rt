@@ -1,11 +1,11 @@
 //! Some of the edges, of which one fails if any edge does. Where variables may be exchanged without
 //! a change of any function, value or judged edge, a set and its image have edges of equal widths,
-//! and one of both need be judged.
+//! and one set of each orbit need be judged: the greatest.
 
-ghost use Rattle.std.specs.Prelude.{◌≡◌, ◌<◌, ◌^◌, ℕ, IfOk, IfSome, IsTrue, length, slice_index};
-ghost use Rattle.symmetries.specs.Orbits.{IsExchangeOf};
+ghost use Rattle.std.specs.Prelude.{◌≡◌, ◌<◌, ◌^◌, ◌++◌, ◌⊎◌, ℕ, [], ◌∷◌, IfOk, IfSome, IsTrue, OnOk, length, slice_index};
+ghost use Rattle.std.specs.List.{All};
 ghost use Rattle.cert_check.specs.FewerEdges.{AreKept};
-ghost use Rattle.cert_check.specs.Walks.{AreEnough, AreGuidesOf};
+ghost use Rattle.cert_check.specs.Walks.{AreAllGuides, AreEnough, LeadsOnIn, LeadsToFirst};
 
 use crate::position::Edges;
 use order_model::{Mask, Pairs};
@@ -33,42 +33,174 @@ fn keeps_edges(edges: Edges, images: &[Mask]) -> bool
     true
 }
 
-/// Leaves out the edges into sets whose images are greater.
-fn leave_out(edges: Edges, images: &[Mask], fewer: &mut Vec<u16>)
-    requires guides { AreGuidesOf edges images.now }
+/// The exchanges under which no function changes that keep values and judged edges.
+fn guides_of(alloc: Global, edges: Edges) -> Result<Vec<Exchange>, AllocError>
+    ensures { IfOk result (λ v. AreAllGuides edges.entry v.items) }
+{
+    let mut exchanges = exchanges_of(alloc, edges.problem, &Pairs::none(edges.problem.inputs()))?;
+    let mut guides = Vec::new(alloc);
+    while let Some(exchange) = exchanges.pop() {
+        if keeps_edges(edges, exchange.images()) {
+            guides.push(exchange)?;
+        }
+    }
+    Ok(guides)
+}
+
+/// Whether an exchange takes a set to a greater one.
+fn has_greater_image(edges: Edges, guides: &[Exchange], set: Mask) -> bool
+    requires guides { AreAllGuides edges guides.now }
+    requires set { set < 2 ^ edges.problem.now.inputs }
+    ensures { IsTrue result → LeadsOnIn edges.entry set }
+{
+    for guide in guides {
+        if guide.images()[set as usize] > set {
+            return true;
+        }
+    }
+    false
+}
+
+/// Leaves out the edges into sets that an exchange takes to greater ones.
+fn leave_out(edges: Edges, guides: &[Exchange], fewer: &mut Vec<u16>)
+    requires guides { AreAllGuides edges guides.now }
     requires fewer { AreEnough edges fewer.old.items }
     ensures { AreEnough edges.entry fewer.new.items }
 {
-    for set in 0..images.len() {
-        if images[set] as usize > set {
+    for set in 0..edges.judged.len() {
+        if fewer[set] != 0 && has_greater_image(edges, guides, set as Mask) {
             fewer[set] = 0;
         }
     }
 }
 
-/// Leaves out edges by an exchange, if it keeps values and judged edges. Returns whether it does.
-fn leave_out_by(edges: Edges, exchange: &Exchange, fewer: &mut Vec<u16>) -> bool
-    requires exchange { IsExchangeOf edges.problem.now exchange.now }
-    requires fewer { AreEnough edges fewer.old.items }
-    ensures { AreEnough edges.entry fewer.new.items }
-{
-    let images = exchange.images();
-    if !keeps_edges(edges, images) {
-        return false;
-    }
-    leave_out(edges, images, fewer);
-    true
+/// Sets that exchanges reach: of one orbit all that are reached, and whether each of all sets was.
+#[derive(Drop)]
+struct Reached {
+    seen: Vec<bool>,
+    sets: Vec<Mask>,
 }
 
-/// Fewer edges, if variables may be exchanged: those into sets with a greater image are left out.
+impl Reached {
+    /// Adds a set, unless it was reached before.
+    fn add(&mut self, set: Mask) -> Result<(), AllocError>
+        ensures { OnOk result
+            ((self.new.sets.items ≡ self.old.sets.items)
+            ⊎ (self.new.sets.items ≡ self.old.sets.items ++ set ∷ [])) }
+    {
+        match self.seen.get_mut(usize::from(set)) {
+            Some(seen) if !*seen => {
+                *seen = true;
+                self.sets.push(set)?;
+            }
+            _ => {}
+        }
+        Ok(())
+    }
+}
+
+/// Reaches the sets to which exchanges take a set of the orbit of `first`, and leaves out the edges
+/// into those below `first`.
+fn step_from(
+    edges: Edges,
+    guides: &[Exchange],
+    first: Mask,
+    set: Mask,
+    reached: &mut Reached,
+    fewer: &mut Vec<u16>,
+) -> Result<(), AllocError>
+    requires guides { AreAllGuides edges guides.now }
+    requires set { LeadsToFirst edges first set }
+    requires reached { All (LeadsToFirst edges first) reached.old.sets.items }
+    requires fewer { AreEnough edges fewer.old.items }
+    ensures reached { OnOk result (All (LeadsToFirst edges.entry first) reached.new.sets.items) }
+    ensures fewer { OnOk result (AreEnough edges.entry fewer.new.items) }
+{
+    for guide in guides {
+        let image = guide.images()[set as usize];
+        if image < first {
+            fewer[image as usize] = 0;
+        }
+        reached.add(image)?;
+    }
+    Ok(())
+}
+
+/// Leaves out the edges into the sets of an orbit below `first`.
+fn leave_out_orbit(
+    edges: Edges,
+    guides: &[Exchange],
+    first: Mask,
+    reached: &mut Reached,
+    fewer: &mut Vec<u16>,
+) -> Result<(), AllocError>
+    requires guides { AreAllGuides edges guides.now }
+    requires first { first < 2 ^ edges.problem.now.inputs }
+    requires fewer { AreEnough edges fewer.old.items }
+    ensures { OnOk result (AreEnough edges.entry fewer.new.items) }
+{
+    reached.sets.clear();
+    reached.add(first)?;
+    for place in 0..edges.judged.len() {
+        if place >= reached.sets.len() {
+            break;
+        }
+        let set = reached.sets[place];
+        step_from(edges, guides, first, set, reached, fewer)?;
+    }
+    Ok(())
+}
+
+/// Leaves out the edges into all sets of each orbit but the greatest.
+fn leave_out_orbits(
+    alloc: Global,
+    edges: Edges,
+    guides: &[Exchange],
+    fewer: &mut Vec<u16>,
+) -> Result<(), AllocError>
+    requires guides { AreAllGuides edges guides.now }
+    requires fewer { AreEnough edges fewer.old.items }
+    ensures { OnOk result (AreEnough edges.entry fewer.new.items) }
+{
+    let mut reached = Reached {
+        seen: vec![in alloc; false; edges.judged.len()]?,
+        sets: Vec::new(alloc),
+    };
+    for set in (0..edges.judged.len()).rev() {
+        if fewer[set] != 0 {
+            leave_out_orbit(edges, guides, set as Mask, &mut reached, fewer)?;
+        }
+    }
+    Ok(())
+}
+
+/// Into how many sets an edge is judged.
+pub(crate) fn count_judged(judged: &[Mask]) -> usize {
+    let mut count = 0usize;
+    for edges in judged {
+        count = count.saturating_add(usize::from(*edges != 0));
+    }
+    count
+}
+
+/// How many steps of an orbit take about the time in which edges into a set are judged.
+const STEPS_OF_A_SET: usize = 512;
+
+/// Fewer edges, if variables may be exchanged: those into sets that exchanges take to greater ones
+/// are left out. Chains of exchanges are followed if many sets are left that no single exchange
+/// takes to a greater one.
 pub(crate) fn fewer_edges(alloc: Global, edges: Edges) -> Result<Option<Vec<u16>>, AllocError>
     ensures { IfOk result (λ o. IfSome o (λ v. AreEnough edges.entry v.items)) }
 {
-    let exchanges = exchanges_of(alloc, edges.problem, &Pairs::none(edges.problem.inputs()))?;
-    let mut fewer = edges.judged.to_vec(alloc)?;
-    let mut some = false;
-    for exchange in &exchanges {
-        some |= leave_out_by(edges, exchange, &mut fewer);
+    let guides = guides_of(alloc, edges)?;
+    if guides.is_empty() {
+        return Ok(None);
     }
-    Ok(if some { Some(fewer) } else { None })
+    let mut fewer = edges.judged.to_vec(alloc)?;
+    leave_out(edges, &guides, &mut fewer);
+    let steps = guides.len().saturating_mul(edges.judged.len());
+    if guides.len() > 1 && count_judged(&fewer).saturating_mul(STEPS_OF_A_SET) > steps {
+        leave_out_orbits(alloc, edges, &guides, &mut fewer)?;
+    }
+    Ok(Some(fewer))
 }

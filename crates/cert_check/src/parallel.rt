@@ -5,11 +5,11 @@ ghost use Rattle.cert_check.specs.Edges.{IsFirstEdge, IsFirstOfParts, part_at};
 ghost use Rattle.cert_check.specs.Walks.{CanStart, FailsAmong, FailsInBlock};
 
 use crate::class_table::ClassTable;
-use crate::fewer_edges::fewer_edges;
+use crate::fewer_edges::{count_judged, fewer_edges};
 use crate::position::{Edge, Edges, Position};
 use crate::small_sources::edges_up_to;
 use crate::top_tables::{first_from_tops, top_tables};
-use crate::walk::{first_failing, first_of};
+use crate::walk::{first_failing, first_of, has_judged};
 use order_model::{Mask, VarIx};
 use rayon::prelude::*;
 use std::alloc::{AllocError, Global};
@@ -20,6 +20,9 @@ const PART_VARIABLES: u8 = 6;
 
 /// How many of the highest variables have the tables of their sets made once for all tasks.
 const SHARED_VARIABLES: u8 = 2;
+
+/// Up to how many sets with judged edges one thread walks over alone.
+const SETS_FOR_ONE: usize = 32;
 
 /// The part at a place. Parts of few variables take longest; laying the low bits over the high ones
 /// spreads them evenly over runs of neighbouring places.
@@ -108,6 +111,9 @@ impl<'r, R: Threads + Sync> Walker for ThreadPool<'r, R> {
     ghost ready = { λ _. IsSync R.row };
 
     fn first_of_all(&self, alloc: Global, edges: Edges) -> Result<Option<Edge>, AllocError> {
+        if count_judged(edges.judged) <= SETS_FOR_ONE {
+            return CallingThread.first_of_all(alloc, edges);
+        }
         let inputs = edges.problem.inputs();
         let end = inputs.min(PART_VARIABLES);
         let table = ClassTable::of_problem(alloc, edges.problem)?;
@@ -152,6 +158,9 @@ pub(crate) fn first_failure<W: Walker>(
         values,
         ..
     } = edges;
+    if !has_judged(edges.judged, 0, problem.inputs()) {
+        return Ok(None);
+    }
     let Some(judged) = fewer_edges(alloc, edges)? else {
         return walker.first_of_all(alloc, edges);
     };
