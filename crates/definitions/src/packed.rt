@@ -17,7 +17,7 @@ pub fn words_per_table(n: u8) -> usize
     ((1usize << n) + 63) / 64
 }
 
-/// The words of a table, of some that take `size` words each.
+/// The words of table `table`, where tables of `size` words stand one after the other.
 pub fn block(words: &[u64], size: usize, table: usize) -> &[u64]
     requires { table * size + size ≤ length words.now }
     ensures { result.now ≡ words_of size words.now table }
@@ -27,7 +27,7 @@ pub fn block(words: &[u64], size: usize, table: usize) -> &[u64]
     block
 }
 
-/// The value at the point with a number.
+/// The value of a packed truth table at a point.
 pub fn bit_of(words: &[u64], point: usize) -> bool
     requires { point / 64 < length words.now }
     ensures { result ≡ packed_bit words.now point }
@@ -35,8 +35,8 @@ pub fn bit_of(words: &[u64], point: usize) -> bool
     (words[point / 64] >> (point % 64)) & 1 == 1
 }
 
-/// The word whose bit b is 1 if bit x of b is 0, x being below 6: of the 64 points of a word, those
-/// at which variable x is 0.
+/// The points of a word at which variable x, below 6, is 0: bit b of the result is 1 if bit x of b
+/// is 0.
 pub fn lower_half(x: VarIx) -> u64
     requires { x < 6 }
     ensures { (b : ℕ) → b < 64 → bit_at result b ≡ 1 - bit_at b x }
@@ -51,7 +51,8 @@ pub fn lower_half(x: VarIx) -> u64
     }
 }
 
-/// Whether some bit of a word differs from the one 2^x places above, x being below 6.
+/// Whether a word has different values at two points that differ in variable x alone, which is
+/// below 6.
 fn halves_differ(word: u64, x: VarIx) -> bool
     requires { x < 6 }
     ensures differ { IsTrue result →
@@ -63,7 +64,8 @@ fn halves_differ(word: u64, x: VarIx) -> bool
     ((word >> (1u32 << x)) ^ word) & lower_half(x) != 0
 }
 
-/// Whether some two words that are 2^r places apart differ, of those whose place has bit r 0.
+/// Whether some two words differ whose indexes differ in bit r alone: the points of the one have
+/// variable r + 6 at 0, those of the other at 1.
 fn rows_differ(words: &[u64], r: u8) -> bool
     requires few { length words.now ≤ 1024 }
     requires small { r < 10 }

@@ -78,7 +78,7 @@ impl Problem {
         self.outputs
     }
 
-    /// The value of a function at the point with a number.
+    /// The value of a function at a point. Bit x of `point` is the value of variable x.
     pub fn value(&self, output: u8, point: u32) -> bool
         requires output { output < outputs_of self.now }
         requires point { point < 2 ^ self.now.inputs }
@@ -87,7 +87,7 @@ impl Problem {
         bit_of(self.words(output), point as usize)
     }
 
-    /// Makes the value of a function at the point with a number 1.
+    /// Makes the value of a function at a point 1. Bit x of `point` is the value of variable x.
     pub fn set(&mut self, output: u8, point: u32)
         requires output { output < outputs_of self.old }
         requires point { point < 2 ^ self.old.inputs }
