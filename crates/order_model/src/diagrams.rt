@@ -11,7 +11,7 @@ use crate::orders::Order;
 use definitions::{Node, Ref, VarIx};
 use std::marker::Model;
 
-/// The child of a node that the point with a number takes.
+/// The child of `node` that a point takes. Bit x of `point` is the value of variable x.
 fn child(variables: u8, node: Node, point: u32) -> Ref
     requires variables { variables ≤ 16 }
     requires node { node.variable < variables }
@@ -24,7 +24,8 @@ fn child(variables: u8, node: Node, point: u32) -> Ref
     }
 }
 
-/// The value of a ref at the point with a number.
+/// The value that the diagram under `root` has at a point. Bit x of `point` is the value of
+/// variable x.
 pub fn eval(variables: u8, nodes: &[Node], root: Ref, point: u32) -> bool
     requires variables { variables ≤ 16 }
     requires nodes { AreNodes variables nodes.now }
@@ -40,7 +41,7 @@ pub fn eval(variables: u8, nodes: &[Node], root: Ref, point: u32) -> bool
     }
 }
 
-/// How many nodes each variable has.
+/// The number of nodes of each variable: entry x is that of variable x.
 fn counts_by_variable(nodes: &[Node]) -> [u32; 16]
     requires few { length nodes.now < 2 ^ 32 }
     requires variables { All (λ (node : Node). node.variable < 16) nodes.now }
@@ -54,7 +55,8 @@ fn counts_by_variable(nodes: &[Node]) -> [u32; 16]
     counts
 }
 
-/// The counts of the variables in an order, top first, and zeros after them.
+/// Node counts by level, from those by variable: entry i is the count of the variable at place i of
+/// `order`. The entries past its length are 0.
 fn in_order(order: &[VarIx], counts: [u32; 16]) -> [u32; 16]
     requires few { length order.now ≤ 16 }
     requires variables { All (λ x. x < 16) order.now }
@@ -95,7 +97,7 @@ impl Model for Diagram {
 }
 
 impl Diagram {
-    /// The diagram of some nodes, each after its children.
+    /// The diagram with the given order, nodes and roots. Each node comes after its children.
     pub fn new(order: Order, nodes: Vec<Node>, roots: Vec<Ref>) -> Diagram
         requires few { length nodes.items < 2 ^ 32 }
         requires diagram { IsDiagramUnder order nodes.items roots.items }
@@ -141,7 +143,7 @@ impl Diagram {
         self.nodes.len()
     }
 
-    /// The value of an output at the point with a number.
+    /// The value of an output at a point. Bit x of `point` is the value of variable x.
     pub fn eval(&self, output: usize, point: u32) -> bool
         requires { output < length self.now.graph.roots }
         ensures { result ≡ root_value self.now.graph output
@@ -151,7 +153,7 @@ impl Diagram {
         eval(variables, &self.nodes, self.roots[output], point)
     }
 
-    /// How many nodes each level has, top first; levels that the order doesn't have are given 0.
+    /// The number of nodes on each level, top first. The entries past the last level are 0.
     pub fn level_counts(&self) -> [u32; 16]
         ensures counts { (i : ℕ) → i < length self.now.order →
             slice_index result i ≡ nodes_at self.now.graph (slice_index self.now.order i) }
@@ -171,7 +173,7 @@ impl Diagram {
     }
 }
 
-/// The sum of at most 16 level counts.
+/// The sum of up to 16 level counts, which is the size of their diagram.
 pub fn total(counts: &[u32]) -> u64
     requires { length counts.now ≤ 16 }
     ensures { result ≡ sum counts.now }

@@ -34,7 +34,7 @@ impl<'a> Model for LowerBounds<'a> {
     ghost invariant = { λ r. HoldsLowerBounds r.problem.now r.essential r.dependents r.others };
 }
 
-/// The sets of the variables on which each function depends.
+/// The support of each function: the set of the variables on which it depends.
 fn supports(problem: &Problem) -> [Mask; 16]
     ensures { take (outputs_of problem.now) result ≡ map (support problem.now.inputs)
         (functions problem.now) }
@@ -46,7 +46,7 @@ fn supports(problem: &Problem) -> [Mask; 16]
     found
 }
 
-/// How many sets have a variable.
+/// How many of the sets have variable x.
 fn count_with(sets: &[Mask], x: VarIx) -> u32
     requires few { length sets.now ≤ 16 }
     requires variable { x < 16 }
@@ -61,7 +61,7 @@ fn count_with(sets: &[Mask], x: VarIx) -> u32
     count
 }
 
-/// What some set has that doesn't have a variable.
+/// The union of the sets that do not have variable x.
 fn union_without(sets: &[Mask], x: VarIx) -> Mask
     requires { x < 16 }
     ensures { result ≡ fold bit_or 0 (filter (λ s. not (bit_at s x == 1)) sets.now) }
@@ -75,7 +75,7 @@ fn union_without(sets: &[Mask], x: VarIx) -> Mask
     union
 }
 
-/// How many variables of a set are not in another one.
+/// How many variables of `set` are outside `mask`.
 fn count_outside(set: Mask, mask: Mask) -> u64
     ensures few { result ≤ 16 }
     ensures exact { (n : ℕ) (F : List Function) → set ≡ essential_mask n F →
@@ -126,7 +126,8 @@ impl<'a> LowerBounds<'a> {
         self.lower_bound
     }
 
-    /// The lower bound on the nodes above a set. By widths it needs those of all members.
+    /// The lower bound on the nodes above the set `mask`. By widths it needs the widths of all
+    /// members; by variables it reads none.
     pub fn above(&self, mask: Mask, widths: &WidthRow) -> u64
         requires { mask < 2 ^ self.now.problem.inputs }
         ensures few { result < 2 ^ 33 }
@@ -142,7 +143,8 @@ impl<'a> LowerBounds<'a> {
         }
     }
 
-    /// The most nodes that the width of a member of a set requires, or `least` if they are fewer.
+    /// The largest number of nodes above a set that the width of one of its members requires, or
+    /// `least` if that is larger.
     fn most_asked(&self, mask: Mask, widths: &WidthRow, least: u64) -> u64
         requires { least < 2 ^ 33 }
         ensures few { result < 2 ^ 33 }
@@ -160,7 +162,9 @@ impl<'a> LowerBounds<'a> {
         most
     }
 
-    /// The nodes above a set that the width of a member requires.
+    /// The number of nodes above a set that the width of its member x requires: `width - d + e`,
+    /// where d functions depend on x, and e is the number of variables outside the set on which
+    /// some function depends that does not depend on x.
     fn nodes_for_width(&self, mask: Mask, x: VarIx, width: u32) -> u64
         requires { x < self.now.problem.inputs }
         ensures few { result < 2 ^ 33 }

@@ -130,7 +130,7 @@ impl Order {
         place_in_list(&self.variables, x)
     }
 
-    /// Exchanges the variables of a level and the next one.
+    /// Swaps the variables of a level and of the next one.
     pub fn swap(&mut self, level: usize)
         requires { level + 1 < length self.old }
         ensures { self.new ≡ swap self.old level (level + 1) }

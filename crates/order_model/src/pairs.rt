@@ -31,7 +31,7 @@ impl Model for Pairs {
     ghost invariant = { λ p. HoldsKept p.inputs p.below };
 }
 
-/// The variable of a word.
+/// The variable that a word spells: a decimal from 0 to 15 without leading zeros.
 fn number(word: &[u8]) -> Option<VarIx>
     ensures { result ≡ variable_of word.now }
 {
@@ -42,7 +42,7 @@ fn number(word: &[u8]) -> Option<VarIx>
     }
 }
 
-/// The place of the first comma.
+/// The index of the first comma.
 fn comma_place(part: &[u8]) -> Option<usize>
     ensures first { result ≡ position (λ byte. byte == 44) part.now }
     ensures within { IfSome result (λ place. place < length part.now) }
@@ -50,7 +50,7 @@ fn comma_place(part: &[u8]) -> Option<usize>
     part.iter().position(|byte| *byte == b',')
 }
 
-/// The pair of a part between colons.
+/// The pair (above, below) that a text such as `2,0` spells.
 fn pair(part: &[u8]) -> Option<(VarIx, VarIx)>
     ensures { result ≡ pair_of part.now }
 {
@@ -60,7 +60,8 @@ fn pair(part: &[u8]) -> Option<(VarIx, VarIx)>
     Some((above, below))
 }
 
-/// The masks of the pairs that a text lists.
+/// The pairs that a text such as `2,0:1,0` lists, as masks: bit b of mask a stands for the pair (a,
+/// b).
 fn listed_masks(text: &[u8]) -> Option<[Mask; 16]>
     ensures { AreMasksOf (listed text.now) result }
 {
@@ -72,7 +73,7 @@ fn listed_masks(text: &[u8]) -> Option<[Mask; 16]>
     Some(below)
 }
 
-/// Whether masks speak of the first n variables alone.
+/// Whether all pairs are of variables below n. Bit b of `below[a]` stands for the pair (a, b).
 fn are_within(below: &[Mask; 16], n: u8) -> bool
     requires { n ≤ 16 }
     ensures { IsTrue result ↔ AreWithin n below.now }
@@ -86,7 +87,8 @@ fn are_within(below: &[Mask; 16], n: u8) -> bool
     true
 }
 
-/// Adds what is reached through k to what each variable reaches.
+/// One step of Warshall's transitive closure: each variable that reaches k gets what k reaches. Bit
+/// b of `reached[a]` says that a reaches b.
 fn join_through(reached: &mut [Mask; 16], k: VarIx)
     requires { k < 16 }
     ensures { IsJoined reached.old k reached.new }
@@ -99,7 +101,8 @@ fn join_through(reached: &mut [Mask; 16], k: VarIx)
     }
 }
 
-/// The least variable from which pairs lead back to itself.
+/// The smallest variable from which pairs lead back to itself. Bit b of `below[a]` stands for the
+/// pair (a, b).
 fn least_on_cycle(below: &[Mask; 16]) -> Option<VarIx>
     ensures found { IfSome result (λ v. IsPairCycle (pairs_in 16 below.now) v) }
     ensures none { IfNone result (HasNoCycle (pairs_in 16 below.now)) }
@@ -116,7 +119,7 @@ fn least_on_cycle(below: &[Mask; 16]) -> Option<VarIx>
     None
 }
 
-/// The masks of pairs, if their numbers are below 16.
+/// The pairs as masks: bit b of mask a stands for the pair (a, b). None if a number is 16 or more.
 fn masks_of(pairs: &[(VarIx, VarIx)]) -> Option<[Mask; 16]>
     ensures some { IfSome result (λ below. AreMasksOf (Some pairs.now) (Some below)) }
     ensures none { IfNone result (AreBelow 16 pairs.now → ⊥) }
@@ -132,7 +135,8 @@ fn masks_of(pairs: &[(VarIx, VarIx)]) -> Option<[Mask; 16]>
     Some(below)
 }
 
-/// The first fault of the pairs that masks stand for, or these pairs.
+/// The pairs of n variables that masks stand for, or their first fault: a variable that is not
+/// below n, else a cycle.
 fn of_masks(below: [Mask; 16], n: u8) -> Result<Pairs, PairsFault>
     requires some { 1 ≤ n }
     requires few { n ≤ 16 }
@@ -248,7 +252,7 @@ impl Pairs {
         true
     }
 
-    /// Whether a set has b wherever it has a, of each pair (a, b).
+    /// Whether a set is lawful: for each pair (a, b), if it has a it has b.
     pub fn lawful(&self, set: Mask) -> bool
         ensures { result ≡ is_lawful self.now.pairs (members self.now.inputs set) }
     {
@@ -260,7 +264,8 @@ impl Pairs {
         true
     }
 
-    /// The smallest variable without which a lawful set that isn't empty stays lawful.
+    /// The smallest variable that may stand on top of a lawful set, which is not empty: the set
+    /// stays lawful without it.
     fn smallest_top(&self, set: Mask) -> VarIx
         requires some { 0 < set }
         requires within { set < 2 ^ self.now.inputs }
