@@ -10,7 +10,7 @@ use crate::tables::Tables;
 use order_model::{Diagram, Order, Ref};
 use std::alloc::{AllocError, Global};
 
-/// The refs with some numbers.
+/// The refs that numbers stand for.
 fn refs_of(alloc: Global, numbers: &[u32]) -> Result<Vec<Ref>, AllocError>
     ensures { IfOk result (λ v. v.items ≡ map ref_named numbers.now) }
 {

@@ -9,8 +9,8 @@ ghost use Rattle.truth_table.specs.Fixing.{fixed_bit};
 use order_model::VarIx;
 use order_model::packed::lower_half;
 
-/// The word that has at each point the value that a word has with variable x, below 6, made
-/// `upper`.
+/// The word that has at each point the value of `word` at that point with variable x, below 6, set
+/// to `upper`.
 fn fixed_word(word: u64, x: VarIx, upper: bool) -> u64
     requires { x < 6 }
     ensures { (k : ℕ) → k < 64 → bit_at result k ≡ bit_at word (fixed_bit x upper k) }
@@ -20,7 +20,7 @@ fn fixed_word(word: u64, x: VarIx, upper: bool) -> u64
     half | (half << step)
 }
 
-/// Fixes variable x, below 6, in each word.
+/// Fixes variable x, below 6, to `upper` in each word of a packed truth table.
 fn fix_halves(words: &mut [u64], x: VarIx, upper: bool)
     requires { x < 6 }
     ensures { (i k : ℕ) → i < length words.new → k < 64 →
@@ -32,7 +32,7 @@ fn fix_halves(words: &mut [u64], x: VarIx, upper: bool)
     }
 }
 
-/// A place with bit r made `upper`.
+/// The index `i` with its bit r set to `upper`.
 fn fixed_place(i: usize, r: u8, upper: bool) -> usize
     requires place { i < 1024 }
     requires small { r < 10 }
@@ -46,7 +46,8 @@ fn fixed_place(i: usize, r: u8, upper: bool) -> usize
     }
 }
 
-/// Gives each word what stands at its place with bit r made `upper`.
+/// Fixes variable r + 6 to `upper` in a packed truth table: each word gets the value of the word
+/// whose index has bit r set to `upper`.
 fn fix_rows(words: &mut [u64], r: u8, upper: bool)
     requires few { length words.old ≤ 1024 }
     requires small { r < 10 }
@@ -59,7 +60,7 @@ fn fix_rows(words: &mut [u64], r: u8, upper: bool)
     }
 }
 
-/// Fixes variable x in the packed truth table of a function of n variables.
+/// Fixes variable x to `upper` in the packed truth table of a function of n variables.
 pub(crate) fn fix_variable(n: u8, words: &mut [u64], x: VarIx, upper: bool)
     requires few { n ≤ 16 }
     requires variable { x < n }

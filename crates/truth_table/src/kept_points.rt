@@ -1,10 +1,10 @@
-//! Words whose points behind the last one are left out.
+//! Words with the bits of a mask alone.
 
 ghost use Rattle.std.specs.Prelude.{◌≡◌, ◌<◌, ℕ, bit_and, length, slice_index, IfOk};
 
 use std::alloc::{AllocError, Global};
 
-/// The points of a mask alone, of each word.
+/// Each word with the bits of `mask` alone.
 pub(crate) fn kept_points(alloc: Global, words: &[u64], mask: u64) -> Result<Vec<u64>, AllocError>
     ensures long { IfOk result (λ v. length v.items ≡ length words.now) }
     ensures words { IfOk result

@@ -11,14 +11,15 @@ use order_model::VarIx;
 use order_model::packed::bit_of;
 use std::alloc::{AllocError, Global};
 
-/// The numbers of pairs, and how many distinct pairs have unequal parts.
+/// The numbers of pairs by first occurrence, and how many distinct pairs have two unequal parts.
 #[derive(Debug, Drop)]
 pub(crate) struct Merged {
     pub(crate) numbers: Vec<u32>,
     pub(crate) unequal: u32,
 }
 
-/// Numbers the pairs of classes that stand side by side: the classes of the level above.
+/// The classes of the level above a level: the classes at the places 2j and 2j + 1 form pair j, and
+/// pairs are numbered by first occurrence.
 pub(crate) fn merge(alloc: Global, classes: &[u32]) -> Result<Merged, AllocError>
     requires few { length classes.now < 2 ^ 32 }
     ensures numbers { IfOk result (λ r. IsNumbering (pairs_of classes.now) r.numbers.items) }
@@ -40,7 +41,7 @@ pub(crate) fn merge(alloc: Global, classes: &[u32]) -> Result<Merged, AllocError
     Ok(Merged { numbers, unequal })
 }
 
-/// Puts each point once more after the points, with the value 1 for a variable.
+/// Appends each point of a list once more, with variable x set to 1.
 fn push_upper(points: &mut Vec<u32>, x: VarIx) -> Result<(), AllocError>
     requires { x < 16 }
     ensures { OnOk result
@@ -53,8 +54,8 @@ fn push_upper(points: &mut Vec<u32>, x: VarIx) -> Result<(), AllocError>
     Ok(())
 }
 
-/// The numbers of the points of all assignments of some variables, the first variable as the
-/// highest bit of the place.
+/// The points of all assignments of some variables, by rising number of the assignment, whose
+/// highest bit is the first variable. The other variables are 0.
 pub(crate) fn assignment_points(alloc: Global, variables: &[VarIx]) -> Result<Vec<u32>, AllocError>
     requires small { All (λ x. x < 16) variables.now }
     requires few { length variables.now ≤ 16 }
@@ -68,7 +69,7 @@ pub(crate) fn assignment_points(alloc: Global, variables: &[VarIx]) -> Result<Ve
     Ok(points)
 }
 
-/// Puts the values of a packed truth table at some points after others, as 0 and 1.
+/// Appends the values of a packed truth table at given points, as 0 and 1.
 pub(crate) fn push_values(
     values: &mut Vec<u32>,
     words: &[u64],

@@ -8,7 +8,7 @@ use indexmap::IndexSet;
 use order_model::{Node, Ref, VarIx};
 use std::alloc::{AllocError, Global};
 
-/// The ref with a number: 0 and 1 are the terminals, k + 2 is the node at place k.
+/// The ref that a number stands for: 0 and 1 are the terminals, k + 2 is the node at place k.
 pub(crate) fn ref_of(number: u32) -> Ref
     ensures { result ≡ ref_named number }
 {
@@ -19,9 +19,10 @@ pub(crate) fn ref_of(number: u32) -> Ref
     }
 }
 
-/// The number of the ref that has the children `low` and `high`: the child itself if they are
-/// equal, else a node of variable x, which is put behind the others unless it is there. The level's
-/// first node is that at place `base`.
+/// The number of the ref to a node of variable x with the children `low` and `high`, which are
+/// numbers of refs too. If these are equal it is the child itself. Else the node is appended to
+/// `nodes`, unless `pairs` has it: the children of this level's nodes, the first of which stands at
+/// place `base` of `nodes`.
 fn number_over(
     nodes: &mut Vec<Node>,
     pairs: &mut IndexSet<(u32, u32)>,
@@ -48,8 +49,9 @@ fn number_over(
     Ok(base + place as u32 + 2)
 }
 
-/// The numbers of the refs of a level, from those of the level below, two for each: one after the
-/// other, with `low` before `high`. The nodes of the level's variable x are put behind the others.
+/// The numbers of the refs above the level of variable x, from those below it: the refs at the
+/// places 2j and 2j + 1 of `below` are the low and the high child of the one at place j. The new
+/// nodes are appended to `nodes`.
 pub(crate) fn level_above(
     alloc: Global,
     nodes: &mut Vec<Node>,

@@ -1,4 +1,4 @@
-//! Rows.
+//! The truth table of one function.
 
 ghost use Rattle.std.specs.Prelude.{◌≡◌, ◌<◌, ◌≤◌};
 ghost use Rattle.definitions.specs.Functions.{depends, from_table};

@@ -1,4 +1,4 @@
-//! Tables.
+//! The truth tables of the outputs of a cover.
 
 ghost use Rattle.std.specs.Prelude.{◌≡◌, ◌*◌, ◌<◌, ◌≤◌, ◌^◌, length, map, IfOk};
 ghost use Rattle.definitions.specs.Functions.{from_table, table};

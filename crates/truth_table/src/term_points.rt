@@ -1,4 +1,5 @@
-//! Words of 64 points from product terms.
+//! Packed truth tables from product terms. Bit b of word w of a table is the value at point 64 w +
+//! b. A group is 32 consecutive words of each table.
 
 ghost use Rattle.std.specs.Prelude.{◌≡◌, ◌+◌, ◌*◌, ◌^◌, ◌<◌, ◌≤◌, ◌==◌, ℕ, false, length, map, nat_lt, IfOk, IsFalse, if◌then◌else◌, bit_and, bit_or, get_or, slice_index, ◌/◌, ◌%◌, []};
 ghost use Rattle.std.specs.Int.{bit_at};
@@ -17,7 +18,14 @@ use rayon::prelude::*;
 use std::alloc::{AllocError, Global};
 use std::thread::Threads;
 
-/// The points of a word at which a term's literal of a variable below 6, if it has one, holds.
+/// How many words of each table form a group.
+const GROUP_WORDS: usize = 32;
+
+/// The words of a group: entry [place][o] is word `place` of the group in the table of output o.
+type GroupWords = [[u64; 16]; 32];
+
+/// The points of a word at which a term's literal of variable x, below 6, holds: all points if it
+/// has none.
 fn literal_points(term: Term, x: VarIx) -> u64
     requires { x < 6 }
     ensures { (b : ℕ) → b < 64 → (bit_at result b == 1) ≡ literal_at term b x }
@@ -33,7 +41,8 @@ fn literal_points(term: Term, x: VarIx) -> u64
     }
 }
 
-/// The points of a word at which a term's literals of the variables 0 to 5 hold.
+/// The points of a word at which a term's literals of the variables 0 to 5 hold, the same ones in
+/// each word.
 fn pattern(term: Term) -> u64
     ensures { (b : ℕ) → b < 64 → (bit_at result b == 1) ≡ literals_at term b 0 6 }
 {
@@ -44,7 +53,8 @@ fn pattern(term: Term) -> u64
     points
 }
 
-/// Whether a term's literals of the variables from 6 on hold at the points of a word.
+/// Whether a term's literals of the variables 6 to 15 hold at the points of word `place` of a
+/// table.
 fn holds_above(term: &Term, place: usize) -> bool
     requires { place < 1024 }
     ensures { result ≡ literals_at term.now (64 * place) 6 10 }
@@ -52,7 +62,8 @@ fn holds_above(term: &Term, place: usize) -> bool
     place & (term.care >> 6) as usize == (term.value >> 6) as usize
 }
 
-/// Adds points to the words of a term's outputs.
+/// Adds points to the word of each output of a term: `words[o]` is that of output o, and bit o of
+/// `outs` says whether the term belongs to it.
 #[inline(always)]
 fn add_points(words: &mut [u64; 16], outs: u16, points: u64)
     ensures { (o : ℕ) → o < 16 →
@@ -66,7 +77,8 @@ fn add_points(words: &mut [u64; 16], outs: u16, points: u64)
     }
 }
 
-/// Whether a term's literals of the variables from 11 on leave it a point in a group of 32 words.
+/// Whether a term's literals of the variables 11 to 15 hold in a group. Else the term is 0 at all
+/// points of the group.
 fn may_hold(term: &Term, group: usize) -> bool
     requires { group < 32 }
     ensures { IsFalse result → (place : ℕ) → place < 32 →
@@ -75,28 +87,29 @@ fn may_hold(term: &Term, group: usize) -> bool
     group & (term.care >> 11) as usize == (term.value >> 11) as usize
 }
 
-/// Adds a term's points to the words of a group.
-fn add_term(words: &mut [[u64; 16]; 32], term: &Term, group: usize)
+/// Adds the points of a group at which a term is 1: `words[place][o]` is word `place` of the group
+/// in the table of output o.
+fn add_term(words: &mut GroupWords, term: &Term, group: usize)
     requires { group < 32 }
     ensures { (place : ℕ) → place < 32 →
         AddsTerm term.now (32 * group + place) (get_or words.old place [])
         (get_or words.new place []) }
 {
     let points = pattern(*term);
-    for place in 0..32 {
-        if holds_above(term, 32 * group + place) {
+    for place in 0..GROUP_WORDS {
+        if holds_above(term, GROUP_WORDS * group + place) {
             add_points(&mut words[place], term.outs, points);
         }
     }
 }
 
-/// The values of all outputs at the points of a group of 32 words: only terms that may hold there
-/// are evaluated word by word.
-fn group_words(terms: &[Term], group: usize) -> [[u64; 16]; 32]
+/// The words of a group: entry [place][o] is word `place` of the group in the table of output o.
+/// Terms that are 0 in the whole group are not evaluated word by word.
+fn group_words(terms: &[Term], group: usize) -> GroupWords
     requires { group < 32 }
     ensures { AreGroupWords terms.now group result }
 {
-    let mut words = [[0u64; 16]; 32];
+    let mut words = [[0u64; 16]; GROUP_WORDS];
     for term in terms {
         if may_hold(term, group) {
             add_term(&mut words, term, group);
@@ -105,7 +118,7 @@ fn group_words(terms: &[Term], group: usize) -> [[u64; 16]; 32]
     words
 }
 
-/// The words that n variables leave free: the bits from that of the last point on are 0.
+/// The bits of a word that stand for points of n variables: the lowest 2^n of them, or all 64.
 pub(crate) fn points_mask(n: u8) -> u64
     requires { n ≤ 16 }
     ensures { (b : ℕ) → b < 64 → (bit_at result b == 1) ≡ nat_lt b (2 ^ n) }
@@ -117,13 +130,14 @@ pub(crate) fn points_mask(n: u8) -> u64
     }
 }
 
-/// The words of m tables, one table after the other, with the points of a mask alone.
+/// The packed tables of m outputs, one after the other, from their groups of words. A table has
+/// `size` words, each of which keeps the bits of `mask` alone.
 fn lay_out(
     alloc: Global,
     m: u8,
     size: usize,
     mask: u64,
-    groups: &[[[u64; 16]; 32]],
+    groups: &[GroupWords],
 ) -> Result<Vec<u64>, AllocError>
     requires some { 1 ≤ size }
     requires few { size ≤ 1024 }
@@ -137,20 +151,29 @@ fn lay_out(
     let mut words = Vec::with_capacity(alloc, m as usize * size)?;
     for i in 0..m as usize * size {
         let place = i % size;
-        words.push(groups[place / 32][place % 32][i / size] & mask)?;
+        words.push(groups[place / GROUP_WORDS][place % GROUP_WORDS][i / size] & mask)?;
     }
     Ok(words)
+}
+
+/// How many groups a table of `size` words has.
+fn groups_of(size: usize) -> usize
+    requires { size ≤ 1024 }
+    ensures { result ≡ (size + 31) / 32 }
+{
+    (size + GROUP_WORDS - 1) / GROUP_WORDS
 }
 
 /// How many terms a thread has to try in all to be worth its start.
 const TERMS_WORTH_A_THREAD: usize = 8_192;
 
-/// How many groups are worth a thread if `terms` terms are tried in each.
+/// The least number of groups that are worth a thread if each tries `terms` terms.
 fn least_groups(terms: usize) -> usize {
     TERMS_WORTH_A_THREAD / terms.max(1)
 }
 
-/// The packed truth tables of m outputs of terms of n inputs, one table after the other.
+/// The packed truth tables of the m outputs that product terms of n inputs have, one table after
+/// the other. Threads share the groups of words.
 pub(crate) fn packed_words<R: Threads + Sync>(
     rt: &R,
     alloc: Global,
@@ -169,11 +192,11 @@ pub(crate) fn packed_words<R: Threads + Sync>(
         (product_functions m (map (product_of n m) terms.now))) }
 {
     let size = words_per_table(n);
-    let groups: Vec<[[u64; 16]; 32]> = (0..(size + 31) / 32)
+    let groups: Vec<GroupWords> = (0..groups_of(size))
         .into_par_iter()
         .with_min_len(least_groups(terms.len()))
         .map(
-            |group: usize| -> [[u64; 16]; 32]
+            |group: usize| -> GroupWords
                 requires { group < 32 }
                 ensures { AreGroupWords terms.entry.now group result }
             { group_words(terms, group) },
@@ -184,11 +207,7 @@ pub(crate) fn packed_words<R: Threads + Sync>(
 }
 
 /// The words of the first `count` groups, made by the calling thread.
-fn groups_alone(
-    alloc: Global,
-    terms: &[Term],
-    count: usize,
-) -> Result<Vec<[[u64; 16]; 32]>, AllocError>
+fn groups_alone(alloc: Global, terms: &[Term], count: usize) -> Result<Vec<GroupWords>, AllocError>
     requires { count ≤ 32 }
     ensures long { IfOk result (λ v. length v.items ≡ count) }
     ensures words { IfOk result (λ v. (group : ℕ) → group < count →
@@ -209,7 +228,7 @@ pub fn cover_words(alloc: Global, cover: &Cover) -> Result<Vec<u64>, AllocError>
         (packed_tables cover.now.inputs cover.now.outputs v.items)) }
 {
     let size = words_per_table(cover.inputs());
-    let groups = groups_alone(alloc, cover.terms(), (size + 31) / 32)?;
+    let groups = groups_alone(alloc, cover.terms(), groups_of(size))?;
     let words = lay_out(
         alloc,
         cover.outputs(),
