@@ -14,7 +14,8 @@ pub struct NodeParts {
     pub high: u32,
 }
 
-/// The word of a node.
+/// The word of a node: 1 in bit 44, the level in bits 40 to 43, the id of the low child in bits 20
+/// to 39, and that of the high child in bits 0 to 19.
 pub fn node_word(level: u8, low: u32, high: u32) -> u64
     requires level { level < 16 }
     requires low { low < 2 ^ 20 }
@@ -24,7 +25,7 @@ pub fn node_word(level: u8, low: u32, high: u32) -> u64
     (1 << 44) + (u64::from(level) << 40) + (u64::from(low) << 20) + u64::from(high)
 }
 
-/// The parts of a node's word.
+/// The level and the children of a node, from its word.
 pub fn node_parts(word: u64) -> NodeParts
     ensures level { result.level ≡ level_of word }
     ensures low { result.low ≡ low_of word }
@@ -37,7 +38,7 @@ pub fn node_parts(word: u64) -> NodeParts
     }
 }
 
-/// Where the search for a word starts among that many places.
+/// The place, below `places`, at which the search for a word starts: a hash of the word.
 pub fn start(places: usize, word: u64) -> usize
     requires some { 0 < places }
     requires few { places < 2 ^ 32 }
@@ -49,7 +50,8 @@ pub fn start(places: usize, word: u64) -> usize
     (((second >> 32) * places as u64) >> 32) as usize
 }
 
-/// The place that a search comes to after it passed `passed` others.
+/// The place that a search comes to after it passed `passed` places from `start` on. After the last
+/// place comes the first.
 pub fn probe(start: usize, passed: usize, places: usize) -> usize
     requires start { start < places }
     requires passed { passed < places }
@@ -63,7 +65,7 @@ pub fn probe(start: usize, passed: usize, places: usize) -> usize
     }
 }
 
-/// What the word of an operation's result begins with.
+/// The key of an operation on two ids: the upper bits of the word that holds its result.
 pub fn entry_key(operation: Operation, first: u32, second: u32) -> u64
     requires first { first < 2 ^ 20 }
     requires second { second < 2 ^ 20 }

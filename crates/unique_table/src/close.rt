@@ -96,7 +96,7 @@ impl ClosedStore {
         (closed, order)
     }
 
-    /// The ids in the root words.
+    /// The ids of the roots of all outputs, or the least output whose root was not published.
     fn root_ids(&self, alloc: Global) -> Result<Vec<u32>, CloseFault>
         ensures roots { OnOk result (HasAllRoots self.now) }
         ensures ids { IfOk result
@@ -118,7 +118,7 @@ impl ClosedStore {
         Ok(ids)
     }
 
-    /// The word of a root.
+    /// The word of an output's root: 0 if it was not published, else its id plus 1.
     fn root_word(&self, output: u8) -> u64
         requires { output < roots_count self.now.plan }
         ensures is { result ≡ root_word self.now output }

@@ -4,7 +4,7 @@ ghost use Rattle.std.specs.Prelude.{◌≡◌, ◌*◌, ◌<◌, ◌≤◌, leng
 ghost use Rattle.unique_table.specs.Plans.{IsKind, parts_count, top_assignments};
 ghost use Rattle.definitions.specs.Problems.{outputs_of, TruthTables};
 
-use crate::plan::{PieceKind, Pieces, TermList};
+use crate::plan::{PieceKind, Pieces, TERM_SHARES, TermList};
 use order_model::Order;
 use std::alloc::{AllocError, Global};
 use std::snapshot::Snapshot;
@@ -20,19 +20,21 @@ const MOST_WORDS: usize = NODE_PLACES + CACHE_PLACES + 1_024 + 16;
 /// The words of an empty store. No page of them is made, as long as they are only read.
 static BLANK: [u64; MOST_WORDS] = [0; MOST_WORDS];
 
+/// How many places for nodes a store has.
 pub(crate) fn node_places() -> usize
     ensures { result ≡ 262144 }
 {
     NODE_PLACES
 }
 
+/// How many places for results of operations a store has.
 pub(crate) fn cache_places() -> usize
     ensures { result ≡ 65536 }
 {
     CACHE_PLACES
 }
 
-/// So many words of an empty store.
+/// The first `count` words of an empty store, all 0.
 pub(crate) fn blank_words(count: usize) -> &'static [u64]
     requires { count ≤ 328720 }
     ensures { result.now ≡ replicate count 0 }
@@ -40,7 +42,7 @@ pub(crate) fn blank_words(count: usize) -> &'static [u64]
     &BLANK[..count]
 }
 
-/// What the plan keeps of the pieces.
+/// Of what the pieces are made, as the plan keeps it: terms are copied.
 pub(crate) fn kind_of(alloc: Global, pieces: Pieces<'_>) -> Result<PieceKind, AllocError>
     ensures { IfOk result (λ kind. IsKind kind pieces.entry) }
 {
@@ -55,7 +57,7 @@ pub(crate) fn kind_of(alloc: Global, pieces: Pieces<'_>) -> Result<PieceKind, Al
     }
 }
 
-/// How many ways there are to fix the variables on top.
+/// How many assignments the top two variables of an order have, or its only variable.
 fn top_assignments(order: &Order) -> usize
     ensures is { result ≡ top_assignments order.now }
     ensures few { result ≤ 4 }
@@ -63,7 +65,7 @@ fn top_assignments(order: &Order) -> usize
     if order.len() < 2 { 2 } else { 4 }
 }
 
-/// How many pieces there are besides the outputs.
+/// How many pieces are parts of outputs.
 pub(crate) fn parts_count(kind: &PieceKind, order: &Order, outputs: u8) -> usize
     requires { outputs ≤ 16 }
     ensures is { (t : TruthTables) → outputs ≡ outputs_of t →
@@ -73,6 +75,6 @@ pub(crate) fn parts_count(kind: &PieceKind, order: &Order, outputs: u8) -> usize
     let outputs = usize::from(outputs);
     match kind {
         PieceKind::Restrictions => outputs * top_assignments(order),
-        PieceKind::Products(_) => outputs * 64,
+        PieceKind::Products(_) => outputs * TERM_SHARES,
     }
 }

@@ -21,6 +21,6 @@ mod words;
 pub use atomic_steps::Words;
 pub use close::{CloseFault, ClosedStore};
 pub use node_words::{NodeParts, Operation};
-pub use plan::{PieceKind, Pieces, Plan, TermList};
+pub use plan::{PieceKind, Pieces, Plan, TERM_SHARES, TermList};
 pub use session::{NodeId, Session, Stake, View};
 pub use store::{Store, StoreFull};

@@ -11,7 +11,7 @@ use node_words::node_parts;
 use order_model::{Node, Ref, VarIx};
 use std::alloc::{AllocError, Global};
 
-/// A word of the first places of a closed table.
+/// The node word at a place of a closed table, one of its first `places` words.
 fn word_at(closed: &Closed<(), Global>, places: usize, place: usize) -> u64
     requires full { IsFull closed.now.words }
     requires places { places ≤ slots_len closed.now.words }
@@ -21,7 +21,8 @@ fn word_at(closed: &Closed<(), Global>, places: usize, place: usize) -> u64
     closed.word(place)
 }
 
-/// Adds the copy of a place.
+/// Appends the copy of the node at `place`, and returns the ref to it. The number of the place is
+/// then the copy's index plus 1.
 fn add(
     numbers: &mut Numbers,
     nodes: &mut Vec<Node>,
@@ -42,7 +43,8 @@ fn add(
     Ok(Ref::Place(copied))
 }
 
-/// Copies what an id reaches, each node after its children.
+/// The ref to the copy of a node or terminal with an id. The nodes that it reaches and that have no
+/// copy yet are appended to `nodes`, children first.
 pub(crate) fn copy(
     closed: &Closed<(), Global>,
     places: usize,

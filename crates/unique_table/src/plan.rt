@@ -17,9 +17,13 @@ pub struct Plan {
     pub kind: PieceKind,
 }
 
-/// The pieces of a store: restrictions of the outputs by the top two variables (or the only one),
-/// or functions of the terms whose number leaves the same remainder when divided by 64. The outputs
-/// themselves are pieces too, after these.
+/// How many parts each output of a cover has. Part i has the terms whose number leaves i when
+/// divided by this.
+pub const TERM_SHARES: usize = 64;
+
+/// The pieces of a store: parts of outputs, and then the outputs themselves. The parts are
+/// restrictions of the outputs by the top two variables (or the only one), or functions of the
+/// terms whose number leaves one remainder when divided by `TERM_SHARES`.
 #[derive(Clone, Copy)]
 pub enum Pieces<'a> {
     Tables,

@@ -32,21 +32,28 @@ pub struct Stake {
     pub halvings: u64,
 }
 
-/// The words of nodes and of pieces as they were seen, those that another session saw that was
-/// joined into this one, the words of nodes that it put, or a session that it comes from, the stake
-/// in the store, and how many steps and writes were made. It isn't live if the session was joined
-/// into another, and it isn't current if another was joined into it and no step followed. No value
-/// of it is made.
+/// What a session knows. Only contracts see it, and no value of it is made.
 pub struct View {
+    /// Whether the session was not joined into another one.
     pub live: bool,
+    /// Whether a step followed the last join into the session, if there was one.
     pub current: bool,
+    /// The session's stake in the store.
     pub stake: Stake,
+    /// What the store is for.
     pub plan: Plan,
+    /// The words of nodes as the session saw them.
     pub seen: [u64; 0],
+    /// The words of nodes as a session saw them that was joined into this one.
     pub received: [u64; 0],
+    /// The words of nodes that the session put, or one that it comes from.
     pub made: [u64; 0],
+    /// The words of pieces as the session saw them.
     pub pieces: [u64; 0],
+    /// The words of pieces as a session saw them that was joined into this one.
     pub pieces_received: [u64; 0],
+    /// How many steps were made.
     pub steps: u64,
+    /// How many of the steps could write.
     pub writes: u64,
 }

@@ -103,7 +103,7 @@ impl Store {
         &self.order
     }
 
-    /// How many pieces there are, the outputs among them.
+    /// How many pieces the store has: parts of outputs, and then the outputs.
     pub fn pieces(&self) -> usize
         ensures value { result ≡ self.now.plan.pieces }
         ensures plan { IsPlan self.now.plan }
@@ -111,7 +111,8 @@ impl Store {
         self.pieces
     }
 
-    /// How many pieces are no outputs: the outputs follow, so this is the number of the first one.
+    /// How many pieces are parts of outputs. The outputs follow these, so it is the number of the
+    /// first output among the pieces.
     pub fn roots(&self) -> usize
         ensures value { result ≡ self.now.plan.roots }
         ensures plan { IsPlan self.now.plan }
@@ -127,9 +128,9 @@ impl Store {
         self.entries
     }
 
-    /// What holds of each session of the store. Its words are nodes, no two of them equal, so ids
-    /// are equal if they denote the same function, and no id lies below the terminals. A session
-    /// that is alone made all nodes that it knows.
+    /// States what holds of each session of the store, and does nothing. Its words are nodes, no
+    /// two of them equal, so ids are equal if they denote the same function, and no id lies below
+    /// the terminals. A session that is alone made all nodes that it knows.
     pub fn canonical_ids(&self, session: &Session)
         requires { session.now.store ≡ self.now }
         ensures unique { HasUniqueIds session.now }
@@ -194,8 +195,8 @@ impl Store {
         Some(node_parts(word))
     }
 
-    /// The id that a cache place has for an operation on two ids, if it is for these. It takes one
-    /// step.
+    /// The id that a cache place holds for an operation on two ids; None if it is empty or holds
+    /// the result of another operation. It takes one step.
     pub fn entry(
         &self,
         session: &mut Session,
@@ -222,7 +223,7 @@ impl Store {
         Some((word % (1 << 20)) as u32)
     }
 
-    /// Has a cache place know the result of an operation on two ids. It takes one step.
+    /// Stores the id of the result of an operation on two ids in a cache place. It takes one step.
     pub fn set_entry(
         &self,
         session: &mut Session,
@@ -245,7 +246,7 @@ impl Store {
         words::remember(&self.table.shared, seat, at, place, word);
     }
 
-    /// Tells all threads the id of a piece's function. It takes one step.
+    /// Publishes the id of a piece's function to all sessions. It takes one step.
     pub fn publish(&self, session: &mut Session, piece: usize, id: NodeId)
         requires session { session.old.store ≡ self.now }
         requires piece { piece < self.now.plan.pieces }
@@ -276,7 +277,7 @@ impl Store {
     }
 
     /// Two sessions that know what the one knew, each with half of its stake. The second one's
-    /// counts begin at 0.
+    /// counts of steps and writes begin at 0.
     pub fn split(&self, session: Session) -> (Session, Session)
         requires { session.store ≡ self.now }
         ensures first { result.0 ≡
@@ -309,8 +310,8 @@ impl Store {
         Session { seat }
     }
 
-    /// The store that no session shares any more. Other sessions may have published roots that this
-    /// one doesn't know of.
+    /// The store with its words as they are when its last session ends. Other sessions may have
+    /// published roots that this one doesn't know of.
     pub fn into_closed(self, session: Session) -> ClosedStore
         requires { session.store ≡ self }
         ensures plan { result.plan ≡ self.plan }

@@ -1,4 +1,5 @@
-//! The steps on words, each with what the seat's view gains.
+//! The atomic steps on the words of a store: what each reads or writes, and what the seat's view
+//! gains.
 
 ghost use Rattle.std.specs.Prelude.{◌≡◌, ◌≢◌, ◌+◌, ◌-◌, ◌*◌, ◌^◌, ◌<◌, ◌≤◌, slice_index, MatchBool, IfSome, IfNone};
 ghost use Rattle.node_words.specs.Nodes.{IsTaken, IsFullFor};
@@ -15,10 +16,11 @@ use crate::session::View;
 use atomic_table::{Seat, Shared};
 use node_words::{probe, start};
 
-type Board = Shared<(), View, Plan, Words>;
+/// The words of a store as its sessions share them.
+type SharedWords = Shared<(), View, Plan, Words>;
 
-/// Loads a node word.
-pub(crate) fn look(shared: &Board, seat: &mut Seat<(), View>, place: usize) -> u64
+/// Loads the node word at a place: 0 if the place is empty.
+pub(crate) fn look(shared: &SharedWords, seat: &mut Seat<(), View>, place: usize) -> u64
     requires seat { IsSeatOf shared.now seat.old }
     requires place { IsNodePlace shared.now place }
     ensures step { IsSeatAfter shared.now seat.old seat.new 0 }
@@ -27,9 +29,9 @@ pub(crate) fn look(shared: &Board, seat: &mut Seat<(), View>, place: usize) -> u
     shared.load::<Looks>(seat, place)
 }
 
-/// Puts a node's word into the place that comes next in the search for it, if the place is empty,
-/// and returns what was found.
-fn put(shared: &Board, seat: &mut Seat<(), View>, place: usize, word: u64) -> u64
+/// Stores a node's word at a place if the place is empty, and returns the word that was there
+/// before: 0 if it was empty. The place is the next one in the search for the node.
+fn put(shared: &SharedWords, seat: &mut Seat<(), View>, place: usize, word: u64) -> u64
     requires { MayPut shared.now seat.old word place }
     ensures seat { IsSeatOf shared.now seat.new }
     ensures empty { result ≡ 0 →
@@ -41,9 +43,9 @@ fn put(shared: &Board, seat: &mut Seat<(), View>, place: usize, word: u64) -> u6
     shared.compare_exchange::<Puts>(seat, place, 0, word)
 }
 
-/// Looks at the place that comes next in the search for a node's word, and puts the word there if
-/// it is seen empty. Says whether the word stands there.
-pub(crate) fn take(shared: &Board, seat: &mut Seat<(), View>, place: usize, word: u64) -> bool
+/// Whether a node's word stands at a place. If the place is empty, the word is stored there first.
+/// The place is the next one in the search for the node.
+pub(crate) fn take(shared: &SharedWords, seat: &mut Seat<(), View>, place: usize, word: u64) -> bool
     requires { MayPut shared.now seat.old word place }
     ensures searches { Searches shared.now seat.old seat.new word 2 }
     ensures found { MatchBool result (slice_index seat.new.me.0.seen place ≡ word)
@@ -58,9 +60,9 @@ pub(crate) fn take(shared: &Board, seat: &mut Seat<(), View>, place: usize, word
     found == 0 || found == word
 }
 
-/// Stores the id of a piece's function.
+/// Stores the id of a piece's function, plus 1, in the word of the piece, which stands at `place`.
 pub(crate) fn publish(
-    shared: &Board,
+    shared: &SharedWords,
     seat: &mut Seat<(), View>,
     place: usize,
     piece: usize,
@@ -77,8 +79,14 @@ pub(crate) fn publish(
     shared.store::<Publishes>(seat, place, u64::from(id) + 1);
 }
 
-/// Loads a piece word.
-pub(crate) fn collect(shared: &Board, seat: &mut Seat<(), View>, place: usize, piece: usize) -> u64
+/// Loads the word of a piece, which stands at `place`: 0 until the id of the piece's function is
+/// published, then this id plus 1.
+pub(crate) fn collect(
+    shared: &SharedWords,
+    seat: &mut Seat<(), View>,
+    place: usize,
+    piece: usize,
+) -> u64
     requires seat { IsSeatOf shared.now seat.old }
     requires place { IsPiecePlace shared.now piece place }
     ensures step { IsSeatAfter shared.now seat.old seat.new 0 }
@@ -87,8 +95,14 @@ pub(crate) fn collect(shared: &Board, seat: &mut Seat<(), View>, place: usize, p
     shared.load::<Collects>(seat, place)
 }
 
-/// Loads a cache word.
-pub(crate) fn recall(shared: &Board, seat: &mut Seat<(), View>, place: usize, entry: usize) -> u64
+/// Loads a word of the operation cache, that of entry `entry`, which stands at `place`: 0 if the
+/// entry is empty, else the key of an operation and the id of its result.
+pub(crate) fn recall(
+    shared: &SharedWords,
+    seat: &mut Seat<(), View>,
+    place: usize,
+    entry: usize,
+) -> u64
     requires seat { IsSeatOf shared.now seat.old }
     requires place { IsEntryPlace shared.now entry place }
     ensures step { IsSeatAfter shared.now seat.old seat.new 0 }
@@ -97,9 +111,10 @@ pub(crate) fn recall(shared: &Board, seat: &mut Seat<(), View>, place: usize, en
     shared.load::<Recalls>(seat, place)
 }
 
-/// Stores a cache word.
+/// Stores the key of an operation and the id of its result in a word of the operation cache, that
+/// of entry `entry`, which stands at `place`.
 pub(crate) fn remember(
-    shared: &Board,
+    shared: &SharedWords,
     seat: &mut Seat<(), View>,
     place: usize,
     entry: usize,
@@ -113,10 +128,10 @@ pub(crate) fn remember(
     shared.store::<Remembers>(seat, place, word);
 }
 
-/// Searches for a node's word, and puts it into the first empty place that it comes to. None if
-/// each place is taken by another word.
+/// The place of a node's word, which is stored in the first empty place that the search for it
+/// comes to. None if each of the `places` places is taken by another word.
 pub(crate) fn find_or_put(
-    shared: &Board,
+    shared: &SharedWords,
     seat: &mut Seat<(), View>,
     places: usize,
     word: u64,
