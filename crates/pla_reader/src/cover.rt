@@ -32,6 +32,7 @@ impl Model for Cover {
 }
 
 impl Cover {
+    /// The cover with the given numbers of inputs and outputs, their names, and terms.
     pub(crate) fn new(
         inputs: u8,
         outputs: u8,

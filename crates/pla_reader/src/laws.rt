@@ -5,7 +5,8 @@ ghost use Rattle.pla_reader.specs.declared.errors.LineFault.{LineFault};
 ghost use Rattle.pla_reader.specs.Covers.{NamedCover, IsCover};
 ghost use Rattle.pla_reader.specs.Reading.{Reads, FirstFault};
 
-/// Each input is read as a cover or has a first fault, not both, and for one value.
+/// Each input is read as a cover or has a first fault, and not both. It is read as only one cover,
+/// and has only one first fault.
 pub fn inputs_have_one_reading()
     ensures some { (bytes : List ℕ) →
         ((cover : NamedCover) × Reads bytes cover)

@@ -6,7 +6,7 @@ ghost use Rattle.pla_reader.specs.Text.{lines_of, is_blank, bar, words, content 
 
 use memchr::{memchr, memchr3};
 
-/// How many bytes stand before a byte, or all of them.
+/// The number of bytes before the first `byte`, or of all bytes if there is none.
 fn len_until(text: &[u8], byte: u8) -> usize
     ensures value { result ≡ position_or_len (λ b. b == byte) text.now }
     ensures bound { result ≤ length text.now }
@@ -21,14 +21,14 @@ pub(crate) fn is_blank_byte(b: u8) -> bool
     b == b' ' || (b == b'\t' || b == b'\r')
 }
 
-/// Whether a byte of a term is no position.
+/// Whether a byte between the positions of a term is passed over: a blank or `|`.
 pub(crate) fn is_separator(b: u8) -> bool
     ensures { result ≡ (is_blank b || b == bar) }
 {
     is_blank_byte(b) || b == b'|'
 }
 
-/// How many bytes stand before a blank, or all of them.
+/// The number of bytes before the first blank, or of all bytes if there is none.
 fn word_len(text: &[u8]) -> usize
     ensures value { result ≡ position_or_len is_blank text.now }
     ensures bound { result ≤ length text.now }
@@ -36,7 +36,7 @@ fn word_len(text: &[u8]) -> usize
     memchr3(b' ', b'\t', b'\r', text).unwrap_or(text.len())
 }
 
-/// The first line of a text that isn't empty, and what follows its line feed.
+/// The first line of a text that has a byte, and the text after the line's line feed.
 #[tactic(auto, using(crate::proofs::TextLemmas::first_line_lem))]
 pub(crate) fn first_line(text: &[u8]) -> (&[u8], &[u8])
     requires { 0 < length text.now }
@@ -51,7 +51,7 @@ pub(crate) fn first_line(text: &[u8]) -> (&[u8], &[u8])
     }
 }
 
-/// A line up to its comment.
+/// A line without its comment, which begins with `#`.
 pub(crate) fn content(line: &[u8]) -> &[u8]
     ensures value { result.now ≡ content_of line.now }
     ensures front { (comment : List ℕ) × (line.now ≡ result.now ++ comment) }
@@ -60,7 +60,7 @@ pub(crate) fn content(line: &[u8]) -> &[u8]
     front
 }
 
-/// The first word of a line, and what follows it.
+/// The first word of a text, and the text after it.
 #[tactic(auto, using(crate::proofs::TextLemmas::words_blank, crate::proofs::TextLemmas::words_word, crate::proofs::TextLemmas::words_none))]
 pub(crate) fn next_word(text: &[u8]) -> Option<(&[u8], &[u8])>
     ensures none { IfNone result (words text.now ≡ []) }
@@ -80,7 +80,7 @@ pub(crate) fn next_word(text: &[u8]) -> Option<(&[u8], &[u8])>
     None
 }
 
-/// The word of a text that has just one.
+/// The word of a text that has exactly one.
 pub(crate) fn only_word(text: &[u8]) -> Option<&[u8]>
     ensures some { IfSome result (λ word. one_word (words text.now) ≡ Some word.now) }
     ensures none { IfNone result (one_word (words text.now) ≡ None) }

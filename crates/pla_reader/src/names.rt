@@ -10,7 +10,7 @@ use crate::lines::next_word;
 use std::alloc::{AllocError, Global};
 use std::str;
 
-/// A word as a name.
+/// The name that a word spells.
 fn name(alloc: Global, word: &[u8]) -> Result<String, AllocError>
     requires { is_name word.now ≡ true }
     ensures { IfOk result (λ name. string_bytes name ≡ word.now) }
@@ -21,7 +21,7 @@ fn name(alloc: Global, word: &[u8]) -> Result<String, AllocError>
     }
 }
 
-/// The words of a text as names.
+/// The names that the words of a text spell.
 pub(crate) fn names(alloc: Global, text: &[u8]) -> Result<Vec<String>, AllocError>
     requires { list_all is_name (words text.now) ≡ true }
     ensures { IfOk result (λ names. map string_bytes names.items ≡ words text.now) }
@@ -35,7 +35,7 @@ pub(crate) fn names(alloc: Global, text: &[u8]) -> Result<Vec<String>, AllocErro
     Ok(names)
 }
 
-/// Names that are a text with a number after it, from 0 on.
+/// `count` names: `front` with 0, 1, 2 and so on after it.
 pub(crate) fn default_names(
     alloc: Global,
     front: &str,

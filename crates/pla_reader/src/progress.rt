@@ -57,7 +57,8 @@ impl From<AllocError> for LineError {
     }
 }
 
-/// The count that a directive gives.
+/// The number of inputs or outputs that a directive states, 1 to 16. `known` is the number that an
+/// earlier directive stated, and `outside` the fault of a number that is not 1 to 16.
 fn count(known: Option<u8>, text: &[u8], outside: LineFault) -> Result<u8, LineFault>
     ensures { MatchResult result
         (λ d. (head_fault (is_some known) (words text.now) outside ≡ None)
@@ -87,7 +88,8 @@ fn is_number_alone(text: &[u8]) -> bool
     }
 }
 
-/// The fault of names, by their number and whether earlier ones came.
+/// Nothing if a directive may list these names, else their fault. `count` is the stated number of
+/// inputs or outputs, and `repeated` says whether names were listed before.
 fn check_names(count: Option<u8>, repeated: bool, text: &[u8]) -> Result<(), LineFault>
     ensures { MatchResult result
         (λ done. (naming_fault (is_some count) repeated (unwrap_or count 0) (words text.now) ≡ None)
@@ -109,7 +111,8 @@ fn check_names(count: Option<u8>, repeated: bool, text: &[u8]) -> Result<(), Lin
     }
 }
 
-/// The logical type that a directive gives, by whether one came before, and a term.
+/// The logical type that a directive states. `repeated` says whether one was stated before, and
+/// `late` whether a term came before.
 fn logical_type(repeated: bool, late: bool, text: &[u8]) -> Result<LogicalType, LineFault>
     ensures { MatchResult result
         (λ kind. (type_fault repeated late (words text.now) ≡ None)
@@ -126,7 +129,7 @@ fn logical_type(repeated: bool, late: bool, text: &[u8]) -> Result<LogicalType, 
     }
 }
 
-/// The names given, or else numbered ones.
+/// The names `given` or, without these, `count` names: `front` with 0, 1, 2 and so on after it.
 fn given_or_default_names(
     alloc: Global,
     given: Option<Vec<String>>,
@@ -143,7 +146,7 @@ fn given_or_default_names(
     }
 }
 
-/// What was read so far.
+/// What the lines read so far state.
 #[derive(Drop)]
 pub(crate) struct Progress {
     inputs: Option<u8>,
@@ -155,6 +158,7 @@ pub(crate) struct Progress {
 }
 
 impl Progress {
+    /// What no lines state.
     pub(crate) fn new(alloc: Global) -> Progress
         ensures { state_of result ≡ start }
     {
@@ -182,6 +186,7 @@ impl Progress {
         !self.terms.is_empty()
     }
 
+    /// Takes the text that states the number of inputs.
     fn take_inputs(&mut self, text: &[u8]) -> Result<(), LineError>
         ensures { Takes self.old (Inputs (words text.now)) self.new result }
     {
@@ -189,6 +194,7 @@ impl Progress {
         Ok(())
     }
 
+    /// Takes the text that states the number of outputs.
     fn take_outputs(&mut self, text: &[u8]) -> Result<(), LineError>
         ensures { Takes self.old (Outputs (words text.now)) self.new result }
     {
@@ -196,6 +202,7 @@ impl Progress {
         Ok(())
     }
 
+    /// Takes the text that states the names of the inputs.
     fn take_input_names(&mut self, alloc: Global, text: &[u8]) -> Result<(), LineError>
         ensures { Takes self.old (InputNames (words text.now)) self.new result }
     {
@@ -204,6 +211,7 @@ impl Progress {
         Ok(())
     }
 
+    /// Takes the text that states the names of the outputs.
     fn take_output_names(&mut self, alloc: Global, text: &[u8]) -> Result<(), LineError>
         ensures { Takes self.old (OutputNames (words text.now)) self.new result }
     {
@@ -212,6 +220,7 @@ impl Progress {
         Ok(())
     }
 
+    /// Takes the text that states the logical type.
     fn take_type(&mut self, text: &[u8]) -> Result<(), LineError>
         ensures { Takes self.old (TypeLine (words text.now)) self.new result }
     {
@@ -220,6 +229,7 @@ impl Progress {
         Ok(())
     }
 
+    /// Takes the text that states a term.
     fn take_row(&mut self, text: &[u8]) -> Result<(), LineError>
         requires { IsSoundState (state_of self.old) }
         ensures { Takes self.old (Row (positions text.now)) self.new result }
@@ -234,7 +244,7 @@ impl Progress {
         }
     }
 
-    /// Takes the statement of the next line.
+    /// Takes the statement of the next line, or returns its fault.
     pub(crate) fn take(&mut self, alloc: Global, statement: Statement) -> Result<(), LineError>
         requires { IsSoundState (state_of self.old) }
         ensures { Takes self.old (line_of statement.entry) self.new result }
@@ -258,8 +268,8 @@ impl Progress {
         }
     }
 
-    /// The cover of the lines read, if both counts came; the line that ends the description has the
-    /// number.
+    /// The cover that the lines state, if they have both numbers. Line `number` ends the
+    /// description.
     pub(crate) fn finish(self, alloc: Global, number: usize) -> Result<Cover, PlaError>
         requires { IsSoundState (state_of self) }
         ensures ok { IfOk result (IsCoverOf (state_of self)) }

@@ -20,7 +20,7 @@ pub(crate) struct Masks {
     outs: Mask,
 }
 
-/// The masks with the literal of an input character.
+/// The masks of a term after its input position `at`, which has byte `b`.
 fn with_input(masks: Masks, at: u8, b: u8) -> Result<Masks, LineFault>
     requires small { at < 16 }
     requires fresh { bit_at masks.value at ≡ 0 }
@@ -42,7 +42,7 @@ fn with_input(masks: Masks, at: u8, b: u8) -> Result<Masks, LineFault>
     Ok(new)
 }
 
-/// The masks with the output of a character.
+/// The masks of a term after its output position `at`, which has byte `b`.
 fn with_output(masks: Masks, at: u8, b: u8, takes_dont_cares: bool) -> Result<Masks, LineFault>
     requires small { at < 16 }
     requires none { bit_at masks.outs at ≡ 0 }
@@ -64,7 +64,7 @@ fn with_output(masks: Masks, at: u8, b: u8, takes_dont_cares: bool) -> Result<Ma
     Ok(new)
 }
 
-/// The term of a line, or its first fault from the left.
+/// The term of n inputs and m outputs that a line states, or the line's first fault from the left.
 pub(crate) fn row(n: u8, m: u8, takes_dont_cares: bool, line: &[u8]) -> Result<Term, LineFault>
     requires inputs { n ≤ 16 }
     requires outputs { m ≤ 16 }
