@@ -10,7 +10,7 @@ use Rattle.layer_core.specs.Rights.{Right, Posts, told_number}
 use Rattle.layer_core.proofs.Runs.{right_step}
 use Rattle.layer_core.proofs.Lists.{length-same, at_map, at_index}
 use Rattle.layer_core.proofs.Cases.{claim_told, claim_next, claim_past, read_missing, read_empty, read_sees, post_missing, post_stranger, post_double, post_fills}
-use Rattle.layer_core.specs.declared.machine.Marks.{Marks}
+use Rattle.layer_core.specs.declared.machine.WorkerMarks.{WorkerMarks}
 use Rattle.layer_core.specs.declared.machine.Core.TheInside.{Inside}
 use Rattle.layer_core.specs.Instances.{layout_of}
 use Rattle.layer_core.specs.Pairing.{pair_of}
@@ -37,18 +37,18 @@ told_most [] = omega arith
 told_most (x ∷ xs) = grind (arith, told_most xs)
 
 -- the fields after a step: the counter, the cells, and one worker's marks
-abbrev pub shown_with : Inside → ℕ → List (Option Cell) → ℕ → Marks → World
+abbrev pub shown_with : Inside → ℕ → List (Option Cell) → ℕ → WorkerMarks → World
 shown_with x counter cells i m =
     record { layout = layout_of x.layer; counter = counter; cells = map cell_of cells; workers = map marks_of (set x.workers.items i m) }
 
-shown_moved : (x : Inside) (counter : ℕ) (cells : List (Option Cell)) (i : ℕ) (m : Marks) →
+shown_moved : (x : Inside) (counter : ℕ) (cells : List (Option Cell)) (i : ℕ) (m : WorkerMarks) →
     shown_with x counter cells i m ≡ moved (shown x) counter (map cell_of cells) i (marks_of m)
 shown_moved x counter cells i m =
     λ j. record
     { layout = layout_of x.layer; counter = counter; cells = map cell_of cells; workers = map-set marks_of x.workers.items i m j }
 
 -- two reads of one place
-pub same_there : (xs : List Marks) (i : ℕ) (a b : Marks) → i < length xs → a ≡ get_or xs i a → b ≡ get_or xs i b → a ≡ b
+pub same_there : (xs : List WorkerMarks) (i : ℕ) (a b : WorkerMarks) → i < length xs → a ≡ get_or xs i a → b ≡ get_or xs i b → a ≡ b
 same_there xs i a b inside p q = some-injective a b (sym (at_index xs i a inside p) ∙ at_index xs i b inside q)
 
 -- what was read is known in another form
@@ -80,7 +80,7 @@ module _ (x : Inside) (sound : IsSound x) where
         None ≡ get_or x.cells.items p None → (Empty, shown x) ≡ step (shown x) (Read i mask)
     read_none p there low e = sym (read_empty (shown x) i mask p there (cell_there p None low e))
 
-  module _ (i : ℕ) (m : Marks) (inside : i < length x.workers.items) (is : m ≡ get_or x.workers.items i m) where
+  module _ (i : ℕ) (m : WorkerMarks) (inside : i < length x.workers.items) (is : m ≡ get_or x.workers.items i m) where
     at : get_elem? (map marks_of x.workers.items) i ≡ some (marks_of m)
     at = at_map marks_of x.workers.items i m (at_index x.workers.items i m inside is)
 
@@ -93,14 +93,14 @@ module _ (x : Inside) (sound : IsSound x) where
     pub still_told : m.ended ≡ true → (NoMore, shown x) ≡ step (shown x) (Claim i)
     still_told e = sym (claim_told (shown x) i (marks_of m) at e)
 
-    pub drawn : (after : Marks) → marks_of after ≡ claims_block (marks_of m) x.counter → m.ended ≡ false → x.counter < length (blocks_of x.layer)
+    pub drawn : (after : WorkerMarks) → marks_of after ≡ claims_block (marks_of m) x.counter → m.ended ≡ false → x.counter < length (blocks_of x.layer)
         → (Claimed x.counter, shown_with x (x.counter + 1) x.cells.items i after) ≡ step (shown x) (Claim i)
     drawn after new untold low =
         ap (λ (w : World). (Claimed x.counter, w))
         (shown_moved x (x.counter + 1) x.cells.items i after ∙ ap (moved (shown x) (x.counter + 1) (map cell_of x.cells.items) i) new)
         ∙ sym (claim_next (shown x) i (marks_of m) at untold low)
 
-    pub ended : (after : Marks) → marks_of after ≡ ends (marks_of m) → m.ended ≡ false → length (blocks_of x.layer) ≤ x.counter
+    pub ended : (after : WorkerMarks) → marks_of after ≡ ends (marks_of m) → m.ended ≡ false → length (blocks_of x.layer) ≤ x.counter
         → (NoMore, shown_with x (x.counter + 1) x.cells.items i after) ≡ step (shown x) (Claim i)
     ended after new untold high =
         ap (λ (w : World). (NoMore, w))
@@ -109,7 +109,7 @@ module _ (x : Inside) (sound : IsSound x) where
 
     module _ (mask : ℕ) where
       module _ (p : ℕ) (there : place_of (layout_of x.layer) mask ≡ Some p) (low : p < length (masks_of x.layer)) where
-        pub read_one : (cell : Cell) (after : Marks) → marks_of after ≡ learns (marks_of m) p → Some cell ≡ get_or x.cells.items p (Some cell)
+        pub read_one : (cell : Cell) (after : WorkerMarks) → marks_of after ≡ learns (marks_of m) p → Some cell ≡ get_or x.cells.items p (Some cell)
             → (Seen (pair_of cell), shown_with x x.counter x.cells.items i after) ≡ step (shown x) (Read i mask)
         read_one cell after new e =
             ap (λ (w : World). (Seen (pair_of cell), w))
@@ -124,7 +124,7 @@ module _ (x : Inside) (sound : IsSound x) where
           pub post_again : (old : Cell) → Some old ≡ get_or x.cells.items p (Some old) → (Double, shown x) ≡ step (shown x) (Post i mask (pair_of cell))
           post_again old e = sym (post_double (shown x) i (marks_of m) at mask p there (pair_of cell) mine (pair_of old) (cell_there p (Some old) low e))
 
-          pub post_first : (after : Marks) → marks_of after ≡ learns (marks_of m) p → None ≡ get_or x.cells.items p None
+          pub post_first : (after : WorkerMarks) → marks_of after ≡ learns (marks_of m) p → None ≡ get_or x.cells.items p None
               → (Posted, shown_with x x.counter (set x.cells.items p (Some cell)) i after) ≡ step (shown x) (Post i mask (pair_of cell))
           post_first after new e = ap (λ (w : World). (Posted, w)) (shown_moved x x.counter (set x.cells.items p (Some cell)) i after
               ∙ λ j. moved (shown x) x.counter (map-set cell_of x.cells.items p (Some cell) j) i (new j))
@@ -149,5 +149,5 @@ opened x workers zero_is empty blanks =
     none_shown zero = refl
     none_shown (suc n) = ap (λ l. None ∷ l) (none_shown n)
 
-pub opened_workers : (xs : List Marks) (workers : ℕ) (w : Worker) → map marks_of xs ≡ replicate workers w → length xs ≡ workers
+pub opened_workers : (xs : List WorkerMarks) (workers : ℕ) (w : Worker) → map marks_of xs ≡ replicate workers w → length xs ≡ workers
 opened_workers xs workers w is = sym (length-map_lem marks_of xs) ∙ (ap length is ∙ length-same workers w)

@@ -7,7 +7,8 @@ ghost use Rattle.definitions.specs.declared.limits.LowerBound.{LowerBound};
 ghost use Rattle.layer_core.specs.Machine.{Layout, Event, opening, run};
 ghost use Rattle.layer_core.specs.Rights.{IsLayout, RightFor, ArePosted, IsFilled, claimants, all_cells};
 
-/// After any events from the opening the state is right, if each posted cell is that of its mask.
+/// After any events from the opening the machine's state is right, if each posted cell is that of
+/// its mask.
 pub fn events_keep_it_right()
     ensures { (n : ℕ) (F : List Function) (P : List Pair) (r : LowerBound) (bound : ℕ)
         (l : Layout) (workers : ℕ)
@@ -16,7 +17,8 @@ pub fn events_keep_it_right()
         RightFor n F P r bound (run (opening l workers) events) }
 {}
 
-/// After any events each mask whose block is below the counter is claimed by exactly one worker.
+/// After any events each block below the counter, if it has a mask, is claimed by exactly one
+/// worker.
 pub fn each_claim_is_one_workers()
     ensures { (n : ℕ) (F : List Function) (P : List Pair) (r : LowerBound) (bound : ℕ)
         (l : Layout) (workers : ℕ)

@@ -14,9 +14,10 @@ use std::alloc::{AllocError, Global};
 use std::marker::Model;
 use subset_layers::{Cell, Layer};
 
-/// What a worker claimed and knows to be filled, and whether no block was left for it.
+/// What a worker claimed, by block, and knows to be filled, by mask, and whether it was told that
+/// no block is left.
 #[derive(Drop)]
-pub(crate) struct Marks {
+pub(crate) struct WorkerMarks {
     pub(crate) claims: Vec<bool>,
     pub(crate) known: Vec<bool>,
     pub(crate) ended: bool,
@@ -30,7 +31,7 @@ pub struct Core {
     layer: Layer,
     counter: usize,
     cells: Vec<Option<Cell>>,
-    workers: Vec<Marks>,
+    workers: Vec<WorkerMarks>,
 }
 
 impl Model for Core {
@@ -62,7 +63,7 @@ impl Core {
         })
     }
 
-    /// Answers an event.
+    /// Carries out a worker's step, and returns the machine's reply.
     pub fn step(&mut self, event: Event) -> Reply
         requires { IsByWorker self.old event }
         ensures step { (reply_of result, self.new) ≡ step self.old (event_of event) }
@@ -77,6 +78,7 @@ impl Core {
         }
     }
 
+    /// The reply to the claim of the worker at place `worker`.
     fn claim(&mut self, worker: usize) -> Reply
         requires { worker < length self.old.workers }
         ensures { (reply_of result, self.new) ≡ step self.old (Claim worker) }
@@ -95,6 +97,7 @@ impl Core {
         }
     }
 
+    /// The reply to a post of the worker at place `worker`, which fills the cell of a mask.
     fn post(&mut self, worker: usize, mask: Mask, cell: Cell) -> Reply
         requires { worker < length self.old.workers }
         ensures { (reply_of result, self.new) ≡ step self.old (Post worker mask (pair_of cell)) }
@@ -113,6 +116,7 @@ impl Core {
         Reply::Posted
     }
 
+    /// The reply to the worker at place `worker` that reads the cell of a mask.
     fn read(&mut self, worker: usize, mask: Mask) -> Reply
         requires { worker < length self.old.workers }
         ensures { (reply_of result, self.new) ≡ step self.old (Read worker mask) }
@@ -128,7 +132,7 @@ impl Core {
     }
 }
 
-/// Empty cells.
+/// `count` empty cells.
 fn empty_cells(alloc: Global, count: usize) -> Result<Vec<Option<Cell>>, AllocError>
     ensures { IfOk result (λ cells. cells.items ≡ replicate count None) }
 {
@@ -139,18 +143,18 @@ fn empty_cells(alloc: Global, count: usize) -> Result<Vec<Option<Cell>>, AllocEr
     Ok(cells)
 }
 
-/// No marks, for some workers.
+/// Marks of workers that made no step, at a layer of `blocks` blocks and `masks` masks.
 fn blank_marks(
     alloc: Global,
     blocks: usize,
     masks: usize,
     workers: u8,
-) -> Result<Vec<Marks>, AllocError>
+) -> Result<Vec<WorkerMarks>, AllocError>
     ensures { IfOk result (λ v. map marks_of v.items ≡ replicate workers (unmarked blocks masks)) }
 {
     let mut marks = Vec::with_capacity(alloc, usize::from(workers))?;
     for worker in 0..workers {
-        marks.push(Marks {
+        marks.push(WorkerMarks {
             claims: vec![in alloc; false; blocks]?,
             known: vec![in alloc; false; masks]?,
             ended: false,

@@ -78,7 +78,7 @@ impl Costs {
         self.layer.inputs()
     }
 
-    /// The cell of a set of the layer.
+    /// The cell of a set of the layer. None for a set of another layer, and for the empty set.
     pub fn cell_of(&self, mask: Mask) -> Option<Cell>
         ensures value { result ≡ cell_at self.now mask }
         ensures some { IsSome result ↔
@@ -95,7 +95,7 @@ impl Costs {
         }
     }
 
-    /// The cost of a set of the layer.
+    /// The cost of a set of the layer. None for a set of another layer.
     pub fn cost_of(&self, mask: Mask) -> Option<u32>
         ensures value { result ≡ cost_at self.now mask }
         ensures some { IsSome result ↔ IsTrue

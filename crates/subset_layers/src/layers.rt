@@ -56,7 +56,7 @@ impl Model for Block {
         × (b.low < 2 ^ b.inputs) };
 }
 
-/// Whether each mask of some variables has the size.
+/// For each mask of `inputs` variables, whether it has `size` members.
 fn size_flags(alloc: Global, inputs: u8, size: u8) -> Result<Vec<bool>, AllocError>
     requires { inputs ≤ 16 }
     ensures { IfOk result
@@ -70,7 +70,7 @@ fn size_flags(alloc: Global, inputs: u8, size: u8) -> Result<Vec<bool>, AllocErr
     Ok(flags)
 }
 
-/// Which of the numbers below `limit` are low bytes of masks.
+/// For each number below `limit`, whether it is the low byte of some mask.
 fn low_flags(alloc: Global, masks: &[u16], limit: usize) -> Result<Vec<bool>, AllocError>
     requires { limit ≡ 256 }
     ensures { IfOk result
@@ -84,7 +84,7 @@ fn low_flags(alloc: Global, masks: &[u16], limit: usize) -> Result<Vec<bool>, Al
     Ok(flags)
 }
 
-/// Room for the masks of a block.
+/// Zeros, as room for the masks of a block.
 fn no_masks() -> [u16; 256] {
     [0; 256]
 }
@@ -143,7 +143,7 @@ impl Layer {
         self.masks.numbers.len()
     }
 
-    /// The mask at a place.
+    /// The mask at place `i` of the layer.
     pub fn mask_at(&self, i: usize) -> Mask
         requires { i < length (masks_of self.now) }
         ensures { slice_get (masks_of self.now) i ≡ Some result }
@@ -151,7 +151,7 @@ impl Layer {
         self.masks.numbers[i]
     }
 
-    /// The place of a mask.
+    /// The place of a mask in the layer.
     pub fn position(&self, mask: Mask) -> Option<usize>
         ensures found { IfSome result (λ i. slice_get (masks_of self.now) i ≡ Some mask) }
         ensures none { IsNone result ↔ IsFalse (has (masks_of self.now) mask) }
@@ -159,14 +159,14 @@ impl Layer {
         self.masks.position(mask)
     }
 
-    /// The number of blocks.
+    /// The number of blocks of the layer.
     pub fn blocks(&self) -> usize
         ensures { result ≡ length (blocks_of self.now) }
     {
         self.lows.numbers.len()
     }
 
-    /// The place of the block that holds the mask at a place.
+    /// The place of the block that has the mask at place `i` of the layer.
     pub fn block_place(&self, i: usize) -> usize
         requires { i < length (masks_of self.now) }
         ensures place { result ≡ block_place self.now i }
@@ -176,7 +176,7 @@ impl Layer {
         self.lows.places[low as usize] as usize
     }
 
-    /// The block at a place.
+    /// The block at place `i`, by rising low byte.
     pub fn block(&self, i: usize) -> Block
         requires { i < length (blocks_of self.now) }
         ensures { slice_get (blocks_of self.now) i ≡ Some result }
@@ -188,7 +188,7 @@ impl Layer {
 impl Block {
     ghost use Rattle.subset_layers.specs.Layers.{block_of, block_masks};
 
-    /// The block of a layer's masks with a low byte.
+    /// The block of the sets of `size` of `inputs` variables whose masks have the low byte `low`.
     fn with_low(inputs: u8, size: u8, low: u16) -> Block
         requires inputs { inputs ≤ 16 }
         requires low { low < 256 }
@@ -237,14 +237,14 @@ impl Block {
         self.count
     }
 
-    /// The masks, rising.
+    /// The masks of the block, rising.
     pub fn masks(&self) -> &[Mask]
         ensures { result.now ≡ block_masks self.now }
     {
         &self.masks[..self.count]
     }
 
-    /// The mask at a place.
+    /// The mask at place `i` of the block.
     pub fn mask(&self, i: usize) -> Mask
         requires { i < length (block_masks self.now) }
         ensures { slice_get (block_masks self.now) i ≡ Some result }

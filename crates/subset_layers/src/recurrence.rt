@@ -18,7 +18,7 @@ struct Sum {
     variable: VarIx,
 }
 
-/// The one of two sums that is smaller, and the earlier one if they are equal.
+/// `best` if its sum is no larger than that of `next`, else `next`.
 fn smaller(best: Option<Sum>, next: Sum) -> Sum
     ensures none { best ≡ None → result ≡ next }
     ensures some { IfSome best
@@ -30,8 +30,9 @@ fn smaller(best: Option<Sum>, next: Sum) -> Sum
     }
 }
 
-/// The least sum of cost and width over the members without which the cost is within the bound, by
-/// the smallest such member.
+/// The least sum of cost and width over the members of a set, with the smallest member that gives
+/// it. `below[x]` is the cost of the set without x. Members for which this exceeds the bound are
+/// left out; None if all are.
 fn best_sum(mask: Mask, inputs: u8, below: &[u32; 16], widths: &WidthRow, bound: u32) -> Option<Sum>
     requires { inputs ≤ 16 }
     ensures best { IfSome result
@@ -53,7 +54,7 @@ fn best_sum(mask: Mask, inputs: u8, below: &[u32; 16], widths: &WidthRow, bound:
     best
 }
 
-/// The clipped cell of a set.
+/// The cell of a set that is pruned: one more than the bound as the cost, and the smallest member.
 fn clipped_cell(mask: Mask, bound: u32) -> Cell
     requires some { 0 < mask }
     requires room { bound + 1 < 2 ^ 32 }
@@ -65,7 +66,8 @@ fn clipped_cell(mask: Mask, bound: u32) -> Cell
     }
 }
 
-/// The cell of a lawful set.
+/// The cell of a lawful set: the least sum of cost and width with its variable. It is clipped if
+/// the sum and the lower bound on the nodes above exceed the bound, or if there is no sum.
 fn lawful_cell(
     mask: Mask,
     inputs: u8,
@@ -99,9 +101,9 @@ fn lawful_cell(
     }
 }
 
-/// The cell of a set that is not empty, from the costs of the set without each of its members.
-/// Widths are needed of the members without which the cost is within the bound, or of all members
-/// if the lower bound above a set is by widths; the others may be anything.
+/// The cell of a set that is not empty. `below[x]` is the cost of the set without its member x.
+/// `widths` needs the widths of the members for which this is within the bound, or of all members
+/// if the lower bound is by widths; the other widths may be anything.
 pub fn cell_from(
     mask: Mask,
     below: &[u32; 16],
@@ -125,7 +127,7 @@ pub fn cell_from(
     }
 }
 
-/// The costs of the sets without one member of a set, by that member.
+/// For each member x of a set the cost of the set without x, at index x.
 fn costs_below(mask: Mask, costs: &Costs) -> [u32; 16]
     requires { IsTrue (has (masks_of (layer_with costs.now.inputs (costs.now.size + 1))) mask) }
     ensures { (x : ℕ) → IsTrue (has (members costs.now.inputs mask) x) →
@@ -141,7 +143,9 @@ fn costs_below(mask: Mask, costs: &Costs) -> [u32; 16]
     below
 }
 
-/// The cell of a set of the layer after the costs' one, with widths as for `cell_from`.
+/// The cell of a set with one member more than those of `costs`. `widths` needs the widths of the
+/// members for which the cost of the set without them is within the bound, or of all members if the
+/// lower bound is by widths; the other widths may be anything.
 pub fn least_cell(
     mask: Mask,
     costs: &Costs,

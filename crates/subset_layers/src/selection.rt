@@ -16,7 +16,7 @@ pub(crate) struct Selection {
 impl Selection {
     ghost use Rattle.subset_layers.specs.Selections.{chosen};
 
-    /// The numbers at which the flags say true.
+    /// The numbers whose flag is true.
     pub fn of(alloc: Global, flags: &[bool]) -> Result<Selection, AllocError>
         requires { length flags.now ≤ 2 ^ 16 }
         ensures { IfOk result (λ s. s.numbers.items ≡ chosen flags.now) }

@@ -1,7 +1,7 @@
 use Rattle.std.proofs.Common.{◌≡◌, ◌+◌, true, false, length-set, refl, arith}
 use Rattle.std.specs.Vec.{with_item}
 use Rattle.layer_core.specs.Machine.{Claim, Claimed, NoMore}
-use Rattle.layer_core.specs.declared.machine.Marks.{Marks}
+use Rattle.layer_core.specs.declared.machine.WorkerMarks.{WorkerMarks}
 use Rattle.layer_core.specs.Shown.{shown}
 use Rattle.layer_core.proofs.CoreSteps.{has_marks, small_counter, claims_wide, still_told, drawn, ended, same_there, sound_step, shown_with}
 use Rattle.layer_core.proofs.machine.Core.claim.Goals as goal
@@ -20,10 +20,10 @@ index_mut-requires-then-block-blocks c =
 
 pub invariant_of-self : goal.invariant_of-self
 invariant_of-self c =
-    let x = c.self.inside in let low = has_marks x c.args.self.now c.args.worker c.self.view_is c.requires in let m : Marks = c.index_mut.result.now in
+    let x = c.self.inside in let low = has_marks x c.args.self.now c.args.worker c.self.view_is c.requires in let m : WorkerMarks = c.index_mut.result.now in
     let untold : m.ended ≡ false =
     grind (arith, same_there) in
-    let after : Marks = record { claims = with_item m.claims x.counter true; known = m.known; ended = m.ended } in (
+    let after : WorkerMarks = record { claims = with_item m.claims x.counter true; known = m.known; ended = m.ended } in (
       sound_step (shown x) (shown_with x (x.counter + 1) x.cells.items c.args.worker after) (Claimed x.counter) (Claim c.args.worker)
           (drawn x c.self.invariant c.args.worker m low c.index_mut.ensures.value after refl untold
           (omega arith))
@@ -38,10 +38,10 @@ returns-then-block-blocks c =
 pub invariant_of-self-else-block-blocks : goal.invariant_of-self-else-block-blocks
 invariant_of-self-else-block-blocks c =
     let x = c.self.inside in let low = has_marks x c.args.self.now c.args.worker c.self.view_is c.requires in
-    let m : Marks = c.index_mut-else-block-blocks.result.now in
+    let m : WorkerMarks = c.index_mut-else-block-blocks.result.now in
     let untold : m.ended ≡ false =
     grind (arith, same_there) in
-    let after : Marks = record { claims = m.claims; known = m.known; ended = true } in (
+    let after : WorkerMarks = record { claims = m.claims; known = m.known; ended = true } in (
       sound_step (shown x) (shown_with x (x.counter + 1) x.cells.items c.args.worker after) NoMore (Claim c.args.worker)
           (ended x c.self.invariant c.args.worker m low c.index_mut-else-block-blocks.ensures.value after refl untold
           (omega arith))

@@ -3,7 +3,7 @@ use Rattle.std.specs.Vec.{with_item}
 use Rattle.std.proofs.lemmas.Option.{slice_get_within}
 use Rattle.subset_layers.specs.Layers.{masks_of}
 use Rattle.layer_core.specs.Machine.{World, Post, Posted, Stranger, learns, step}
-use Rattle.layer_core.specs.declared.machine.Marks.{Marks}
+use Rattle.layer_core.specs.declared.machine.WorkerMarks.{WorkerMarks}
 use Rattle.layer_core.specs.Instances.{layout_of}
 use Rattle.layer_core.specs.Pairing.{pair_of}
 use Rattle.layer_core.specs.Marked.{marks_of}
@@ -27,7 +27,7 @@ index-requires-2 c =
 
 pub returns-then-not-index : goal.returns-then-not-index
 returns-then-not-index c =
-    let x = c.self.inside in let low = has_marks x c.args.self.now c.args.worker c.self.view_is c.requires in let m : Marks = c.index.result.now in
+    let x = c.self.inside in let low = has_marks x c.args.self.now c.args.worker c.self.view_is c.requires in let m : WorkerMarks = c.index.result.now in
     let p : ℕ = c.in-Some.place in let within = slice_get_within (masks_of x.layer) p c.args.mask c.in-Some.ensures.found in
     let there = place_found x.layer p c.args.mask c.in-Some.ensures.found in
     let block : get_or (layout_of x.layer).block_of p 0 ≡ c.block_place.result = block_at x.layer p within ∙ sym c.block_place.ensures.place in
@@ -43,7 +43,7 @@ index-requires-3 c = grind (arith, cells_wide, slice_get_within)
 
 pub returns-in_default-index : goal.returns-in_default-index
 returns-in_default-index c =
-    let x = c.self.inside in let low = has_marks x c.args.self.now c.args.worker c.self.view_is c.requires in let m : Marks = c.index.result.now in
+    let x = c.self.inside in let low = has_marks x c.args.self.now c.args.worker c.self.view_is c.requires in let m : WorkerMarks = c.index.result.now in
     let p : ℕ = c.in-Some.place in let within = slice_get_within (masks_of x.layer) p c.args.mask c.in-Some.ensures.found in
     let there = place_found x.layer p c.args.mask c.in-Some.ensures.found in
     let block : get_or (layout_of x.layer).block_of p 0 ≡ c.block_place.result = block_at x.layer p within ∙ sym c.block_place.ensures.place in
@@ -63,7 +63,7 @@ index_mut-requires-3 c =
 
 pub invariant_of-self : goal.invariant_of-self
 invariant_of-self c =
-    let x = c.self.inside in let low = has_marks x c.args.self.now c.args.worker c.self.view_is c.requires in let m : Marks = c.index.result.now in
+    let x = c.self.inside in let low = has_marks x c.args.self.now c.args.worker c.self.view_is c.requires in let m : WorkerMarks = c.index.result.now in
     let p : ℕ = c.in-Some.place in let within = slice_get_within (masks_of x.layer) p c.args.mask c.in-Some.ensures.found in
     let there = place_found x.layer p c.args.mask c.in-Some.ensures.found in
     let block : get_or (layout_of x.layer).block_of p 0 ≡ c.block_place.result = block_at x.layer p within ∙ sym c.block_place.ensures.place in
@@ -71,9 +71,9 @@ invariant_of-self c =
     omega (arith, claims_wide x c.self.invariant c.args.worker m low c.index.ensures) in
     let mine = mark_at m.claims.items (get_or (layout_of x.layer).block_of p 0) c.block_place.result c.index-2.result.now true block marked
     c.index-2.ensures c.if-not-index.false in
-    let m2 : Marks = c.index_mut-2.result.now in
+    let m2 : WorkerMarks = c.index_mut-2.result.now in
     let same : m ≡ m2 = search same_there in
-    let after : Marks = record { claims = m2.claims; known = with_item m2.known p true; ended = m2.ended } in
+    let after : WorkerMarks = record { claims = m2.claims; known = with_item m2.known p true; ended = m2.ended } in
     let new : marks_of after ≡ learns (marks_of m) p = λ i. learns (marks_of (sym same i)) p in
     let empty = is_there x.cells.items p c.index-3.result.now None c.index-3.ensures c.in-None.is in (
       sound_step (shown x) (shown_with x x.counter (set x.cells.items p (Some c.args.cell)) c.args.worker after) Posted
@@ -84,7 +84,7 @@ invariant_of-self c =
 
 pub returns : goal.returns
 returns c =
-    let x = c.self.inside in let low = has_marks x c.args.self.now c.args.worker c.self.view_is c.requires in let m : Marks = c.index.result.now in
+    let x = c.self.inside in let low = has_marks x c.args.self.now c.args.worker c.self.view_is c.requires in let m : WorkerMarks = c.index.result.now in
     let p : ℕ = c.in-Some.place in let within = slice_get_within (masks_of x.layer) p c.args.mask c.in-Some.ensures.found in
     let there = place_found x.layer p c.args.mask c.in-Some.ensures.found in
     grind (arith, block_at, claims_wide, mark_at, same_there, post_first)

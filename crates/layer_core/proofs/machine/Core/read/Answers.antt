@@ -3,7 +3,7 @@ use Rattle.std.specs.Vec.{with_item}
 use Rattle.std.proofs.lemmas.Option.{slice_get_within}
 use Rattle.subset_layers.specs.Layers.{masks_of}
 use Rattle.layer_core.specs.Machine.{World, Read, Seen, Empty, step}
-use Rattle.layer_core.specs.declared.machine.Marks.{Marks}
+use Rattle.layer_core.specs.declared.machine.WorkerMarks.{WorkerMarks}
 use Rattle.layer_core.specs.Pairing.{pair_of}
 use Rattle.layer_core.specs.Shown.{shown}
 use Rattle.layer_core.proofs.Layouts.{place_found, missing_if}
@@ -37,9 +37,9 @@ index_mut-requires-2 c =
 
 pub invariant_of-self : goal.invariant_of-self
 invariant_of-self c =
-    let x = c.self.inside in let low = has_marks x c.args.self.now c.args.worker c.self.view_is c.requires in let m : Marks = c.index_mut.result.now in
+    let x = c.self.inside in let low = has_marks x c.args.self.now c.args.worker c.self.view_is c.requires in let m : WorkerMarks = c.index_mut.result.now in
     let p : ℕ = c.in-Some.place in let there = place_found x.layer p c.args.mask c.in-Some.ensures.found in
-    let after : Marks = record { claims = m.claims; known = with_item m.known p true; ended = m.ended } in (
+    let after : WorkerMarks = record { claims = m.claims; known = with_item m.known p true; ended = m.ended } in (
       sound_step (shown x) (shown_with x x.counter x.cells.items c.args.worker after) (Seen (pair_of c.in-Some-index.cell)) (Read c.args.worker c.args.mask)
           (read_one x c.self.invariant c.args.worker m low c.index_mut.ensures.value c.args.mask p there
           (slice_get_within (masks_of x.layer) p c.args.mask c.in-Some.ensures.found) c.in-Some-index.cell after refl
@@ -50,6 +50,6 @@ invariant_of-self c =
 
 pub returns : goal.returns
 returns c =
-    let x = c.self.inside in let low = has_marks x c.args.self.now c.args.worker c.self.view_is c.requires in let m : Marks = c.index_mut.result.now in
+    let x = c.self.inside in let low = has_marks x c.args.self.now c.args.worker c.self.view_is c.requires in let m : WorkerMarks = c.index_mut.result.now in
     let p : ℕ = c.in-Some.place in let there = place_found x.layer p c.args.mask c.in-Some.ensures.found in
     grind (arith, read_one)
