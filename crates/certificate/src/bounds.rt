@@ -1,4 +1,4 @@
-//! What the parts of a certificate may be.
+//! What the parts of a certificate may be, so that the format has a spelling for them.
 
 ghost use Rattle.std.specs.Prelude.{◌≡◌, ◌≤◌, ◌^◌, ◌-◌, ◌↔◌, ℕ, None, IsTrue, IsFalse, length};
 ghost use Rattle.std.specs.List.{All};
@@ -14,8 +14,8 @@ pub(crate) const MOST_NODES: u32 = 999_999;
 /// The largest number of pairs: each two of 16 variables.
 pub(crate) const MOST_PAIRS: usize = 240;
 
-/// How many sets of n variables there are but that of all of them; their masks are below this
-/// number.
+/// How many proper subsets n variables have: 2^n - 1. This is also the mask of all n variables, and
+/// the masks of the proper subsets are those below it.
 pub(crate) fn sets_below_all(n: u8) -> u32
     requires { n ≤ 16 }
     ensures { result ≡ 2 ^ n - 1 }
@@ -23,7 +23,7 @@ pub(crate) fn sets_below_all(n: u8) -> u32
     (1 << n) - 1
 }
 
-/// Whether a key is above one that may have come before.
+/// Whether `key` is above the key before it, `last`, if there is one.
 pub(crate) fn is_above(last: Option<u32>, key: u32) -> bool
     ensures { result ≡ above last key }
 {
@@ -33,14 +33,15 @@ pub(crate) fn is_above(last: Option<u32>, key: u32) -> bool
     }
 }
 
-/// What pairs rise by: their first number, and then their second, which is below 16.
+/// The key of a pair by which pairs are sorted: the first variable, and then the second, which is
+/// below 16.
 pub(crate) fn key_of_pair(a: VarIx, b: VarIx) -> u32
     ensures { result ≡ pair_key (a, b) }
 {
     u32::from(a) * 16 + u32::from(b)
 }
 
-/// Whether pairs are of variables below n, and rise.
+/// Whether all pairs are of variables below n and their keys rise.
 fn pairs_rise(n: u8, pairs: &[(VarIx, VarIx)]) -> bool
     ensures { result ≡ fit (is_pair_of n) pair_key None pairs.now }
 {
@@ -57,8 +58,8 @@ fn pairs_rise(n: u8, pairs: &[(VarIx, VarIx)]) -> bool
     true
 }
 
-/// Whether listed sets are of some variables of n but not of all, their costs in bounds, and their
-/// masks rise.
+/// Whether all listed sets are proper subsets of n variables with costs of at most `MOST_NODES`,
+/// and their masks rise.
 fn cells_rise(n: u8, cells: &[ListedCell]) -> bool
     requires { n ≤ 16 }
     ensures { result ≡ fit (is_cell_of n) mask_in None cells.now }
@@ -76,21 +77,21 @@ fn cells_rise(n: u8, cells: &[ListedCell]) -> bool
     true
 }
 
-/// Whether a number of inputs or outputs is 1 to 16.
+/// Whether a number of inputs or outputs is from 1 to 16.
 fn count_fits(count: u8) -> bool
     ensures { IsTrue result ↔ ((1 ≤ count) × (count ≤ 16)) }
 {
     1 <= count && count <= 16
 }
 
-/// Whether there is a variable for each input, each below 16.
+/// Whether a list has n variables, each below 16. One may stand in it twice.
 fn order_fits(n: u8, order: &[VarIx]) -> bool
     ensures { IsTrue result ↔ ((length order.now ≡ n) × All (λ x. x ≤ 15) order.now) }
 {
     order.len() == n as usize && order.iter().all(|x| *x <= 15)
 }
 
-/// Whether there is a level count for each input, each in bounds.
+/// Whether there are n level counts, each of at most `MOST_NODES`.
 fn levels_fit(n: u8, levels: &[u32]) -> bool
     ensures { IsTrue result ↔
         ((length levels.now ≡ n) × All (λ count. count ≤ most_nodes) levels.now) }
@@ -98,7 +99,8 @@ fn levels_fit(n: u8, levels: &[u32]) -> bool
     levels.len() == n as usize && levels.iter().all(|count| *count <= MOST_NODES)
 }
 
-/// Whether pairs may stand in a certificate of n inputs.
+/// Whether a certificate of n inputs may have these pairs: at most `MOST_PAIRS`, of variables below
+/// n, by rising key.
 fn pairs_fit(n: u8, pairs: &[(VarIx, VarIx)]) -> bool
     ensures { IsTrue result ↔
         ((length pairs.now ≤ most_pairs) × IsTrue (fit (is_pair_of n) pair_key None pairs.now)) }
@@ -106,7 +108,8 @@ fn pairs_fit(n: u8, pairs: &[(VarIx, VarIx)]) -> bool
     pairs.len() <= MOST_PAIRS && pairs_rise(n, pairs)
 }
 
-/// Whether listed sets may stand in a certificate of n inputs.
+/// Whether a certificate of n inputs may list these sets: proper subsets of the variables with
+/// bounded costs, by rising mask.
 fn cells_fit(n: u8, cells: &[ListedCell]) -> bool
     requires { n ≤ 16 }
     ensures { IsTrue result ↔
@@ -115,7 +118,8 @@ fn cells_fit(n: u8, cells: &[ListedCell]) -> bool
     cells.len() <= sets_below_all(n) as usize && cells_rise(n, cells)
 }
 
-/// Whether parts have a spelling.
+/// Whether the format has a spelling for the parts: each number is in its bounds, and pairs and
+/// listed sets rise.
 pub(crate) fn have_spelling(parts: &CertificateParts) -> bool
     ensures spelled { IsTrue result → HasSpelling (contents parts.now) }
     ensures unspelled { IsFalse result → HasSpelling (contents parts.now) → ⊥ }

@@ -21,7 +21,8 @@ pub fn spellings_have_no_fault()
     ensures { (cert : Certificate) → HasSpelling cert → faults (spelling cert) ≡ [] }
 {}
 
-/// Each text is the spelling of a certificate or has a first fault, not both, and one at most.
+/// Each text is the spelling of a certificate or has a first fault, and not both. It has only one
+/// first fault.
 pub fn texts_have_one_reading()
     ensures some { (text : List ℕ) →
         ((cert : Certificate) × Spells text cert) ⊎

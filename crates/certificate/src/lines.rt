@@ -14,7 +14,7 @@ use crate::faults::LineFault;
 use crate::words::{cut, mask, number};
 use order_model::{ListedCell, VarIx};
 
-/// The two words of a line that has no other.
+/// The two words of a line that has exactly two.
 fn two_words(line: &[u8]) -> Option<(&[u8], &[u8])>
     ensures some { IfSome result (λ ws. words line.now ≡ ws.0.now ∷ ws.1.now ∷ []) }
     ensures none { IfNone result ((a b : _) → words line.now ≡ a ∷ b ∷ [] → ⊥) }
@@ -28,7 +28,7 @@ fn two_words(line: &[u8]) -> Option<(&[u8], &[u8])>
     }
 }
 
-/// The number of a line of a fixed word and a number.
+/// The number of a line with two words, `name` and a number from `least` to `most`.
 pub(crate) fn number_line(line: &[u8], name: &[u8], least: u32, most: u32) -> Result<u32, LineFault>
     requires { most ≤ most_nodes }
     ensures { Says (field_fault name.now 1 least most) line.now
@@ -46,7 +46,8 @@ pub(crate) fn number_line(line: &[u8], name: &[u8], least: u32, most: u32) -> Re
     }
 }
 
-/// The pair of a line, whose key is above one that may have come before.
+/// The pair of variables below n that a line states. Its key is above `last`, the key of the pair
+/// before it, if there is one.
 pub(crate) fn pair_line(line: &[u8], n: u8, last: Option<u32>) -> Result<(VarIx, VarIx), LineFault>
     requires some { 1 ≤ n }
     requires few { n ≤ 16 }
@@ -72,7 +73,8 @@ pub(crate) fn pair_line(line: &[u8], n: u8, last: Option<u32>) -> Result<(VarIx,
     Ok(pair)
 }
 
-/// The listed set of a line, whose mask is above one that may have come before.
+/// The set of n variables, with its cost, that a line lists. Its mask is above `last`, the mask of
+/// the set before it, if there is one.
 pub(crate) fn cell_line(line: &[u8], n: u8, last: Option<u32>) -> Result<ListedCell, LineFault>
     requires { n ≤ 16 }
     ensures { Says (entry_fault (is_cell n) (λ a b. above last (cell_key_of a b))) line.now
@@ -97,7 +99,7 @@ pub(crate) fn cell_line(line: &[u8], n: u8, last: Option<u32>) -> Result<ListedC
     Ok(ListedCell { mask, cost })
 }
 
-/// The format in the first line.
+/// The format, 1 or 2, that the first line of a certificate states.
 pub(crate) fn title_line(line: &[u8]) -> Result<u8, LineFault>
     ensures { Says title_fault line.now
         (λ format. format ≡ number_of (get_or (words line.now) 1 [])) result }
@@ -111,7 +113,7 @@ pub(crate) fn title_line(line: &[u8]) -> Result<u8, LineFault>
     }
 }
 
-/// The last line.
+/// Nothing if a line is the last one of a certificate, `end`; else a fault.
 pub(crate) fn end_line(line: &[u8]) -> Result<(), LineFault>
     ensures { Says (fixed_fault (codes "end" ∷ [])) line.now (λ _. Unit {0}) result }
 {
@@ -135,7 +137,7 @@ fn count_words(text: &[u8]) -> usize
     count
 }
 
-/// What stands after the fixed word of a line that has as many words after it as are wanted.
+/// The rest of a line after its first word, if this is `name` and `count` words follow it.
 pub(crate) fn behind_name<'a>(line: &'a [u8], name: &[u8], count: usize) -> Option<&'a [u8]>
     requires { 1 ≤ count }
     ensures some { IfSome result

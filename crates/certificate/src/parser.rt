@@ -17,7 +17,7 @@ use std::alloc::Global;
 /// The longest text of a certificate, in bytes.
 pub const MOST_BYTES: usize = 1_048_576;
 
-/// Numbers as variables.
+/// Numbers of at most 15 as variables.
 fn variables(alloc: Global, numbers: &[u32]) -> Result<Vec<VarIx>, CertFault>
     requires { All (λ k. k ≤ 15) numbers.now }
     ensures same { IfOk result (λ v. v.items ≡ numbers.now) }
@@ -30,7 +30,7 @@ fn variables(alloc: Global, numbers: &[u32]) -> Result<Vec<VarIx>, CertFault>
     Ok(variables)
 }
 
-/// What the first six lines say.
+/// What the first six lines of a certificate state.
 #[derive(Drop)]
 pub(crate) struct Head {
     format: u8,
@@ -41,7 +41,7 @@ pub(crate) struct Head {
     total: u32,
 }
 
-/// Takes the first six lines.
+/// Takes the first six lines, and returns what they state.
 fn read_head(alloc: Global, lines: &mut Lines<'_>) -> Result<Head, CertFault>
     requires { FitsCount lines.old }
     ensures head { TakesHead lines.old.number lines.old.rest.now lines.new.number lines.new.rest.now
@@ -65,7 +65,8 @@ fn read_head(alloc: Global, lines: &mut Lines<'_>) -> Result<Head, CertFault>
     })
 }
 
-/// Takes the lines of listed sets, and the last one.
+/// Takes the lines of listed sets of n variables, and the last line, and returns the sets with
+/// their costs.
 fn read_sets(alloc: Global, lines: &mut Lines<'_>, n: u8) -> Result<Vec<ListedCell>, CertFault>
     requires small { FitsCount lines.old }
     requires few { n ≤ 16 }
@@ -76,7 +77,8 @@ fn read_sets(alloc: Global, lines: &mut Lines<'_>, n: u8) -> Result<Vec<ListedCe
     Ok(cells)
 }
 
-/// Takes the lines after the first six, to the end of the text. Format 1 has no pairs.
+/// Takes the lines after the first six, to the end of the text, and returns the pairs, which format
+/// 1 has not, and the listed sets.
 fn read_body(
     alloc: Global,
     lines: &mut Lines<'_>,

@@ -21,7 +21,7 @@ use crate::words::{cut, number};
 use order_model::{ListedCell, VarIx};
 use std::alloc::Global;
 
-/// Adds one more.
+/// Appends an item to a list.
 pub(crate) fn add<T: Drop>(items: &mut Vec<T>, item: T) -> Result<(), CertFault>
     ensures added { OnOk result (items.new.items ≡ items.old.items ++ item ∷ []) }
     ensures memory { IfErr result (λ fault. fault ≡ OutOfMemory) }
@@ -32,7 +32,8 @@ pub(crate) fn add<T: Drop>(items: &mut Vec<T>, item: T) -> Result<(), CertFault>
     }
 }
 
-/// Adds the number of a word of line `line`.
+/// Appends the number that a word spells, which is at most `most`. The word stands in line `line`,
+/// which an error names.
 fn push_number(numbers: &mut Vec<u32>, word: &[u8], most: u32, line: usize) -> Result<(), CertFault>
     requires { most ≤ most_nodes }
     ensures added { OnOk result (numbers.new.items ≡ numbers.old.items ++ number_of word.now ∷ []) }
@@ -47,7 +48,8 @@ fn push_number(numbers: &mut Vec<u32>, word: &[u8], most: u32, line: usize) -> R
     add(numbers, value)
 }
 
-/// The numbers of the words of a text of line `line`.
+/// The numbers that the words of a text spell, each of at most `most`. The text stands in line
+/// `line`, which an error names.
 fn numbers_in(alloc: Global, text: &[u8], most: u32, line: usize) -> Result<Vec<u32>, CertFault>
     requires { most ≤ most_nodes }
     ensures numbers { IfOk result (λ v. v.items ≡ map number_of (words text.now)) }
@@ -100,7 +102,7 @@ impl<'a> Lines<'a> {
         Some(line)
     }
 
-    /// Takes the next line as `read` reads it, whose fault gets the line's number.
+    /// Takes the next line, and returns what `read` makes of it. A fault gets the line's number.
     fn take<V, F: FnOnce(&[u8]) -> Result<V, LineFault>>(&mut self, read: F) -> Result<V, CertFault>
         requires small { FitsCount self.old }
         requires readable { F.IsAlwaysCallable read }
@@ -117,7 +119,8 @@ impl<'a> Lines<'a> {
         }
     }
 
-    /// Takes a line of a fixed word and a number.
+    /// Takes a line with two words, `name` and a number from `least` to `most`, and returns the
+    /// number.
     pub(crate) fn number(&mut self, name: &[u8], least: u32, most: u32) -> Result<u32, CertFault>
         requires small { FitsCount self.old }
         requires bounds { most ≤ most_nodes }
@@ -129,7 +132,7 @@ impl<'a> Lines<'a> {
         self.take(|line| number_line(line, name, least, most))
     }
 
-    /// Takes the first line, which has the format.
+    /// Takes the first line, and returns the format that it states.
     pub(crate) fn title(&mut self) -> Result<u8, CertFault>
         requires { FitsCount self.old }
         ensures line { TakesLine title_fault self.old self.new
@@ -139,7 +142,7 @@ impl<'a> Lines<'a> {
         self.take(title_line)
     }
 
-    /// Takes the last line, after which nothing follows.
+    /// Takes the last line, `end`. Any text after it is a fault.
     pub(crate) fn end(&mut self) -> Result<(), CertFault>
         requires { FitsCount self.old }
         ensures passed { OnOk result
@@ -155,7 +158,8 @@ impl<'a> Lines<'a> {
         Ok(())
     }
 
-    /// Takes a line of a fixed word and as many numbers as are wanted.
+    /// Takes a line that has the word `name` and `count` numbers of at most `most`, and returns
+    /// these.
     pub(crate) fn numbers(
         &mut self,
         alloc: Global,
@@ -180,7 +184,7 @@ impl<'a> Lines<'a> {
         numbers_in(alloc, digits, most, number)
     }
 
-    /// Takes the lines of pairs.
+    /// Takes the line with the number of pairs and those of the pairs, and returns the pairs.
     pub(crate) fn pairs(&mut self, alloc: Global, n: u8) -> Result<Vec<(VarIx, VarIx)>, CertFault>
         requires small { FitsCount self.old }
         requires some { 1 ≤ n }
@@ -200,7 +204,8 @@ impl<'a> Lines<'a> {
         Ok(pairs)
     }
 
-    /// Takes the lines of listed sets.
+    /// Takes the line with the number of listed sets and those of the sets, and returns the sets
+    /// with their costs.
     pub(crate) fn cells(&mut self, alloc: Global, n: u8) -> Result<Vec<ListedCell>, CertFault>
         requires small { FitsCount self.old }
         requires few { n ≤ 16 }

@@ -20,7 +20,7 @@ const LONGEST_PAIR: usize = 6;
 
 const LONGEST_CELL: usize = 12;
 
-/// Appends the line of a fixed word and a number.
+/// Appends a line of the word `name` and a number.
 fn push_number(text: &mut String, name: &str, number: usize) -> Result<(), AllocError>
     ensures { OnOk result
         (string_bytes text.new ≡ string_bytes text.old
@@ -30,7 +30,7 @@ fn push_number(text: &mut String, name: &str, number: usize) -> Result<(), Alloc
     Ok(())
 }
 
-/// Appends the line of a fixed word and numbers.
+/// Appends a line of the word `name` and numbers.
 fn push_numbers(text: &mut String, name: &str, numbers: &[u32]) -> Result<(), AllocError>
     ensures { OnOk result
         (string_bytes text.new ≡ string_bytes text.old ++ text_line (field name.now numbers.now)) }
@@ -43,7 +43,7 @@ fn push_numbers(text: &mut String, name: &str, numbers: &[u32]) -> Result<(), Al
     Ok(())
 }
 
-/// Appends the line of a fixed word and variables.
+/// Appends a line of the word `name` and variables.
 fn push_variables(text: &mut String, name: &str, variables: &[VarIx]) -> Result<(), AllocError>
     ensures { OnOk result
         (string_bytes text.new ≡ string_bytes text.old
@@ -57,7 +57,7 @@ fn push_variables(text: &mut String, name: &str, variables: &[VarIx]) -> Result<
     Ok(())
 }
 
-/// Appends the lines of pairs.
+/// Appends a line for each pair.
 fn push_pairs(text: &mut String, pairs: &[(VarIx, VarIx)]) -> Result<(), AllocError>
     ensures { OnOk result
         (string_bytes text.new ≡ string_bytes text.old
@@ -80,7 +80,7 @@ fn push_cell(text: &mut String, cell: ListedCell) -> Result<(), AllocError>
     Ok(())
 }
 
-/// Appends the lines of listed sets.
+/// Appends a line for each listed set.
 fn push_cells(text: &mut String, cells: &[ListedCell]) -> Result<(), AllocError>
     ensures { OnOk result
         (string_bytes text.new ≡ string_bytes text.old
@@ -107,7 +107,7 @@ fn push_head(text: &mut String, cert: &Certificate) -> Result<(), AllocError>
     Ok(())
 }
 
-/// Appends the lines of pairs, which format 2 alone has.
+/// Appends the line with the number of pairs and those of the pairs, which format 2 alone has.
 fn push_pair_lines(text: &mut String, cert: &Certificate) -> Result<(), AllocError>
     ensures { OnOk result
         (string_bytes text.new ≡ string_bytes text.old
@@ -121,7 +121,7 @@ fn push_pair_lines(text: &mut String, cert: &Certificate) -> Result<(), AllocErr
     Ok(())
 }
 
-/// Appends the lines of listed sets.
+/// Appends the line with the number of listed sets and those of the sets.
 fn push_cell_lines(text: &mut String, cert: &Certificate) -> Result<(), AllocError>
     ensures { OnOk result
         (string_bytes text.new ≡ string_bytes text.old

@@ -13,7 +13,7 @@ use order_model::{Mask, decimal_number};
 /// The most digits of a number: all bounds are below a million.
 const MOST_DIGITS: usize = 6;
 
-/// The place of the first of a byte.
+/// The index of the first `byte` in a text.
 fn place_of(text: &[u8], byte: u8) -> Option<usize>
     ensures first { result ≡ position (λ b. b == byte) text.now }
     ensures bound { IfSome result (λ place. place < length text.now) }
@@ -21,7 +21,7 @@ fn place_of(text: &[u8], byte: u8) -> Option<usize>
     text.iter().position(|b| *b == byte)
 }
 
-/// What stands before the first of a byte, and what follows it.
+/// The text before the first `byte`, and the text after it. None if the text doesn't have the byte.
 pub(crate) fn cut(text: &[u8], byte: u8) -> Option<(&[u8], &[u8])>
     ensures some { IfSome result (λ parts. Cuts byte text.now parts.0.now parts.1.now) }
     ensures none { IfNone result (Lacks byte text.now) }
@@ -30,7 +30,8 @@ pub(crate) fn cut(text: &[u8], byte: u8) -> Option<(&[u8], &[u8])>
     Some((&text[..place], &text[place + 1..]))
 }
 
-/// The number of a word that is a decimal of at most 999,999, as a certificate writes it.
+/// The number of at most 999,999 that a word spells as a certificate does: in decimal, without
+/// leading zeros.
 fn decimal(word: &[u8]) -> Option<u32>
     ensures some { IfSome result
         (λ value. (decimal_of value ≡ word.now) × (number_of word.now ≡ value)) }
@@ -45,7 +46,8 @@ fn decimal(word: &[u8]) -> Option<u32>
     decimal_number(word)
 }
 
-/// The number of a word that is a decimal in bounds, as a certificate writes it.
+/// The number from `least` to `most` that a word spells as a certificate does: in decimal, without
+/// leading zeros.
 pub(crate) fn number(word: &[u8], least: u32, most: u32) -> Option<u32>
     requires { most ≤ most_nodes }
     ensures some { IfSome result
@@ -72,8 +74,7 @@ fn hex_digit(b: u8) -> Option<Mask>
     }
 }
 
-/// The mask of a word of four hexadecimal digits, if it is one of some variables of n but not of
-/// all.
+/// The mask of a proper subset of n variables that a word of four hexadecimal digits spells.
 pub(crate) fn mask(word: &[u8], n: u8) -> Option<Mask>
     requires { n ≤ 16 }
     ensures some { IfSome result (λ mask. (is_mask n word.now ≡ true) × (mask_of word.now ≡ mask)) }
