@@ -1,4 +1,5 @@
-//! One more variable: the pairs of classes that differ in it are numbered.
+//! Numbers of the pairs of a class table's entries that differ in one variable: the class table of
+//! a set with one more variable.
 
 ghost use Rattle.std.specs.Prelude.{◌≡◌, ℕ, ◌/◌, ◌^◌, ◌<◌, ◌≤◌, map, get_or, length, IfOk, IsTrue, OnOk};
 ghost use Rattle.subfunction_classes.specs.Dependence.{joined_mask};
@@ -10,7 +11,8 @@ use definitions::{Mask, VarIx};
 use std::alloc::{AllocError, Global};
 use subfunction_classes::join_mask;
 
-/// The number of each pair, and what the functions with each number depend on.
+/// The number of each pair, and of each number the mask of the variables that its functions depend
+/// on.
 #[derive(Drop)]
 pub struct Numbered {
     pub numbers: Vec<u32>,
@@ -27,7 +29,7 @@ impl Numbered {
     }
 }
 
-/// The place of the entry of pair `j` at which the variable is 0, below which the set has none.
+/// The place of the entry of pair `j` at which variable x is 0. The set has no variable below x.
 #[inline(always)]
 fn low_place(x: VarIx, j: usize) -> usize
     requires variable { x < 16 }
@@ -38,7 +40,7 @@ fn low_place(x: VarIx, j: usize) -> usize
     2 * j - (j & below)
 }
 
-/// Pair `j`: the entries at which the variable is 0 and 1.
+/// Pair `j`: the entry at which variable x is 0, and that at which it is 1.
 #[inline(always)]
 pub fn pair_at(numbers: &[u32], x: VarIx, j: usize) -> (u32, u32)
     requires paired { IsPaired numbers.now x }
@@ -53,7 +55,7 @@ pub fn pair_at(numbers: &[u32], x: VarIx, j: usize) -> (u32, u32)
 /// An odd number whose multiples spread over the words of 32 bits.
 const SPREAD: u32 = 2_654_435_761;
 
-/// How many buckets `pairs` pairs of `classes` classes get.
+/// How many buckets are made for `pairs` pairs of `classes` classes: a power of two.
 fn buckets_for(pairs: usize, classes: usize) -> usize
     requires pairs { pairs ≤ 2 ^ 20 }
     requires classes { classes ≤ 2 ^ 20 }
@@ -63,8 +65,8 @@ fn buckets_for(pairs: usize, classes: usize) -> usize
     most.next_power_of_two()
 }
 
-/// What a lower class is multiplied by for its bucket: the number of classes if each pair then has
-/// its own, else `SPREAD`.
+/// What a lower class is multiplied by for its bucket: the number of classes if there is then a
+/// bucket for each pair of classes, else `SPREAD`.
 fn factor_for(buckets: usize, classes: usize) -> u32
     requires { classes ≤ 2 ^ 20 }
 {
@@ -75,7 +77,7 @@ fn factor_for(buckets: usize, classes: usize) -> u32
     }
 }
 
-/// Writes the masks of pairs.
+/// Writes the joined mask of each distinct pair to `joined`. `masks` has those of the classes.
 fn fill_masks(
     pairs: &PairNumbers,
     x: VarIx,
@@ -97,7 +99,7 @@ fn fill_masks(
     Ok(())
 }
 
-/// Whether each entry is a class of its own.
+/// Whether no two entries have one class: entry i has class i.
 pub fn are_own(numbers: &[u32]) -> bool
     ensures { IsTrue result → AreOwn numbers.now }
 {
@@ -109,7 +111,8 @@ pub fn are_own(numbers: &[u32]) -> bool
     true
 }
 
-/// Writes the numbers of the pairs, which are distinct too, and their masks.
+/// Numbers the pairs of a table in which no two entries have one class, so that no two pairs are
+/// equal: pair j has the number j. The numbers and their masks are written to `to`.
 fn number_distinct_pairs(
     numbers: &[u32],
     x: VarIx,
@@ -132,8 +135,8 @@ fn number_distinct_pairs(
     Ok(())
 }
 
-/// Writes the numbers of the pairs, by first occurrence, and their masks over what `to` has. `seen`
-/// is memory to work in.
+/// Numbers the pairs of a table by first occurrence. The numbers and the mask of each are written
+/// to `to`, over what it has. `seen` is working memory.
 pub fn number_pairs(
     numbers: &[u32],
     x: VarIx,
@@ -163,7 +166,7 @@ pub fn number_pairs(
     Ok(())
 }
 
-/// The numbers of the pairs, by first occurrence, and their masks, in newly allocated memory.
+/// The number of each pair of a table by first occurrence, and the mask of each number.
 pub fn numbered_pairs(
     alloc: Global,
     numbers: &[u32],

@@ -37,8 +37,8 @@ impl Model for PairNumbers {
         (befores_of s.links.items) s.last.items };
 }
 
-/// The bucket of a pair. If the factor is the number of classes and their square the
-/// number of buckets, each pair has its own.
+/// The bucket of a pair, below `buckets`, which is a power of two. If the factor is the number of
+/// classes and `buckets` its square, each pair has a bucket of its own.
 #[inline(always)]
 fn bucket(factor: u32, buckets: usize, pair: (u32, u32)) -> usize
     requires some { 0 < buckets }
@@ -49,7 +49,8 @@ fn bucket(factor: u32, buckets: usize, pair: (u32, u32)) -> usize
     key as usize & (buckets - 1)
 }
 
-/// The number of a pair, if it has one, from the last pair of its bucket back.
+/// The number of a pair, if it was put in. The pairs of bucket `home` are compared from the last
+/// one back.
 #[inline(always)]
 fn find(factor: u32, links: &[Link], last: &[u32], home: usize, pair: (u32, u32)) -> Option<u32>
     requires chained { AreChainedPairs factor (pairs_of links.now) (befores_of links.now) last.now }
@@ -84,7 +85,7 @@ impl PairNumbers {
         })
     }
 
-    /// Takes out all pairs. Those that come get `buckets` buckets, and room for as many pairs.
+    /// Takes out all pairs. The next ones get `buckets` buckets, and room for as many pairs.
     pub fn restart(&mut self, factor: u32, buckets: usize) -> Result<(), AllocError>
         requires { 0 < buckets }
         ensures { self.new ≡ [] }
