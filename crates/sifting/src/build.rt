@@ -1,4 +1,6 @@
-//! The levels of a reduced diagram, made from the top.
+//! The levels of a reduced diagram, made from the top. The cut above a level has the distinct refs
+//! that paths from the roots come to when the variables above are fixed. Each ref of the cut is a
+//! node of the level.
 
 ghost use Rattle.std.specs.Prelude.{◌≡◌, ◌+◌, ◌*◌, ◌<◌, ◌≤◌, ◌^◌, [], length, map, IfOk, OnOk};
 ghost use Rattle.std.specs.List.{All};
@@ -14,7 +16,7 @@ use indexmap::IndexSet;
 use order_model::{Node, Ref, VarIx};
 use std::alloc::{AllocError, Global};
 
-/// A ref as a number: the terminals are 0 and 1, and the nodes follow.
+/// The number of a ref: 0 and 1 for the terminals, k + 2 for the node at place k.
 fn code(r: Ref) -> usize
     requires { IsBefore (2 ^ 32) r }
     ensures { result ≡ code_of r }
@@ -26,7 +28,7 @@ fn code(r: Ref) -> usize
     }
 }
 
-/// The ref with a number.
+/// The ref that a number stands for: 0 and 1 are the terminals, k + 2 is the node at place k.
 fn reference(code: usize) -> Ref
     ensures { result ≡ ref_named code }
 {
@@ -37,7 +39,7 @@ fn reference(code: usize) -> Ref
     }
 }
 
-/// The refs with some numbers.
+/// The refs that numbers stand for.
 fn references(alloc: Global, codes: &[usize]) -> Result<Vec<Ref>, AllocError>
     ensures { IfOk result (λ v. v.items ≡ map ref_named codes.now) }
 {
@@ -48,7 +50,8 @@ fn references(alloc: Global, codes: &[usize]) -> Result<Vec<Ref>, AllocError>
     Ok(refs)
 }
 
-/// The two refs below a variable: the children of a node that tests it, else the ref itself.
+/// What a ref leads to if `variable` is 0, and if it is 1: the children of a node of this variable,
+/// else the ref itself.
 fn halves(nodes: &[Node], variable: VarIx, r: Ref) -> (Ref, Ref)
     requires { IsBefore (length nodes.now) r }
     ensures { result ≡ split_ref nodes.now variable r }
@@ -66,7 +69,8 @@ fn halves(nodes: &[Node], variable: VarIx, r: Ref) -> (Ref, Ref)
     }
 }
 
-/// Numbers the refs that the refs above a variable's level lead to, by first occurrence.
+/// Writes the nodes of a variable's level to `level`, from the cut above it. The numbers of the
+/// refs in the cut below are written to `codes`, by first occurrence.
 fn number_halves(
     n: u8,
     nodes: &[Node],
@@ -93,8 +97,7 @@ fn number_halves(
     Ok(())
 }
 
-/// The nodes of a variable's level, from the refs that paths come to above it, and the refs below
-/// it.
+/// The nodes of a variable's level, from the cut above it, and the cut below it.
 fn split(
     alloc: Global,
     n: u8,
@@ -115,7 +118,8 @@ fn split(
     Ok((level, next))
 }
 
-/// Numbers the roots by first occurrence.
+/// Writes the place of each root in the topmost cut to `numbers`. The numbers of the refs in this
+/// cut are written to `codes`, by first occurrence.
 fn number_roots(
     roots: &[Ref],
     codes: &mut IndexSet<usize>,
@@ -135,7 +139,7 @@ fn number_roots(
     Ok(())
 }
 
-/// The numbers of the roots, and the refs above all levels.
+/// The place of each root in the topmost cut, and this cut.
 fn first_cut(alloc: Global, size: usize, roots: &[Ref]) -> Result<(Vec<u32>, Vec<Ref>), AllocError>
     requires small { size < 2 ^ 32 }
     requires few { length roots.now ≤ 16 }
@@ -149,7 +153,7 @@ fn first_cut(alloc: Global, size: usize, roots: &[Ref]) -> Result<(Vec<u32>, Vec
     Ok((numbers, cut))
 }
 
-/// Which of some refs are terminal 1.
+/// For each ref of a cut, whether it is the terminal 1.
 fn terminal_values(alloc: Global, cut: &[Ref]) -> Result<Vec<bool>, AllocError>
     ensures { IfOk result (λ v. v.items ≡ map is_true cut.now) }
 {

@@ -1,12 +1,12 @@
-//! A tight bound for a search: sifting until nothing is gained, from the sifted order and from the
-//! other end.
+//! A tight bound for a search: sifting until nothing is gained, from the sifted order and from its
+//! reverse.
 
 ghost use Rattle.std.specs.Prelude.{◌≡◌, ◌≤◌, ◌⊎◌, IfOk, IfSome};
 ghost use Rattle.std.specs.Thread.{IsSync};
 
 use crate::manager::Manager;
 use crate::sift::{Sifted, raise};
-use crate::sift_by_threads::{CallingThread, Sifter, WorkerThreads};
+use crate::sift_by_threads::{SerialSifter, Sifter, ThreadedSifter};
 use order_model::Workers;
 use std::alloc::{AllocError, Global};
 use std::thread;
@@ -22,14 +22,14 @@ const LEAST_INPUTS: usize = 13;
 /// are under all orders.
 const NEAR_PART: u32 = 64;
 
-/// Whether a size is near another one.
+/// Whether two sizes differ by no more than a sixty-fourth of `other`.
 fn is_near(size: u32, other: u32) -> bool {
     size.abs_diff(other) <= other / NEAR_PART
 }
 
 impl Manager {
-    /// The manager with its order turned over, as far as the pairs let it: from the top, each
-    /// variable is taken above all that stood above it.
+    /// The manager with its order reversed, as far as the pairs allow: from the top, each variable
+    /// is moved above all that stood above it.
     fn turned_over(self, alloc: Global) -> Result<Manager, AllocError>
         ensures functions { IfOk result (λ m. m.problem ≡ self.problem) }
         ensures pairs { IfOk result (λ m. m.pairs ≡ self.pairs) }
@@ -48,7 +48,8 @@ impl Manager {
 impl Sifted {
     ghost use Rattle.sifting.specs.Managed.{IsNoLarger};
 
-    /// Sifted again, until a pass gains nothing.
+    /// The order that sifting again and again ends with: when a pass gains nothing, or after
+    /// `MOST_PASSES` passes.
     fn repeat<S: Sifter>(self, sifter: &S, alloc: Global) -> Result<Sifted, AllocError>
         ensures { IfOk result (IsNoLarger self) }
     {
@@ -63,8 +64,8 @@ impl Sifted {
         Ok(sifted)
     }
 
-    /// The order turned over, to begin with once more. Nothing if that changes the size by no more
-    /// than a sixty-fourth.
+    /// The reversed order, as a second start of sifting. None if reversing the order changes the
+    /// size by no more than a sixty-fourth.
     fn other_start(&self, alloc: Global) -> Result<Option<Manager>, AllocError>
         ensures { IfOk result (λ o. IfSome o (λ m. (m.problem ≡ self.now.problem)
             × (m.pairs ≡ self.now.pairs))) }
@@ -77,7 +78,7 @@ impl Sifted {
         }
     }
 
-    /// The smaller one of two orders, this one if both have one size.
+    /// The smaller of two orders, and this one if their sizes are equal.
     fn or_smaller(self, other: Sifted) -> Sifted
         ensures size { result.size ≤ self.size }
         ensures either { (result ≡ self) ⊎ (result ≡ other) }
@@ -89,22 +90,23 @@ impl Sifted {
         }
     }
 
-    /// The better one of two orders that are sifted until a pass gains nothing: the first begins
-    /// with this order, the other one with this order turned over. If turning it over changes its
-    /// size by no more than a sixty-fourth, it stays.
+    /// The smaller of two orders that are each sifted until a pass gains nothing: the first start
+    /// is this order, the second one is this order reversed. If reversing changes the size by no
+    /// more than a sixty-fourth, this order stays as it is.
     pub fn sifted_to_convergence(self, alloc: Global) -> Result<Sifted, AllocError>
         ensures { IfOk result (IsNoLarger self) }
     {
         let Some(other) = self.other_start(alloc)? else {
             return Ok(self);
         };
-        let here = self.repeat(&CallingThread, alloc)?;
-        let there = other.sift(alloc)?.repeat(&CallingThread, alloc)?;
+        let here = self.repeat(&SerialSifter, alloc)?;
+        let there = other.sift(alloc)?.repeat(&SerialSifter, alloc)?;
         Ok(here.or_smaller(there))
     }
 
-    /// The order whose size bounds the search: that of sifting to convergence, where a
-    /// search takes longer than that.
+    /// The order whose size bounds the search: that of sifting to convergence, or this one if it
+    /// has fewer than `LEAST_INPUTS` variables, since a search then takes no longer than sifting
+    /// again.
     pub fn search_bound(self, alloc: Global) -> Result<Sifted, AllocError>
         ensures { IfOk result (IsNoLarger self) }
     {
@@ -140,13 +142,13 @@ impl Sifted {
                 ensures { IfOk result (λ s. (s.problem ≡ other.problem)
                     × (s.pairs ≡ other.pairs)) }
             {
-                let threads = WorkerThreads { rt, workers };
+                let threads = ThreadedSifter { rt, workers };
                 other.sift_by(&threads, alloc)?.repeat(&threads, alloc)
             },
             move || -> Result<Sifted, AllocError>
                 requires { IsSync R.row }
                 ensures { IfOk result (IsNoLarger self) }
-            { self.repeat(&WorkerThreads { rt, workers }, alloc) },
+            { self.repeat(&ThreadedSifter { rt, workers }, alloc) },
         );
         Ok(here?.or_smaller(there?))
     }

@@ -1,8 +1,8 @@
-//! The levels of a diagram, and the exchange of two neighbours.
+//! The levels of a diagram, and the swap of two adjacent levels.
 //!
 //! A level has a node for each function that is left over when all variables above are fixed in
 //! some way: also for one that doesn't depend on the level's variable, and whose two children are
-//! then equal. So each edge goes to the next level, and an exchange changes nothing outside its two
+//! then equal. So each edge goes to the next level, and a swap changes nothing outside its two
 //! levels.
 
 ghost use Rattle.std.specs.Prelude.{◌≡◌, ◌*◌, ◌<◌, ◌≤◌, ◌^◌, length, IfOk};
@@ -11,7 +11,7 @@ ghost use Rattle.sifting.specs.Leveled.{branching, HasChildren, Exchanges};
 use crate::node_table::NodeTable;
 use std::alloc::{AllocError, Global};
 
-/// The places of a node's low and high child on the next level.
+/// A node, as the places of its low and its high child on the next level.
 pub(crate) type Children = (u32, u32);
 
 /// The nodes of a level, each once, and how many of them have two different children.
@@ -22,7 +22,7 @@ pub(crate) struct Level {
     pub ghost counted: { count ≡ branching nodes.items },
 }
 
-/// How many nodes have two different children.
+/// How many nodes have two different children: those that a reduced diagram has.
 fn count_of(nodes: &[Children]) -> u32
     requires { length nodes.now < 2 ^ 32 }
     ensures { result ≡ branching nodes.now }
@@ -46,7 +46,7 @@ impl Level {
         Level { nodes, count }
     }
 
-    /// The level once more.
+    /// A copy of the level.
     pub fn try_clone(&self, alloc: Global) -> Result<Level, AllocError>
         ensures { IfOk result (λ l. l.nodes.items ≡ self.now.nodes.items) }
     {
@@ -57,7 +57,8 @@ impl Level {
     }
 }
 
-/// The two levels with their variables exchanged, from the nodes of both.
+/// Two adjacent levels after the swap of their variables, the upper one first. `upper` and `lower`
+/// are their nodes before.
 pub(crate) fn swap_levels(
     alloc: Global,
     table: &mut NodeTable,

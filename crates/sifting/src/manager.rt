@@ -1,4 +1,4 @@
-//! A diagram by levels, whose variables can be exchanged.
+//! A diagram by levels, whose adjacent levels can be swapped.
 
 ghost use Rattle.std.specs.Prelude.{◌≡◌, ◌+◌, ◌<◌, ◌≤◌, ℕ, [], not, length, slice_index, swap, IfOk, IsFalse};
 ghost use Rattle.definitions.specs.Diagrams.{IsReduced, IsOrdered};
@@ -14,8 +14,8 @@ use std::alloc::{AllocError, Global};
 use std::marker::Model;
 use std::mem;
 
-/// A reduced diagram whose neighbouring levels can be exchanged, under an order that keeps some
-/// pairs. A call that takes it and is refused memory spends it.
+/// A reduced diagram whose adjacent levels can be swapped, under an order that keeps some pairs. A
+/// call that takes the manager and runs out of memory drops it.
 #[derive(Debug, Drop)]
 pub struct Manager {
     order: Order,
@@ -42,7 +42,7 @@ impl Model for Manager {
         (nodes_of m.levels.items) m.terminals.items m.order m.roots.items m.pairs };
 }
 
-/// The levels once more.
+/// Copies of levels.
 fn copies_of(alloc: Global, levels: &[Level]) -> Result<Vec<Level>, AllocError>
     ensures { IfOk result (λ v. nodes_of v.items ≡ nodes_of levels.now) }
 {
@@ -69,7 +69,8 @@ impl Manager {
         Ok(manager)
     }
 
-    /// The manager of a reduced diagram whose order keeps the pairs, in the same time.
+    /// The manager of a reduced diagram whose order keeps the pairs. The time is that of a step for
+    /// each node and each level that an edge passes over.
     pub fn with_pairs(alloc: Global, diagram: Diagram, pairs: Pairs) -> Result<Manager, AllocError>
         requires few { length diagram.graph.roots ≤ 16 }
         requires ordered { IsOrdered diagram.order diagram.graph }
@@ -92,8 +93,8 @@ impl Manager {
         })
     }
 
-    /// Whether the variables of a level and the next one may be exchanged: no pair has the upper
-    /// one above the lower.
+    /// Whether a level may be swapped with the next one: no pair has the variable of the upper one
+    /// above that of the lower one.
     pub fn may_swap(&self, level: usize) -> bool
         requires { level + 1 < length self.now.order }
         ensures { result ≡ not
@@ -104,9 +105,9 @@ impl Manager {
         !contains(self.pairs.below(variables[level]), variables[level + 1])
     }
 
-    /// The manager with the variables of a level and the next one exchanged (Rudell 1993). The
-    /// functions and all other places stay, and the diagram is reduced again. The time is that of a
-    /// step for each node of the two levels.
+    /// The manager after the swap of a level with the next one (Rudell 1993). The functions and all
+    /// other places stay, and the diagram is reduced again. The time is that of a step for each
+    /// node of the two levels.
     pub fn swap(self, alloc: Global, level: usize) -> Result<Manager, AllocError>
         requires below { level + 1 < length self.order }
         requires lawful { IsFalse
@@ -166,7 +167,7 @@ impl Manager {
         &self.order
     }
 
-    /// The manager once more.
+    /// A copy of the manager.
     pub(crate) fn try_clone(&self, alloc: Global) -> Result<Manager, AllocError>
         ensures { IfOk result (λ m. m ≡ self.now) }
     {

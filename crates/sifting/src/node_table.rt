@@ -1,4 +1,4 @@
-//! The nodes of a level in the making, each once.
+//! The nodes of a level while it is made, each once.
 
 ghost use Rattle.std.specs.Prelude.{◌≡◌, [], ◌+◌, ◌*◌, ◌^◌, ◌<◌, ◌≤◌, length, IfOk, IfErr, OnOk, IfSome, IfNone};
 ghost use Rattle.sifting.specs.NodeTables.{home_of, HasNumber, IsFree, Finds, IsFreeSlot, IsSet, IsNodeTable, Inserted};
@@ -20,7 +20,10 @@ pub(crate) struct NodeTable {
     pub spare: Vec<Children>,
 }
 
-/// Where the search for a node's slot begins.
+/// An odd number whose multiples spread over the words of 64 bits.
+const SPREAD: u64 = 11_400_714_819_323_198_485;
+
+/// The slot at which the search for a node begins: a hash of the node, at most `homes`.
 #[inline(always)]
 fn home(homes: usize, node: Children) -> usize
     requires { homes ≤ 2 ^ 32 }
@@ -28,11 +31,12 @@ fn home(homes: usize, node: Children) -> usize
     ensures within { result ≤ homes }
 {
     let key = (u64::from(node.0) << 20) + u64::from(node.1);
-    let high = key.wrapping_mul(11400714819323198485) >> 32;
+    let high = key.wrapping_mul(SPREAD) >> 32;
     ((high * homes as u64) >> 32) as usize
 }
 
-/// The number in a slot, if it is that of one of `count` nodes.
+/// The number of the node that a slot holds, if this is one of the `count` nodes of the level that
+/// is made: the slot is the number plus `base`.
 #[inline(always)]
 fn number_in(slot: u32, base: u32, count: usize) -> Option<usize>
     ensures some { IfSome result (HasNumber base count slot) }
@@ -42,7 +46,8 @@ fn number_in(slot: u32, base: u32, count: usize) -> Option<usize>
     if number < count { Some(number) } else { None }
 }
 
-/// The number of a node, or the first free slot from its home on, or the end of the slots.
+/// The number of a node, if the level has it. Else `Err` has the first free slot from `home` on,
+/// which may be the one behind all slots.
 #[inline(always)]
 fn find(
     slots: &[u32],
@@ -67,7 +72,7 @@ fn find(
     Err(slots.len())
 }
 
-/// Sets a slot, which may be the one behind all others.
+/// Writes a slot. It may be the one behind all slots, which is then added.
 fn set_slot(slots: &mut Vec<u32>, at: usize, slot: u32) -> Result<(), AllocError>
     requires { at ≤ length slots.old.items }
     ensures { OnOk result (IsSet slots.old.items slots.new.items at slot) }
@@ -152,7 +157,7 @@ impl NodeTable {
         Ok(number)
     }
 
-    /// The level that is made.
+    /// Takes out the level that is finished.
     pub fn finish(&mut self, alloc: Global) -> Level
         requires table { IsNodeTable self.old }
         requires room { self.old.base + length self.old.nodes.items < 2 ^ 32 }

@@ -1,4 +1,4 @@
-//! Who sifts: the calling thread, or two threads, of which one moves a variable up and the other
+//! Sifting by the calling thread, or by two threads, of which one moves a variable up and the other
 //! one moves it down.
 
 ghost use Rattle.std.specs.Prelude.{◌≡◌, ◌<◌, ◌≤◌, length, IfOk};
@@ -17,7 +17,7 @@ use std::thread::Threads;
 /// With fewer nodes moving a variable takes no longer than starting a thread.
 const LEAST_NODES: u32 = 4096;
 
-/// Takes the variable at a place downward to another one.
+/// Moves the variable at place `from` down to place `to`.
 fn lower(alloc: Global, manager: Manager, from: usize, to: usize) -> Result<Manager, AllocError>
     requires within { to < length manager.order }
     requires downward { from ≤ to }
@@ -31,7 +31,7 @@ fn lower(alloc: Global, manager: Manager, from: usize, to: usize) -> Result<Mana
     Ok(manager)
 }
 
-/// What moving the variable at a place up and moving it down finds, by two threads.
+/// The walks of the variable at place `from` up and down, by two threads.
 fn walk_both<R: Threads>(
     rt: &R,
     alloc: Global,
@@ -57,9 +57,10 @@ fn walk_both<R: Threads>(
     Ok((up?, down?))
 }
 
-/// Who sifts.
+/// A way to move a variable to its best place. All ways come to one order.
 pub(crate) trait Sifter {
-    /// What `Manager::put_best` does.
+    /// The manager with variable x moved to its uppermost place of least size, among the places
+    /// that keep the pairs.
     fn put_best(&self, alloc: Global, manager: Manager, x: VarIx) -> Result<Manager, AllocError>
         requires { x < length manager.order }
         ensures order { IfOk result
@@ -70,25 +71,24 @@ pub(crate) trait Sifter {
         ensures length { IfOk result (λ m. length m.order ≡ length manager.order) };
 }
 
-/// The calling thread.
+/// Moves variables by the calling thread.
 #[derive(Drop)]
-pub(crate) struct CallingThread;
+pub(crate) struct SerialSifter;
 
-/// The threads of some workers.
+/// Moves variables by two threads, if there are two workers or more and the diagram is large.
 #[derive(Drop)]
-pub(crate) struct WorkerThreads<'r, R> {
+pub(crate) struct ThreadedSifter<'r, R> {
     pub(crate) rt: &'r R,
     pub(crate) workers: Workers,
 }
 
-impl Sifter for CallingThread {
+impl Sifter for SerialSifter {
     fn put_best(&self, alloc: Global, manager: Manager, x: VarIx) -> Result<Manager, AllocError> {
         manager.put_best(alloc, x)
     }
 }
 
-impl<'r, R: Threads> Sifter for WorkerThreads<'r, R> {
-    /// By two threads if there are two workers or more and the diagram is large.
+impl<'r, R: Threads> Sifter for ThreadedSifter<'r, R> {
     fn put_best(&self, alloc: Global, manager: Manager, x: VarIx) -> Result<Manager, AllocError> {
         if self.workers.count() == 1 || manager.size() < LEAST_NODES {
             return manager.put_best(alloc, x);
@@ -105,7 +105,7 @@ impl<'r, R: Threads> Sifter for WorkerThreads<'r, R> {
 }
 
 impl Manager {
-    /// What `sift` does, whoever sifts.
+    /// The order that `sift` comes to, where `sifter` moves the variables.
     pub(crate) fn sift_by<S: Sifter>(self, sifter: &S, alloc: Global) -> Result<Sifted, AllocError>
         ensures order { IfOk result (λ s. s.order ≡ sifted_order self) }
         ensures functions { IfOk result (λ s. s.problem ≡ self.problem) }
@@ -120,7 +120,8 @@ impl Manager {
         Ok(Sifted::of(manager))
     }
 
-    /// What `sift` does, by two threads if there are two workers or more and the diagram is large.
+    /// The order that `sift` comes to, by two threads if there are two workers or more and the
+    /// diagram is large.
     pub fn sift_by_threads<R: Threads>(
         self,
         rt: &R,
@@ -132,6 +133,6 @@ impl Manager {
         ensures pairs { IfOk result (λ s. s.pairs ≡ self.pairs) }
         ensures size { IfOk result (λ s. s.size ≤ size_of self) }
     {
-        self.sift_by(&WorkerThreads { rt, workers }, alloc)
+        self.sift_by(&ThreadedSifter { rt, workers }, alloc)
     }
 }

@@ -2,7 +2,7 @@ use Rattle.std.proofs.Common.{ap, subst, ◌∙◌}
 use Rattle.definitions.specs.Orders.{place_in}
 use Rattle.sifting.specs.Moves.{WalksUp, WalksDown}
 use Rattle.sifting.proofs.BothWalks.{upper_passes, upper_best, lower_passes, lower_best}
-use Rattle.sifting.proofs.sift_by_threads.WorkerThreadsSifter.put_best.Goals as goal
+use Rattle.sifting.proofs.sift_by_threads.ThreadedSifterSifter.put_best.Goals as goal
 
 pub lower-requires-clause-lawful : goal.lower-requires-clause-lawful
 lower-requires-clause-lawful g c =
