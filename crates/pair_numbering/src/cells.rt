@@ -1,10 +1,10 @@
-//! Numbers of pairs by first occurrence, by a cell for each pair of classes.
+//! Numbers of pairs by first occurrence, with a cell for each possible pair of classes.
 
 ghost use Rattle.std.specs.Prelude.{◌≡◌, ℕ, ◌+◌, ◌*◌, ◌/◌, ◌^◌, ◌<◌, ◌≤◌, length, slice_index, take, IfOk, IfSome};
 ghost use Rattle.pair_numbering.specs.Cells.{AreCelled};
 ghost use Rattle.pair_numbering.specs.MaskedNumbers.{NumbersMasked};
 
-use crate::entries::Block;
+use crate::entries::BlockHalves;
 use crate::masks::MaskedPairs;
 use crate::numbers::MaskedNumbers;
 use definitions::Mask;
@@ -17,8 +17,9 @@ const MOST_NUMBERS: usize = 65_535;
 /// If more than one of this many pairs was new so far a branch on it would often be mispredicted.
 const MANY_NEW: usize = 4;
 
-/// Numbers the pairs of a block. The answer is how many numbers there are then. If `EVENLY` is true
-/// the mask of each pair is written, without a branch on whether the pair is new.
+/// Numbers the pairs of a block, and returns how many numbers there are then; `from` is how many
+/// there were before. If `EVENLY` is true the mask of each pair is written, without a branch on
+/// whether the pair is new.
 #[inline(always)]
 fn number_block<const EVENLY: bool>(
     pairs: &MaskedPairs<'_>,
@@ -38,7 +39,7 @@ fn number_block<const EVENLY: bool>(
     let x = pairs.x;
     let classes = masks.len();
     let step = 1usize << pairs.rank();
-    let Block { low, high } = pairs.entries.block(block);
+    let BlockHalves { low, high } = pairs.entries.block(block);
     let mut count = from;
     for i in 0..step {
         let pair = (low[i], high[i]);
@@ -60,6 +61,8 @@ fn number_block<const EVENLY: bool>(
 /// Writes the numbers of the pairs and their masks. The answer is how many masks there are; nothing
 /// if these may be too many for cells of 16 bits.
 // Its loops need all registers, so it isn't inlined.
+/// Writes the number of each pair to `out`, and the mask of each number to `joined`. Returns how
+/// many numbers there are, or None if they may be too many for cells of 16 bits.
 #[inline(never)]
 fn number_blocks(
     pairs: &MaskedPairs<'_>,
@@ -89,9 +92,8 @@ fn number_blocks(
     Some(count)
 }
 
-/// The numbers of the pairs and their masks. A cell is 0, or one more than the number of its pair.
-/// If many pairs were new so far a block is numbered without a branch on whether a pair is new.
-/// Nothing if there may be more numbers than a cell can have.
+/// The number of each pair by first occurrence, and the mask of each number. A cell is 0, or one
+/// more than the number of its pair. None if there may be more numbers than a cell can have.
 pub(crate) fn number_pairs_by_cells(
     alloc: Global,
     pairs: &MaskedPairs<'_>,

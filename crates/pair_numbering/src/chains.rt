@@ -1,7 +1,8 @@
-//! Numbers of pairs by first occurrence, without hashing.
+//! Numbers of pairs by first occurrence, without hashing: the pairs with one lower class form a
+//! chain, in which equal pairs are found by a mark for each upper class.
 
 ghost use Rattle.std.specs.Prelude.{◌≡◌, ℕ, ◌+◌, ◌*◌, ◌/◌, ◌^◌, ◌<◌, ◌≤◌, length, slice_index, IfOk};
-ghost use Rattle.pair_numbering.specs.Chains.{AreHeads, AreLinks, AreFirsts, AreFirstsOf, KeepsOthers};
+ghost use Rattle.pair_numbering.specs.Chains.{AreHeads, AreLinks, AreFirsts, AreFirstsOf, AreRowsFor, KeepsOthers};
 ghost use Rattle.subfunction_classes.specs.PairTables.{AllBelow, IsPaired, IsPairTable};
 ghost use Rattle.pair_numbering.specs.Numbers.{ArePairsNumbered};
 
@@ -9,8 +10,8 @@ use crate::entries::EntryPairs;
 use crate::numbers::NumberedPairs;
 use std::alloc::{AllocError, Global};
 
-/// Pairs of entries, chained by their lower class: the first pair of each class, and the one after
-/// each pair.
+/// Pairs of entries, in a chain for each lower class: `heads` has the first pair of each class, and
+/// `next` the pair after each. After the last pair of a chain comes the number of pairs.
 #[derive(Drop)]
 struct Chains<'e, 'r> {
     entries: &'e EntryPairs<'e>,
@@ -22,7 +23,7 @@ struct Chains<'e, 'r> {
 }
 
 impl<'e, 'r> Chains<'e, 'r> {
-    /// The chains that `chain` wrote.
+    /// The chains that `chain` wrote to `heads` and `next`.
     #[inline(always)]
     fn of(entries: &'e EntryPairs<'e>, heads: &'r [u32], next: &'r [u32]) -> Chains<'e, 'r>
         requires few { length heads.now < 2 ^ 31 }
@@ -39,8 +40,9 @@ impl<'e, 'r> Chains<'e, 'r> {
     }
 }
 
-/// Chains the pairs by their lower class: a head is the first pair of its class, and `next` the one
-/// after each.
+/// Chains the pairs by their lower class: writes the first pair of each class to `heads`, and the
+/// next pair with the lower class of each pair to `next`. After the last pair of a chain comes the
+/// number of pairs.
 fn chain(entries: &EntryPairs<'_>, heads: &mut [u32], next: &mut [u32])
     requires paired { IsPaired entries.now.numbers entries.now.rank }
     requires classes { AllBelow entries.now.numbers (length heads.old) }
@@ -59,7 +61,8 @@ fn chain(entries: &EntryPairs<'_>, heads: &mut [u32], next: &mut [u32])
     }
 }
 
-/// The numbers of the pairs, from the first pair equal to each.
+/// The numbers of the pairs by first occurrence, and the pair of each number. `first[j]` is the
+/// first pair that is equal to pair j.
 pub(crate) fn number_firsts(
     alloc: Global,
     entries: &EntryPairs<'_>,
@@ -89,8 +92,9 @@ pub(crate) fn number_firsts(
     })
 }
 
-/// Finds the first equal pair of each pair whose lower class is `lower`. The stamps tell which
-/// marks are of this class.
+/// Writes to `first` the first equal pair of each pair whose lower class is `lower`. In this chain
+/// `marks[u]` is the first pair with the upper class u, if `stamps[u]` is `lower + 1`; a smaller
+/// stamp is left from another chain.
 #[inline(always)]
 fn walk_chain(
     chains: &Chains<'_, '_>,
@@ -99,10 +103,7 @@ fn walk_chain(
     marks: &mut [u32],
     first: &mut [u32],
 )
-    requires paired { IsPaired chains.now.entries.now.numbers chains.now.entries.now.rank }
-    requires classes { AllBelow chains.now.entries.now.numbers (length stamps.old) }
-    requires marks_len { length marks.old ≡ length stamps.old }
-    requires first_len { length first.old ≡ length chains.now.entries.now.numbers / 2 }
+    requires rows { AreRowsFor chains.now.entries.now stamps.old marks.old first.old }
     requires lower { lower < length chains.now.heads.now }
     requires stamps { (h : ℕ) → h < length stamps.old → slice_index stamps.old h ≤ lower }
     ensures stamps { (h : ℕ) → h < length stamps.new → slice_index stamps.new h ≤ lower + 1 }
@@ -127,7 +128,7 @@ fn walk_chain(
     }
 }
 
-/// Finds the first equal pair of each pair.
+/// Writes to `first`, for each pair, the first pair that is equal to it, chain by chain.
 #[inline(always)]
 fn first_occurrences(
     chains: &Chains<'_, '_>,
@@ -135,11 +136,8 @@ fn first_occurrences(
     marks: &mut [u32],
     first: &mut [u32],
 )
-    requires paired { IsPaired chains.now.entries.now.numbers chains.now.entries.now.rank }
-    requires classes { AllBelow chains.now.entries.now.numbers (length stamps.old) }
+    requires rows { AreRowsFor chains.now.entries.now stamps.old marks.old first.old }
     requires heads_len { length chains.now.heads.now ≡ length stamps.old }
-    requires marks_len { length marks.old ≡ length stamps.old }
-    requires first_len { length first.old ≡ length chains.now.entries.now.numbers / 2 }
     requires stamps { (h : ℕ) → h < length stamps.old → slice_index stamps.old h ≡ 0 }
     ensures { AreFirsts chains.now.entries.now first.new }
 {
@@ -148,8 +146,8 @@ fn first_occurrences(
     }
 }
 
-/// Finds the first pair equal to each pair, by chains and marks in rows that are lent, whatever
-/// they hold. All classes are below the length of `heads`.
+/// Writes to `first`, for each pair, the first pair that is equal to it. The other rows are working
+/// memory, which may hold anything before. All classes are below the length of `heads`.
 pub fn first_pairs(
     entries: &EntryPairs<'_>,
     heads: &mut [u32],
@@ -173,7 +171,7 @@ pub fn first_pairs(
     first_occurrences(&chains, stamps, marks, first);
 }
 
-/// The first pair equal to each pair, by chains and marks. All classes are below `classes`.
+/// For each pair the first pair that is equal to it. All classes are below `classes`.
 pub(crate) fn find_first_pairs(
     alloc: Global,
     entries: &EntryPairs<'_>,

@@ -31,14 +31,15 @@ impl<'a> Model for EntryPairs<'a> {
     ghost invariant = { λ e. IsLaid (λ r. r.now) e.names e.numbers.now e.rank };
 }
 
-/// A block's entries at which the variable is 0, and those at which it is 1.
+/// The entries of a block of pairs: those at which the variable is 0, and those at which it is 1.
 #[derive(Clone, Copy, Debug)]
-pub(crate) struct Block<'a> {
+pub(crate) struct BlockHalves<'a> {
     pub(crate) low: &'a [u32],
     pub(crate) high: &'a [u32],
 }
 
-/// The strips of a block: those that stand next in a table, or those that are named.
+/// The two strips of a block of pairs: the entries at which the variable is 0, and those at which
+/// it is 1. They stand side by side in a table, or have the names that `names` lists.
 #[inline(always)]
 fn strips_of(names: Option<&[(u32, u32)]>, block: usize) -> (usize, usize)
     requires named { IfSome names (λ r. block < length r.now) }
@@ -54,7 +55,7 @@ fn strips_of(names: Option<&[(u32, u32)]>, block: usize) -> (usize, usize)
     }
 }
 
-/// A strip of 2 ^ rank entries.
+/// The strip with number `name` of a row of strips of 2 ^ rank entries.
 #[inline(always)]
 fn strip_at(numbers: &[u32], rank: u32, name: usize) -> &[u32]
     requires rank { rank < 16 }
@@ -83,7 +84,7 @@ impl<'a> EntryPairs<'a> {
         }
     }
 
-    /// The pairs of strips of 2 ^ bits entries, entry by entry.
+    /// The pairs of strips of 2 ^ bits entries, which `names` lists by number, entry by entry.
     #[inline(always)]
     pub(crate) fn of_strips(
         names: &'a [(u32, u32)],
@@ -125,9 +126,9 @@ impl<'a> EntryPairs<'a> {
         }
     }
 
-    /// A block of pairs.
+    /// The two halves of a block: 2 ^ rank pairs.
     #[inline(always)]
-    pub(crate) fn block(&self, block: usize) -> Block<'a>
+    pub(crate) fn block(&self, block: usize) -> BlockHalves<'a>
         requires { block < length self.now.numbers / 2 / 2 ^ self.now.rank }
         ensures low_len { length result.low.now ≡ 2 ^ self.now.rank }
         ensures high_len { length result.high.now ≡ 2 ^ self.now.rank }
@@ -137,13 +138,13 @@ impl<'a> EntryPairs<'a> {
             (block * 2 ^ self.now.rank + i) (0, 0) }
     {
         let (low, high) = strips_of(self.names, block);
-        Block {
+        BlockHalves {
             low: strip_at(self.numbers, self.rank, low),
             high: strip_at(self.numbers, self.rank, high),
         }
     }
 
-    /// Pair `j`: the entries at which the variable is 0 and 1.
+    /// Pair `j`: the entry at which the variable is 0, and that at which it is 1.
     #[inline(always)]
     pub fn pair(&self, j: usize) -> (u32, u32)
         requires { j < length self.now.numbers / 2 }

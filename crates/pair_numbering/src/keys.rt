@@ -7,7 +7,7 @@ ghost use Rattle.subfunction_classes.specs.Places as places;
 ghost use Rattle.pair_numbering.specs.Keys.{AreUsed, TellsPairs, joined_key, joined_key_mask};
 ghost use Rattle.subfunction_classes.specs.PairTables.{AllBelow, IsPaired};
 
-use crate::entries::{Block, EntryPairs};
+use crate::entries::{BlockHalves, EntryPairs};
 use crate::masks::MaskedPairs;
 use crate::numbers::number_with_masks;
 use definitions::{Mask, VarIx};
@@ -26,7 +26,7 @@ pub struct PairKeys {
     pub all_used: bool,
 }
 
-/// Writes the keys of pairs of keys below `base`, block by block.
+/// Writes the key of each pair of keys below `base`, low + base * high, block by block.
 #[inline(always)]
 fn join_blocks(entries: &EntryPairs<'_>, rank: u32, base: u32, joined: &mut [u32])
     requires rank { rank ≡ entries.now.rank }
@@ -38,15 +38,15 @@ fn join_blocks(entries: &EntryPairs<'_>, rank: u32, base: u32, joined: &mut [u32
 {
     let step = 1usize << rank;
     for block in 0..joined.len() >> rank {
-        let Block { low, high } = entries.block(block);
+        let BlockHalves { low, high } = entries.block(block);
         for i in 0..step {
             joined[block * step + i] = low[i] + high[i] * base;
         }
     }
 }
 
-/// The keys of pairs of keys below `base`. Each small rank, since these are frequent, has its own
-/// loop.
+/// The key of each pair of keys below `base`, low + base * high. The small ranks, which are
+/// frequent, have a loop each.
 fn join_keys(alloc: Global, entries: &EntryPairs<'_>, base: u32) -> Result<Vec<u32>, AllocError>
     requires below { AllBelow entries.now.numbers base }
     requires base { base ≤ 256 }
@@ -64,7 +64,7 @@ fn join_keys(alloc: Global, entries: &EntryPairs<'_>, base: u32) -> Result<Vec<u
     Ok(joined)
 }
 
-/// The masks of the keys of all pairs.
+/// The mask of each key low + base * high, where `masks` has those of the keys below `base`.
 fn join_key_masks(alloc: Global, masks: &[Mask], x: VarIx) -> Result<Vec<Mask>, AllocError>
     requires variable { x < 16 }
     requires few { length masks.now ≤ 256 }
@@ -82,8 +82,8 @@ fn join_key_masks(alloc: Global, masks: &[Mask], x: VarIx) -> Result<Vec<Mask>, 
     Ok(joined)
 }
 
-/// Labels by which the pairs of a table's entries are told apart: joined keys if these are few, and
-/// not more than the entries, else numbers.
+/// Keys that are equal exactly for equal pairs, and the mask of each key: joined keys if these are
+/// few, and no more than the entries, else numbers by first occurrence.
 pub fn label_pairs(alloc: Global, pairs: &MaskedPairs<'_>) -> Result<PairKeys, AllocError>
     ensures tells { IfOk result
         (λ v. TellsPairs pairs.now.masks.now pairs.now.x

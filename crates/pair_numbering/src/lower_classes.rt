@@ -1,5 +1,5 @@
-//! How many pairs have each class as the lower one. A pair whose lower class no other pair has is
-//! equal to none of the others.
+//! How many pairs have each class as their lower class. A pair whose lower class no other pair has
+//! is equal to no other pair.
 
 ghost use Rattle.std.specs.Prelude.{◌≡◌, ◌+◌, ◌/◌, ◌^◌, ◌<◌, ◌≤◌, length, IfOk};
 ghost use Rattle.subfunction_classes.specs.PairTables.{AllBelow, IsPairTable};
@@ -9,8 +9,8 @@ ghost use Rattle.pair_numbering.specs.LowerClasses.{AreCounted, AreLone};
 use crate::entries::EntryPairs;
 use std::alloc::{AllocError, Global};
 
-/// Pairs of a table's entries, and how many of them have each class as the lower one: none, one, or
-/// more, for which 2 stands; or 0 for each class, if they weren't counted.
+/// Pairs of a table's entries, and how many of them have each class as their lower class: 0, 1, or
+/// 2 for two or more. All counts are 0 if the pairs weren't counted.
 #[derive(Drop)]
 pub(crate) struct CountedPairs<'e> {
     pub(crate) entries: &'e EntryPairs<'e>,
@@ -19,7 +19,8 @@ pub(crate) struct CountedPairs<'e> {
     ghost lone: { AreLone (places.pairs entries.now.numbers (2 ^ entries.now.rank)) counts.now },
 }
 
-/// How many pairs of a block have each lower class, added to those before: none, one or more.
+/// Adds the pairs of a block to the counts of pairs with each lower class: 0, 1, or 2 for two or
+/// more.
 #[inline(always)]
 fn count_block(entries: &EntryPairs<'_>, block: usize, counts: &mut [u8])
     requires few { length entries.now.numbers ≤ 2 ^ 20 }
@@ -37,9 +38,8 @@ fn count_block(entries: &EntryPairs<'_>, block: usize, counts: &mut [u8])
     }
 }
 
-/// How many pairs have each lower class: none, one, or more, for which 2 stands. They are counted
-/// if there are more classes than pairs, since many are then those of one pair; else 0 stands for
-/// each.
+/// How many pairs have each lower class: 0, 1, or 2 for two or more. If there are no more classes
+/// than pairs, few have only one pair, so they aren't counted, and all counts are 0.
 pub(crate) fn count_lowers(
     alloc: Global,
     entries: &EntryPairs<'_>,

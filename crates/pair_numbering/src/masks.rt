@@ -1,4 +1,4 @@
-//! What the functions of a class depend on, as a mask for each class.
+//! The masks of classes: the variables that a class's functions depend on.
 
 ghost use Rattle.std.specs.Prelude.{◌≡◌, ℕ, ◌*◌, ◌^◌, ◌<◌, ◌≤◌, map, length, IfOk};
 ghost use Rattle.subfunction_classes.specs.Dependence.{joined_mask};
@@ -43,7 +43,7 @@ impl<'e> MaskedPairs<'e> {
         }
     }
 
-    /// The pairs of strips of 2 ^ bits entries, which are read where they stand.
+    /// The pairs of strips of 2 ^ bits entries, which `names` lists by number.
     #[inline(always)]
     pub fn of_strips(
         names: &'e [(u32, u32)],
@@ -79,7 +79,7 @@ impl<'e> MaskedPairs<'e> {
     }
 }
 
-/// The masks of pairs.
+/// The joined mask of each pair of classes. `masks` has those of the classes.
 pub fn join_masks(
     alloc: Global,
     pairs: &[(u32, u32)],

@@ -30,8 +30,8 @@ pub struct NumberedPairs {
     pub pairs: Vec<(u32, u32)>,
 }
 
-/// The numbers of the pairs of entries: by slots, or by chains if slots are crowded. All classes
-/// are below `classes`.
+/// The number of each pair by first occurrence, and the pair of each number: by slots, or by chains
+/// if slots are crowded. All classes are below `classes`.
 pub fn number_entries(
     alloc: Global,
     entries: &EntryPairs<'_>,
@@ -50,8 +50,8 @@ pub fn number_entries(
     number_firsts(alloc, entries, &first)
 }
 
-/// The numbers of the pairs, and the masks of the numbers, from those of the classes: by a cell for
-/// each pair of classes if these are few, else by slots or chains.
+/// The number of each pair by first occurrence, and the mask of each number: by a cell for each
+/// pair of classes if these are few, else by slots or chains.
 pub fn number_with_masks(
     alloc: Global,
     pairs: &MaskedPairs<'_>,

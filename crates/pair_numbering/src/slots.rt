@@ -1,12 +1,12 @@
-//! Numbers of pairs by first occurrence, by slots that each have the number of a pair. A pair whose
-//! lower class no other pair has is new, and takes no slot.
+//! Numbers of pairs by first occurrence, found in hash slots that each have the number of a pair. A
+//! pair whose lower class no other pair has is new, and takes no slot.
 
 ghost use Rattle.std.specs.Prelude.{◌≡◌, ℕ, ◌+◌, ◌*◌, ◌/◌, ◌^◌, ◌<◌, ◌≤◌, length, slice_index, take, IfOk, IfSome};
 ghost use Rattle.pair_numbering.specs.Slots.{AreSlotted, IsSlot, home_of};
 ghost use Rattle.subfunction_classes.specs.PairTables.{IsPairTable};
 ghost use Rattle.pair_numbering.specs.Numbers.{ArePairsNumbered};
 
-use crate::entries::{Block, EntryPairs};
+use crate::entries::{BlockHalves, EntryPairs};
 use crate::lower_classes::{CountedPairs, count_lowers};
 use crate::numbers::NumberedPairs;
 use std::alloc::{AllocError, Global};
@@ -17,7 +17,10 @@ const TRIES: usize = 64;
 /// How many slots there are for each pair.
 const SLOTS_PER_PAIR: usize = 4;
 
-/// Where the search for a pair's slot begins.
+/// An odd number whose multiples spread over the words of 64 bits.
+const SPREAD: u64 = 11_400_714_819_323_198_485;
+
+/// The slot at which the search for a pair begins: a hash of the pair, below `homes`.
 #[inline(always)]
 fn home(homes: usize, pair: (u32, u32)) -> usize
     requires some { 0 < homes }
@@ -26,11 +29,12 @@ fn home(homes: usize, pair: (u32, u32)) -> usize
     ensures within { result < homes }
 {
     let key = (u64::from(pair.0) << 20) + u64::from(pair.1);
-    let high = key.wrapping_mul(11400714819323198485) >> 32;
+    let high = key.wrapping_mul(SPREAD) >> 32;
     ((high * homes as u64) >> 32) as usize
 }
 
-/// The first slot from `home` on that has the pair or is empty.
+/// The first slot from `home` on that has the pair or is free. `keys` has the pair of each of the
+/// `count` numbers, and after these the pair that is searched for.
 #[inline(always)]
 fn find_slot(
     slots: &[u16],
@@ -52,8 +56,8 @@ fn find_slot(
     None
 }
 
-/// Numbers the pairs of a block. The answer is how many numbers there are then; nothing if a pair
-/// finds no slot.
+/// Numbers the pairs of a block, and returns how many numbers there are then; `count` is how many
+/// there were before. None if a pair finds no slot.
 #[inline(always)]
 fn number_block(
     pairs: &CountedPairs<'_>,
@@ -72,7 +76,7 @@ fn number_block(
 {
     let homes = slots.len() - TRIES;
     let step = 1usize << pairs.entries.rank();
-    let Block { low, high } = pairs.entries.block(block);
+    let BlockHalves { low, high } = pairs.entries.block(block);
     let mut count = count;
     for i in 0..step {
         let pair = (low[i], high[i]);
@@ -91,8 +95,8 @@ fn number_block(
     Some(count)
 }
 
-/// Writes the numbers of the pairs, and the pairs of the numbers. The answer is how many numbers
-/// there are; nothing if a pair finds no slot.
+/// Writes the number of each pair to `out`, and the pair of each number to `keys`. Returns how many
+/// numbers there are, or None if a pair finds no slot.
 #[inline(always)]
 fn number_blocks(
     pairs: &CountedPairs<'_>,
@@ -119,10 +123,9 @@ fn number_blocks(
 /// The most pairs that are numbered by slots of 16 bits.
 const MOST_PAIRS: usize = 1 << 15;
 
-/// The numbers of the pairs. A pair's slot is the first free one from its home on; a free slot has
-/// the number of pairs, which is no pair's number. All classes are below `classes`. Nothing if
-/// there are more pairs than slots of 16 bits can name, or too many of them have homes close
-/// together.
+/// The number of each pair by first occurrence, and the pair of each number. A pair's slot is the
+/// first free one from its home on. None if there are more pairs than slots of 16 bits can name, or
+/// too many of them have homes close together. All classes are below `classes`.
 pub(crate) fn number_pairs_by_slots(
     alloc: Global,
     entries: &EntryPairs<'_>,

@@ -26,23 +26,23 @@ pair_past half len at j e l m = omega arith
 
 pub bounds-stamps-upper : goal.bounds-stamps-upper
 bounds-stamps-upper c =
-    upper_inside _ _ _ c.loop-j.j c.pair-upper.result c.loop-j.stamps c.requires.paired c.requires.classes
+    upper_inside _ _ _ c.loop-j.j c.pair-upper.result c.loop-j.stamps c.requires.rows.paired c.requires.rows.classes
     (pair_there _ _ c.loop-j.j c.args.chains.now.after.long c.loop-j-test.true) c.pair-upper.ensures c.loop-j.auto.stamps
 
 pub bounds-stamps-upper-else-stamps-upper : goal.bounds-stamps-upper-else-stamps-upper
 bounds-stamps-upper-else-stamps-upper c =
-    upper_inside _ _ _ c.loop-j.j c.pair-upper.result c.loop-j.stamps c.requires.paired c.requires.classes
+    upper_inside _ _ _ c.loop-j.j c.pair-upper.result c.loop-j.stamps c.requires.rows.paired c.requires.rows.classes
     (pair_there _ _ c.loop-j.j c.args.chains.now.after.long c.loop-j-test.true) c.pair-upper.ensures c.loop-j.auto.stamps
 
 pub bounds-marks-upper : goal.bounds-marks-upper
 bounds-marks-upper c =
-    upper_inside _ _ _ c.loop-j.j c.pair-upper.result c.loop-j.marks c.requires.paired c.requires.classes
-    (pair_there _ _ c.loop-j.j c.args.chains.now.after.long c.loop-j-test.true) c.pair-upper.ensures (c.loop-j.auto.marks ∙ c.requires.marks_len)
+    upper_inside _ _ _ c.loop-j.j c.pair-upper.result c.loop-j.marks c.requires.rows.paired c.requires.rows.classes
+    (pair_there _ _ c.loop-j.j c.args.chains.now.after.long c.loop-j-test.true) c.pair-upper.ensures (c.loop-j.auto.marks ∙ c.requires.rows.marks_len)
 
 pub bounds-marks-upper-else-stamps-upper : goal.bounds-marks-upper-else-stamps-upper
 bounds-marks-upper-else-stamps-upper c =
-    upper_inside _ _ _ c.loop-j.j c.pair-upper.result c.loop-j.marks c.requires.paired c.requires.classes
-    (pair_there _ _ c.loop-j.j c.args.chains.now.after.long c.loop-j-test.true) c.pair-upper.ensures (c.loop-j.auto.marks ∙ c.requires.marks_len)
+    upper_inside _ _ _ c.loop-j.j c.pair-upper.result c.loop-j.marks c.requires.rows.paired c.requires.rows.classes
+    (pair_there _ _ c.loop-j.j c.args.chains.now.after.long c.loop-j-test.true) c.pair-upper.ensures (c.loop-j.auto.marks ∙ c.requires.rows.marks_len)
 
 pub loop-j-preserved : goal.loop-j-preserved
 loop-j-preserved c =
@@ -56,7 +56,7 @@ loop-j-preserved c =
     let first = c.loop-j.first in
     let k = get_or c.args.chains.now.next.now j 0 in
     let small : j < half = omega arith in
-    let w = pair_within step c.requires.paired.whole.0 (length cs) j (pow_pos c.args.chains.now.entries.now.rank) c.requires.paired.whole.1 small in
+    let w = pair_within step c.requires.rows.paired.whole.0 (length cs) j (pow_pos c.args.chains.now.entries.now.rank) c.requires.rows.paired.whole.1 small in
     let v : c.pair-upper.result.1 ≡ upper_at cs step j = ap (λ (p : ℕ × ℕ). p.1) c.pair-upper.ensures in
     let inside : upper_at cs step j < length stamps = omega arith in
     let here = c.loop-j.invariant.walk.here small in
