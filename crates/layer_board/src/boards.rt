@@ -86,7 +86,7 @@ impl Board {
         Ok((board, seats))
     }
 
-    /// The seats of a new board: its first seat is cut up.
+    /// The seats of a new board for `count` workers, cut off the first seat one by one.
     fn seats(
         &self,
         alloc: Global,
@@ -109,8 +109,8 @@ impl Board {
         Ok(seats)
     }
 
-    /// The next block, or None if all are claimed. A seat that got None gets None ever after, and
-    /// takes no step.
+    /// The next block that no worker has claimed, or None if there is none. A seat that got None
+    /// gets None ever after, and takes no step.
     pub fn claim(&self, seat: &mut BoardSeat) -> Option<Claim>
         requires { seat.old.board ≡ self.now }
         ensures board { seat.new.board ≡ self.now }
@@ -137,7 +137,8 @@ impl Board {
         }
     }
 
-    /// Fills the cell of a mask whose block the seat claimed.
+    /// Fills the cell of a mask whose block the seat claimed. An error if the seat did not claim
+    /// it, or if the cell is filled.
     pub fn post(&self, seat: &mut BoardSeat, cell: CellResult) -> Result<(), PostRefused>
         requires board { seat.old.board ≡ self.now }
         requires instance { cell.instance ≡ self.now.brief.instance }
@@ -184,7 +185,7 @@ impl Board {
         Some(cell_of_word(found))
     }
 
-    /// The board that no seat shares any more.
+    /// The board with its words as they are when its last seat ends.
     pub fn into_closed(self, seat: BoardSeat) -> ClosedBoard
         requires { seat.board ≡ self }
         ensures brief { result.brief ≡ self.brief }
@@ -227,7 +228,7 @@ impl Board {
     }
 }
 
-/// That many zeros.
+/// `count` words that are 0.
 fn zeros(alloc: Global, count: usize) -> Result<Vec<u64>, AllocError>
     ensures { IfOk result (λ v. v.items ≡ replicate count 0) }
 {

@@ -54,7 +54,7 @@ impl Drop for ClosedBoard {
 }
 
 impl ClosedBoard {
-    /// All cells in the layer's order, or the least mask whose cell is empty.
+    /// All cells in the layer's order. Else the least mask whose cell is empty, or `OutOfMemory`.
     pub fn cells(&self, alloc: Global) -> Result<Vec<Cell>, CloseError>
         ensures all { IfOk result (λ v. map (λ c. Some (pair_of c)) v.items ≡ self.now.cells) }
         ensures cells { IfOk result

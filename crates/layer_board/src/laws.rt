@@ -20,7 +20,7 @@ pub fn tables_show_right_states()
         Right (IsCellAt b.instance) (shows b s) }
 {}
 
-/// The step of a claim is the machine's claim by the seat.
+/// The step of a claim on the table is the machine's step for a claim by the seat.
 pub fn claims_are_events()
     ensures { (b : BriefOf) (s : State (Unit {0}) SeatView) (id : ℕ) (v : SeatView) (slots : ℕ)
         (m : Sat) →
@@ -32,7 +32,8 @@ pub fn claims_are_events()
         step (shows b s) (Claim id) }
 {}
 
-/// The step of a post, by a seat that claimed the mask's block, is the machine's post by the seat.
+/// The step of a post on the table, by a seat that claimed the mask's block, is the machine's step
+/// for a post by the seat.
 pub fn posts_are_events()
     ensures { (b : BriefOf) (s : State (Unit {0}) SeatView) (id : ℕ) (v : SeatView)
         (slots p mask new : ℕ) (cell : ℕ × ℕ) (m : Sat) →
@@ -48,7 +49,7 @@ pub fn posts_are_events()
         step (shows b s) (Post id mask cell) }
 {}
 
-/// The step of a read is the machine's read by the seat.
+/// The step of a read on the table is the machine's step for a read by the seat.
 pub fn reads_are_events()
     ensures { (b : BriefOf) (s : State (Unit {0}) SeatView) (id : ℕ) (v : SeatView)
         (slots p mask : ℕ) (m : Sat) →
@@ -60,14 +61,14 @@ pub fn reads_are_events()
         step (shows b s) (Read id mask) }
 {}
 
-/// A refused close of a board of one worker names the least mask whose cell its seat doesn't know
-/// to be filled.
+/// If a board of one worker can't be closed, the error names the least mask whose cell the worker's
+/// seat doesn't know to be filled.
 pub fn one_worker_misses_the_least()
     ensures { OneMissesTheLeast }
 {}
 
-/// A mask that is the least empty one of the last cells is missing to the seat that the board was
-/// closed with.
+/// The least mask whose cell is empty in the words of a closed board is a mask that the last seat
+/// didn't know to be filled.
 pub fn seats_lack_what_is_empty()
     ensures { SeatsLackWhatIsEmpty }
 {}

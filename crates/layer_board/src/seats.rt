@@ -31,7 +31,7 @@ impl Model for BoardSeat {
 }
 
 impl BoardSeat {
-    /// The seat of a worker that made no step, at a board of some blocks.
+    /// The seat of a worker that made no step, at a board of `blocks` blocks.
     pub(crate) fn first(
         alloc: Global,
         seat: Seat<(), Knowledge>,
@@ -67,6 +67,7 @@ impl Model for Claim {
 }
 
 impl Claim {
+    /// The claim of the block at a place of the layer.
     pub(crate) fn new(place: usize, block: Block) -> Claim
         ensures { result ≡ record { place = place; block = block } }
     {
