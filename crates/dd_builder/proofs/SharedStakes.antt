@@ -12,7 +12,7 @@ use Rattle.unique_table.specs.Stakes.{half, joined, IsNoLess}
 use Rattle.unique_table.proofs.Stakes.{halves_join, no_less_same, no_less_trans}
 use Rattle.dd_builder.specs.declared.parts.Source.{Source}
 use Rattle.dd_builder.specs.declared.parts.Source.TheVariants.{Tables, Terms}
-use Rattle.dd_builder.specs.declared.workers.Job.{Job}
+use Rattle.dd_builder.specs.declared.workers.BuildJob.{BuildJob}
 use Rattle.dd_builder.specs.Building.{KnowsFull}
 use Rattle.dd_builder.specs.Parts.{KeepsFrom, Continues, halved, halvings_for, HasHalf, AreHalves, AreJobsOf, IsShareOf, AreSharesOf, IsOpened, IsEndOf, HasShare, HasPart, session_of}
 use Rattle.dd_builder.proofs.Ends.{End, ends_last, ends_front, joined_first, joined_more}
@@ -128,14 +128,14 @@ pushed [] x y (suc k) e = let low = slice_get_within (x ∷ []) (suc k) y e in a
 pushed (z ∷ zs) x y zero e = inl (omega arith, e)
 pushed (z ∷ zs) x y (suc k) e = grind (arith, ⊎_elim, slice_get, pushed zs x y k e)
 
-module _ (jobs more : List Job) (job : Job) (is : more ≡ jobs ++ job ∷ []) where
-  either : (k : ℕ) (j : Job) → slice_get more k ≡ Some j → ((k < length jobs) × (slice_get jobs k ≡ Some j)) ⊎ ((k ≡ length jobs) × (job ≡ j))
+module _ (jobs more : List BuildJob) (job : BuildJob) (is : more ≡ jobs ++ job ∷ []) where
+  either : (k : ℕ) (j : BuildJob) → slice_get more k ≡ Some j → ((k < length jobs) × (slice_get jobs k ≡ Some j)) ⊎ ((k ≡ length jobs) × (job ≡ j))
   either k j at = pushed jobs job j k (ap (λ z. slice_get z k) (sym is) ∙ at)
 
   long : length more ≡ length jobs + 1
   long = ap length is ∙ length_pushed jobs
     where
-      length_pushed : (front : List Job) → length (front ++ job ∷ []) ≡ length front + 1
+      length_pushed : (front : List BuildJob) → length (front ++ job ∷ []) ≡ length front + 1
       length_pushed [] = refl
       length_pushed (z ∷ zs) = let e = length_pushed zs in omega (arith, e)
 
@@ -148,9 +148,9 @@ module _ (jobs more : List Job) (job : Job) (is : more ≡ jobs ++ job ∷ []) w
   halves_more from workers k are long_is mine i j at = grind (arith, ⊎_elim, slice_get, either)
 
 -- ends that go on from jobs
-pub shares_of : (source : Source) (from : Knowledge) (workers : ℕ) (jobs : List Job) (ends : List End) → AreHalves from workers jobs →
+pub shares_of : (source : Source) (from : Knowledge) (workers : ℕ) (jobs : List BuildJob) (ends : List End) → AreHalves from workers jobs →
     ((k : ℕ) (end : End) → slice_get ends k ≡ Some end →
-    (job : Job) × (slice_get jobs k ≡ Some job) × Continues source job.session (session_of end))
+    (job : BuildJob) × (slice_get jobs k ≡ Some job) × Continues source job.session (session_of end))
     → AreSharesOf source from workers ends
 shares_of source from workers jobs ends halves on k end at =
     let h = on k end at in share_ends source from h.0.session (session_of end) (halvings_for workers k) (halves k h.0 h.1) h.2

@@ -25,7 +25,7 @@ use Rattle.unique_table.specs.Sessions.{StoreId, Knowledge, Follows, HasPiece, K
 use Rattle.unique_table.specs.Stakes.{IsNoLess}
 use Rattle.dd_builder.specs.declared.parts.Source.{Source}
 use Rattle.dd_builder.specs.declared.parts.Source.TheVariants.{Tables, Terms}
-use Rattle.dd_builder.specs.declared.workers.Job.{Job}
+use Rattle.dd_builder.specs.declared.workers.BuildJob.{BuildJob}
 use Rattle.dd_builder.specs.declared.errors.BuildError.{BuildError}
 use Rattle.dd_builder.specs.declared.errors.BuildError.TheVariants.{StoreFull, OutOfMemory}
 use Rattle.dd_builder.specs.Building.{KnowsFull, IsForTables}
@@ -110,14 +110,14 @@ pub record IsShareOf (source : Source) (from : Knowledge) (k : ℕ) (s : Knowled
   pub kept : KeepsFrom source from s
 
 -- a job for each worker, in their order, each with a session of the store
-pub record AreJobsOf (store : StoreId) (workers : ℕ) (jobs : List Job) : Type 0 where
+pub record AreJobsOf (store : StoreId) (workers : ℕ) (jobs : List BuildJob) : Type 0 where
   pub count : length jobs ≡ workers
-  pub sessions : (k : ℕ) (job : Job) → slice_get jobs k ≡ Some job → job.session.store ≡ store
-  pub numbers : (k : ℕ) (job : Job) → slice_get jobs k ≡ Some job → job.worker ≡ k + 1
+  pub sessions : (k : ℕ) (job : BuildJob) → slice_get jobs k ≡ Some job → job.session.store ≡ store
+  pub numbers : (k : ℕ) (job : BuildJob) → slice_get jobs k ≡ Some job → job.worker ≡ k + 1
 
 -- each job's session has a share of another's stake
-abbrev pub AreHalves : Knowledge → ℕ → List Job → Type 0
-AreHalves from workers jobs = (k : ℕ) (job : Job) → slice_get jobs k ≡ Some job →
+abbrev pub AreHalves : Knowledge → ℕ → List BuildJob → Type 0
+AreHalves from workers jobs = (k : ℕ) (job : BuildJob) → slice_get jobs k ≡ Some job →
     HasHalf from (halvings_for workers k) job.session
 
 -- the session knows the parts whose number leaves k when divided by the number of workers

@@ -14,7 +14,7 @@ use crate::errors::BuildError;
 use crate::laws::{orders_have_each_variable_once, stores_have_plans};
 use crate::parts::Source;
 use crate::roots::publish_roots;
-use crate::workers::{Job, build_parts, jobs, join_all};
+use crate::workers::{BuildJob, build_parts, jobs, join_all};
 use order_model::laws::{some_diagram_has_the_level_counts, truth_tables_keep_functions};
 use order_model::{Crew, Diagram, Gate, Order, Workers};
 use pla_reader::Cover;
@@ -24,7 +24,8 @@ use std::thread::Threads;
 use truth_table::Tables;
 use unique_table::{CloseFault, Pieces, Session, Store};
 
-/// Makes and publishes the outputs, and closes the store.
+/// The reduced diagram of the store's functions, whose parts are built: the outputs are made and
+/// published, and the store is closed.
 fn finish(
     alloc: Global,
     store: Store,
@@ -50,7 +51,8 @@ fn finish(
     }
 }
 
-/// Has workers build all parts, each in a thread of its own: how they end, in their order.
+/// The session of each worker after it built its parts, in a thread of its own, by rising number of
+/// the worker: an error if it met a full store.
 fn ends_of_workers<R: Threads + Sync, G: Gate>(
     crew: &Crew<'_, R, G>,
     alloc: Global,
@@ -71,13 +73,13 @@ fn ends_of_workers<R: Threads + Sync, G: Gate>(
     let ended = thread::map_vec(
         crew.rt,
         jobs,
-        &|job: Job| -> Result<Session, Session>
+        &|job: BuildJob| -> Result<Session, Session>
             requires { IsSync G.row × (job.session.store ≡ store.now)
                 × IsSourceFor store.now.plan source × (1 ≤ job.worker) × (job.worker ≤ count) }
             ensures { IsEndOf store.entry.now count (job.worker - 1) result
                 × Continues source.entry job.session (session_of result) }
         {
-            let Job { worker, session } = job;
+            let BuildJob { worker, session } = job;
             build_parts(store, session, worker, count, source, gate)
         },
     )?;

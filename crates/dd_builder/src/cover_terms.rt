@@ -12,10 +12,10 @@ ghost use Rattle.dd_builder.specs.Literals.{with_literal, with_product, product_
 use crate::laws::stores_have_plans;
 use crate::operations::apply;
 use order_model::{Term, contains};
-use unique_table::{NodeId, Operation, Session, Store, StoreFull};
+use unique_table::{NodeId, Operation, Session, Store, StoreFull, TERM_SHARES};
 
-/// The id of a term's literal of a level's variable, if it has one, and of the function of an id
-/// below.
+/// The id of the conjunction of the function of `id`, which lies below `level`, and a term's
+/// literal of the level's variable, if it has one.
 fn literal_and(
     store: &Store,
     session: &mut Session,
@@ -41,7 +41,7 @@ fn literal_and(
     }
 }
 
-/// The id of a term: 1 if all its literals hold.
+/// The id of a term's function, the conjunction of its literals.
 fn term_id(store: &Store, session: &mut Session, term: Term) -> Result<NodeId, StoreFull>
     requires session { session.old.store ≡ store.now }
     ensures { Makes session.old session.new result (matches (product_in store.now.plan term)) }
@@ -55,7 +55,8 @@ fn term_id(store: &Store, session: &mut Session, term: Term) -> Result<NodeId, S
     Ok(id)
 }
 
-/// The id of the function of an id, or of a term if it belongs to an output.
+/// The id of the disjunction of the function of `id` and a term, if the term belongs to the output;
+/// else `id`.
 fn or_term(
     store: &Store,
     session: &mut Session,
@@ -77,7 +78,8 @@ fn or_term(
     apply(store, session, Operation::Or, id, cube)
 }
 
-/// The id of an output's function by the terms whose number leaves `share` when divided by 64.
+/// The id of the disjunction of those terms of an output whose number leaves `share` when divided
+/// by `TERM_SHARES`.
 fn output_share(
     store: &Store,
     session: &mut Session,
@@ -97,13 +99,13 @@ fn output_share(
     let mut number = share;
     while number < terms.len() {
         id = or_term(store, session, terms[number], output, id)?;
-        number += 64;
+        number += TERM_SHARES;
     }
     Ok(id)
 }
 
-/// The id of a piece of terms: an output by those terms whose number leaves the piece's remainder
-/// when divided by 64.
+/// The id of a piece of terms: the disjunction of those terms of output `piece / TERM_SHARES` whose
+/// number leaves `piece % TERM_SHARES` when divided by `TERM_SHARES`.
 pub(crate) fn terms_share(
     store: &Store,
     session: &mut Session,
@@ -116,5 +118,6 @@ pub(crate) fn terms_share(
     ensures { Makes session.old session.new result (piece_function store.now.plan piece) }
 {
     stores_have_plans(store);
-    output_share(store, session, terms, (piece / 64) as u8, piece % 64)
+    let output = (piece / TERM_SHARES) as u8;
+    output_share(store, session, terms, output, piece % TERM_SHARES)
 }

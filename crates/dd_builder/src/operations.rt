@@ -10,7 +10,7 @@ ghost use Rattle.dd_builder.specs.Operating.{AreOperands, IsFrom, IsSettled, IsC
 use op_cache::{recall, remember};
 use unique_table::{NodeId, Operation, Session, Store, StoreFull};
 
-/// The other operand, if one of them is neutral.
+/// The other operand if one of them is `neutral`.
 fn beside_neutral(neutral: NodeId, first: NodeId, second: NodeId) -> Option<NodeId>
     ensures { result ≡ (if first == neutral then Some second
         else if second == neutral then Some first else None) }
@@ -24,7 +24,7 @@ fn beside_neutral(neutral: NodeId, first: NodeId, second: NodeId) -> Option<Node
     }
 }
 
-/// What a conjunction is if an operand is a terminal, or both are one.
+/// The id of a conjunction, if an operand is a terminal or both operands are equal.
 fn terminal_case_of_and(first: NodeId, second: NodeId) -> Option<NodeId>
     ensures { IsSettled Operation.And first second result }
 {
@@ -37,7 +37,7 @@ fn terminal_case_of_and(first: NodeId, second: NodeId) -> Option<NodeId>
     }
 }
 
-/// What a disjunction is if an operand is a terminal, or both are one.
+/// The id of a disjunction, if an operand is a terminal or both operands are equal.
 fn terminal_case_of_or(first: NodeId, second: NodeId) -> Option<NodeId>
     ensures { IsSettled Operation.Or first second result }
 {
@@ -50,7 +50,7 @@ fn terminal_case_of_or(first: NodeId, second: NodeId) -> Option<NodeId>
     }
 }
 
-/// What an exclusive disjunction is if an operand is 0, or both are one.
+/// The id of an exclusive disjunction, if an operand is the terminal 0 or both operands are equal.
 fn terminal_case_of_xor(first: NodeId, second: NodeId) -> Option<NodeId>
     ensures { IsSettled Operation.Xor first second result }
 {
@@ -61,7 +61,7 @@ fn terminal_case_of_xor(first: NodeId, second: NodeId) -> Option<NodeId>
     }
 }
 
-/// What an operation is if no node has to be taken apart.
+/// The id of an operation, if it follows from the operands without taking a node apart.
 fn terminal_case(operation: Operation, first: NodeId, second: NodeId) -> Option<NodeId>
     ensures { IsSettled operation first second result }
 {
@@ -72,7 +72,7 @@ fn terminal_case(operation: Operation, first: NodeId, second: NodeId) -> Option<
     }
 }
 
-/// The level of an id; a terminal lies below all levels.
+/// The level of an id's node. For a terminal it is the number of levels.
 fn level_of(store: &Store, session: &mut Session, id: NodeId) -> u8
     requires session { session.old.store ≡ store.now }
     requires known { Knows session.old id }
@@ -102,7 +102,8 @@ fn top_level(store: &Store, session: &mut Session, first: NodeId, second: NodeId
     one.min(two)
 }
 
-/// The children that an id has as a node of a level: below that level it is both of them itself.
+/// The low and the high child of an id, seen as a node of `level`. An id whose node lies below this
+/// level is itself both children.
 fn children(store: &Store, session: &mut Session, id: NodeId, level: u8) -> (NodeId, NodeId)
     requires session { session.old.store ≡ store.now }
     requires known { Knows session.old id }
@@ -117,8 +118,8 @@ fn children(store: &Store, session: &mut Session, id: NodeId, level: u8) -> (Nod
     }
 }
 
-/// Two ids as nodes of the higher one of their levels: that level, and the low and the high child
-/// of each.
+/// Two ids, seen as nodes of the higher one of their levels: this level, and the low and the high
+/// child of each.
 #[derive(Clone, Copy)]
 struct Cut {
     level: u8,
@@ -126,7 +127,7 @@ struct Cut {
     second: (NodeId, NodeId),
 }
 
-/// Takes two ids apart, not both of which are terminals.
+/// The children of two ids, not both of which are terminals, on the higher one of their levels.
 fn take_apart(store: &Store, session: &mut Session, first: NodeId, second: NodeId) -> Cut
     requires session { session.old.store ≡ store.now }
     requires operands { AreOperands session.old first second }
@@ -148,7 +149,7 @@ fn take_apart(store: &Store, session: &mut Session, first: NodeId, second: NodeI
     }
 }
 
-/// The id of an operation on ids that lie at a level or below it.
+/// The id of an operation on two ids, which lie at level `from` or below it.
 fn apply_from(
     store: &Store,
     session: &mut Session,

@@ -12,14 +12,14 @@ use order_model::Term;
 use truth_table::Tables;
 use unique_table::{NodeId, Session, Store, StoreFull};
 
-/// What parts are built of.
+/// What the functions are given by: truth tables or terms.
 #[derive(Clone, Copy)]
 pub(crate) enum Source<'a> {
     Tables(&'a Tables),
     Terms(&'a [Term]),
 }
 
-/// The id of a part.
+/// The id of the function of a part, made from the source.
 pub(crate) fn part(
     store: &Store,
     session: &mut Session,

@@ -1,4 +1,4 @@
-//! The outputs, made of their parts.
+//! The outputs, made of their published parts.
 
 ghost use Rattle.std.specs.Prelude.{◌≡◌, ◌+◌, ◌^◌, ◌<◌, ◌≤◌, length, take, IfOk, OnOk, OnErr};
 ghost use Rattle.definitions.specs.Problems.{outputs_of};
@@ -14,9 +14,9 @@ use crate::laws::stores_have_plans;
 use crate::operations::apply;
 use crate::parts::Source;
 use crate::tables::top_variables;
-use unique_table::{NodeId, Operation, Session, Store, StoreFull};
+use unique_table::{NodeId, Operation, Session, Store, StoreFull, TERM_SHARES};
 
-/// The id of a part, which the session knows.
+/// The id of a part, which the session has seen published.
 fn part_id(store: &Store, session: &mut Session, piece: usize) -> NodeId
     requires session { KnowsParts store.now session.old }
     requires piece { piece < store.now.plan.roots }
@@ -32,8 +32,8 @@ fn part_id(store: &Store, session: &mut Session, piece: usize) -> NodeId
     }
 }
 
-/// The id of an output with the variables above a level fixed to the bits of a path, made of the
-/// parts, in which those on top are fixed.
+/// The id of an output with the variables above `level` fixed to the bits of `path`, made of the
+/// parts, in which the variables on top are fixed.
 fn of_restrictions(
     store: &Store,
     session: &mut Session,
@@ -64,8 +64,8 @@ fn of_restrictions(
     store.make(session, level, low, high)
 }
 
-/// The id of the union of some of an output's parts, from a share on, made of the unions of two
-/// halves.
+/// The id of the disjunction of `count` parts of an output, from number `first` on: that of the
+/// first half of them and that of the second half.
 fn of_shares(
     store: &Store,
     session: &mut Session,
@@ -83,7 +83,8 @@ fn of_shares(
 {
     stores_have_plans(store);
     if count == 1 {
-        return Ok(part_id(store, session, usize::from(output) * 64 + first));
+        let part = usize::from(output) * TERM_SHARES + first;
+        return Ok(part_id(store, session, part));
     }
     let half = count / 2;
     let lower = of_shares(store, session, output, first, half)?;
@@ -91,7 +92,7 @@ fn of_shares(
     apply(store, session, Operation::Or, lower, upper)
 }
 
-/// The id of an output, made of the parts, each of which has the terms of one remainder.
+/// The id of an output, the disjunction of all its parts by terms.
 fn of_all_shares(store: &Store, session: &mut Session, output: u8) -> Result<NodeId, StoreFull>
     requires session { KnowsParts store.now session.old }
     requires kind { AreOfTerms store.now.plan.kind }
@@ -99,10 +100,10 @@ fn of_all_shares(store: &Store, session: &mut Session, output: u8) -> Result<Nod
     ensures { Makes session.old session.new result (output_at store.now.plan.problem.value output) }
 {
     stores_have_plans(store);
-    of_shares(store, session, output, 0, 64)
+    of_shares(store, session, output, 0, TERM_SHARES)
 }
 
-/// The id of an output, made of the parts.
+/// The id of an output, made of its parts.
 fn root(
     store: &Store,
     session: &mut Session,

@@ -14,7 +14,8 @@ use order_model::VarIx;
 use truth_table::Tables;
 use unique_table::{NodeId, Session, Store, StoreFull};
 
-/// The number of the point at which the variable of each level has the path's bit for the level.
+/// The point at which, for each level, the variable of level i has bit i of `path`. Bit x of the
+/// point is the value of variable x.
 fn point_of(order: &[VarIx], path: u32) -> u32
     requires order { IsOrder (length order.now) order.now }
     requires few { length order.now ≤ 16 }
@@ -36,7 +37,7 @@ struct Path {
     point: u32,
 }
 
-/// The id of an output with the variables above a level fixed to the bits of a path.
+/// The id of an output with the variables above the path's level fixed to the path's bits.
 fn output_below(
     store: &Store,
     session: &mut Session,
@@ -74,7 +75,7 @@ fn output_below(
     store.make(session, level, low, high)
 }
 
-/// How many variables on top of an order are fixed in pieces.
+/// How many variables on top of an order are fixed in pieces: two, or the only one.
 pub(crate) fn top_variables(order: &[VarIx]) -> u8
     requires { 1 ≤ length order.now }
     ensures value { result ≡ length (top_variables order.now) }
@@ -83,7 +84,8 @@ pub(crate) fn top_variables(order: &[VarIx]) -> u8
     if order.len() == 1 { 1 } else { 2 }
 }
 
-/// The id of a piece of tables: an output with the variables on top fixed.
+/// The id of a piece of tables: an output with the variables on top fixed. The piece's number,
+/// divided by the number of their assignments, gives the output, and the remainder the values.
 pub(crate) fn restriction(
     store: &Store,
     session: &mut Session,

@@ -10,15 +10,15 @@ use order_model::Gate;
 use std::alloc::{AllocError, Global};
 use unique_table::{Session, Store};
 
-/// A worker's number, from 1, and its session.
+/// The job of one worker that builds parts: the worker's number, from 1, and its session.
 #[derive(Drop)]
-pub(crate) struct Job {
+pub(crate) struct BuildJob {
     pub(crate) worker: u8,
     pub(crate) session: Session,
 }
 
-/// Builds and publishes the parts whose number leaves the worker's number less 1 when divided by
-/// the number of workers. An error has the session that met a full store.
+/// Builds and publishes the parts of one worker: those whose number leaves `worker - 1` when
+/// divided by `workers`. Returns the worker's session, as an error if it met a full store.
 pub(crate) fn build_parts<G: Gate>(
     store: &Store,
     mut session: Session,
@@ -46,13 +46,13 @@ pub(crate) fn build_parts<G: Gate>(
     Ok(session)
 }
 
-/// A job for each worker, in their order.
+/// The job of each worker, by rising number. The session is split among them.
 pub(crate) fn jobs(
     alloc: Global,
     store: &Store,
     session: Session,
     workers: u8,
-) -> Result<Vec<Job>, AllocError>
+) -> Result<Vec<BuildJob>, AllocError>
     requires session { session.store ≡ store.now }
     requires some { 1 ≤ workers }
     ensures jobs { IfOk result (λ v. AreJobsOf store.now workers v.items) }
@@ -63,12 +63,12 @@ pub(crate) fn jobs(
     for worker in 1..workers {
         let (mine, other) = store.split(rest);
         rest = mine;
-        jobs.push(Job {
+        jobs.push(BuildJob {
             worker,
             session: other,
         })?;
     }
-    jobs.push(Job {
+    jobs.push(BuildJob {
         worker: workers,
         session: rest,
     })?;
