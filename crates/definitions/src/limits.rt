@@ -6,7 +6,7 @@
 pub enum LowerBound {
     /// One for each variable outside on which a function depends.
     Variables,
-    /// These, or as many as the width of some member needs if that is more.
+    /// As many as for `Variables`, or as the width of some member requires if that is more.
     Widths,
 }
 

@@ -3,6 +3,7 @@
 --     split_ref nodes x r      the two refs below a variable: the children of a node that tests it, else the ref itself
 --     NumbersFirst      nodes whose children are numbered by first occurrence of their keys
 --     IsBuilt      levels whose functions are those of a diagram's roots
+--     AreLevelsOf order nodes roots built      the levels that are built of a diagram
 use Rattle.std.specs.Prelude.{◌≡◌, ℕ, ◌+◌, ◌<◌, ◌≤◌, Bool, false, if◌then◌else◌, List, length, map, slice_index, get_or, slice_get, nat_eq}
 use Rattle.std.specs.declared.option.Option.{Option}
 use Rattle.std.specs.declared.option.Option.TheVariants.{Some, None}
@@ -13,7 +14,8 @@ use Rattle.definitions.specs.RefNumbers.{ref_named}
 use Rattle.definitions.specs.Functions.{SameFunction}
 use Rattle.definitions.specs.Diagrams.{value}
 use Rattle.sifting.specs.Leveled.{Children, function_at, NumbersFirst}
-use Rattle.sifting.specs.LevelLists.{IsLeveled}
+use Rattle.sifting.specs.LevelLists.{IsLeveled, nodes_of}
+use Rattle.sifting.specs.declared.build.BuiltLevels.{BuiltLevels}
 
 -- a ref as a number: the terminals are 0 and 1, and the nodes follow
 unfoldable pub code_of : Ref → ℕ
@@ -75,3 +77,7 @@ pub record IsBuilt (order : List ℕ) (nodes : List Node) (roots : List Ref) (nu
   pub functions_are : (j : ℕ) → j < length roots →
       SameFunction (length order) (function_at levels terminals order (slice_index numbers j))
       (value nodes (ref_at roots j))
+
+-- the levels that are built of a diagram
+abbrev pub AreLevelsOf : List ℕ → List Node → List Ref → BuiltLevels → Type 0
+AreLevelsOf order nodes roots built = IsBuilt order nodes roots built.roots.items (nodes_of built.levels.items) built.terminals.items

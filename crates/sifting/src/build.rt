@@ -7,9 +7,8 @@ ghost use Rattle.std.specs.List.{All};
 ghost use Rattle.definitions.specs.Orders.{IsOrder};
 ghost use Rattle.definitions.specs.Diagrams.{AreNodes, IsBefore, IsOrdered, IsReduced};
 ghost use Rattle.definitions.specs.OrderedGraphs.{IsDiagramUnder};
-ghost use Rattle.sifting.specs.LevelLists.{nodes_of};
 ghost use Rattle.definitions.specs.RefNumbers.{ref_named};
-ghost use Rattle.sifting.specs.Cuts.{code_of, split_ref, is_true, RootsFirst, Splits, SplitsFirst, Numbers, IsBuilt};
+ghost use Rattle.sifting.specs.Cuts.{code_of, split_ref, is_true, RootsFirst, Splits, SplitsFirst, Numbers, AreLevelsOf};
 
 use crate::levels::{Children, Level};
 use indexmap::IndexSet;
@@ -164,13 +163,22 @@ fn terminal_values(alloc: Global, cut: &[Ref]) -> Result<Vec<bool>, AllocError>
     Ok(values)
 }
 
-/// The numbers of the roots, the levels and the terminals of a reduced diagram.
+/// A diagram by levels: the place of each root in the topmost cut, the levels, top first, and for
+/// each ref of the lowest cut whether it is the terminal 1.
+#[derive(Drop)]
+pub(crate) struct BuiltLevels {
+    pub(crate) roots: Vec<u32>,
+    pub(crate) levels: Vec<Level>,
+    pub(crate) terminals: Vec<bool>,
+}
+
+/// A reduced diagram by levels.
 pub(crate) fn levels_of(
     alloc: Global,
     order: &[VarIx],
     nodes: &[Node],
     roots: &[Ref],
-) -> Result<(Vec<u32>, Vec<Level>, Vec<bool>), AllocError>
+) -> Result<BuiltLevels, AllocError>
     requires order { IsOrder (length order.now) order.now }
     requires few { length order.now ≤ 16 }
     requires diagram { IsDiagramUnder order.now nodes.now roots.now }
@@ -178,8 +186,7 @@ pub(crate) fn levels_of(
     requires few_roots { length roots.now ≤ 16 }
     requires ordered { IsOrdered order.now (record { nodes = nodes.now; roots = roots.now }) }
     requires reduced { IsReduced (record { nodes = nodes.now; roots = roots.now }) }
-    ensures { IfOk result
-        (λ r. IsBuilt order.now nodes.now roots.now r.0.items (nodes_of r.1.items) r.2.items) }
+    ensures { IfOk result (AreLevelsOf order.now nodes.now roots.now) }
 {
     let (numbers, mut cut) = first_cut(alloc, nodes.len(), roots)?;
     let mut levels = Vec::with_capacity(alloc, order.len())?;
@@ -189,5 +196,9 @@ pub(crate) fn levels_of(
         cut = next;
     }
     let terminals = terminal_values(alloc, &cut)?;
-    Ok((numbers, levels, terminals))
+    Ok(BuiltLevels {
+        roots: numbers,
+        levels,
+        terminals,
+    })
 }

@@ -18,8 +18,8 @@ const MOST_PASSES: u32 = 16;
 /// With fewer inputs a search takes no longer than sifting again.
 const LEAST_INPUTS: usize = 13;
 
-/// Sizes that differ by no more than this part of one of them are near: those of random functions
-/// are under all orders.
+/// Two sizes are near if they differ by at most a sixty-fourth of one of them. The sizes of random
+/// functions are near under all orders.
 const NEAR_PART: u32 = 64;
 
 /// Whether two sizes differ by no more than a sixty-fourth of `other`.

@@ -82,12 +82,12 @@ impl Manager {
         ensures pairs { IfOk result (λ m. m.pairs ≡ pairs.pairs) }
     {
         let (order, nodes, roots) = diagram.into_parts();
-        let (roots, levels, terminals) = levels_of(alloc, order.variables(), &nodes, &roots)?;
+        let built = levels_of(alloc, order.variables(), &nodes, &roots)?;
         Ok(Manager {
             order,
-            roots,
-            levels,
-            terminals,
+            roots: built.roots,
+            levels: built.levels,
+            terminals: built.terminals,
             pairs,
             table: NodeTable::new(alloc),
         })

@@ -14,7 +14,7 @@ use std::alloc::{AllocError, Global};
 use std::marker::Model;
 
 /// What is kept of a set that is not empty: its least cost, and the variable on top that gives it.
-/// A clipped cell has one more than the bound and the smallest member.
+/// A clipped cell has one more than the bound as its cost, and the smallest member.
 #[derive(Clone, Copy, Debug, PartialEq, Eq)]
 pub struct Cell {
     pub cost: u32,

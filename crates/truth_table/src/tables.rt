@@ -73,14 +73,14 @@ impl Tables {
         })
     }
 
-    /// The problem of these truth tables.
+    /// The truth tables, as a problem.
     pub fn problem(&self) -> &Problem
         ensures { result.now ≡ self.now }
     {
         &self.problem
     }
 
-    /// The value of an output at the point with a number.
+    /// The value of an output at a point. Bit x of `point` is the value of variable x.
     pub fn value(&self, output: u8, point: u32) -> bool
         requires output { output < outputs_of self.now }
         requires point { point < 2 ^ self.now.inputs }
@@ -89,8 +89,8 @@ impl Tables {
         self.problem.value(output, point)
     }
 
-    /// An output with the variables of `care` fixed to the bits of `value`. The time is that of a
-    /// step for each variable and word.
+    /// The truth table of an output with each variable of `care` fixed to its bit in `value`. The
+    /// time is that of a step for each variable and word.
     pub fn cofactor(
         &self,
         alloc: Global,
@@ -115,7 +115,7 @@ impl Tables {
         Ok(Row::new(n, words))
     }
 
-    /// The values of all outputs at some points, as 0 and 1.
+    /// The values of all outputs at given points, output by output, as 0 and 1.
     fn values(&self, alloc: Global, outputs: u8, points: &[u32]) -> Result<Vec<u32>, AllocError>
         requires outputs { outputs ≡ outputs_of self.now }
         requires points { All (λ k. k < 2 ^ self.now.inputs) points.now }
@@ -140,9 +140,9 @@ impl Tables {
         self.values(alloc, self.problem.outputs(), &points)
     }
 
-    /// The level counts under an order, top first, by plain cofactors: the distinct subfunctions
-    /// below each level are numbered, from the bottom level up, and those that depend on the
-    /// level's variable are counted.
+    /// The level counts under an order, top first, directly from the truth tables: the distinct
+    /// subfunctions below each level are numbered, from the bottom level up, and those that depend
+    /// on the level's variable are counted.
     pub fn widths_of(&self, alloc: Global, order: &Order) -> Result<Vec<u32>, AllocError>
         requires { length order.now ≡ self.now.inputs }
         ensures { IfOk result

@@ -9,12 +9,13 @@ use order_model::Order;
 use std::alloc::{AllocError, Global};
 use std::snapshot::Snapshot;
 
-/// How many places for nodes there are, and how many for results of operations.
+/// How many places for nodes a store has.
 const NODE_PLACES: usize = 262_144;
 
+/// How many places for results of operations a store has.
 const CACHE_PLACES: usize = 65_536;
 
-/// As many words as the largest store has: with those of 1,024 parts and of 16 outputs.
+/// The number of words of the largest store, which has 1,024 parts of outputs and 16 outputs.
 const MOST_WORDS: usize = NODE_PLACES + CACHE_PLACES + 1_024 + 16;
 
 /// The words of an empty store. No page of them is made, as long as they are only read.

@@ -47,7 +47,7 @@ impl Model for Store {
     ghost invariant = { IsStore };
 }
 
-/// Each place is taken by another node.
+/// The store has no place left: each one is taken by another node.
 #[derive(Clone, Copy, Debug, PartialEq, Eq)]
 pub struct StoreFull;
 
@@ -144,8 +144,8 @@ impl Store {
         let _seat = &session.seat;
     }
 
-    /// The id of the node with this level and these children, or the child if they are equal. It
-    /// takes at most two steps per place.
+    /// The id of the node of `level` with the children `low` and `high`, or of the child itself if
+    /// both are equal. It takes at most two steps per place.
     pub fn make(
         &self,
         session: &mut Session,
@@ -174,8 +174,8 @@ impl Store {
         Ok(place as u32 + 2)
     }
 
-    /// The level and the children of a node, which the session knows then; None for a terminal. It
-    /// takes at most one step.
+    /// The level and the children of the node with an id, which the session knows from then on;
+    /// None for a terminal. It takes at most one step.
     pub fn node(&self, session: &mut Session, id: NodeId) -> Option<NodeParts>
         requires session { session.old.store ≡ self.now }
         requires known { Knows session.old id }
@@ -258,7 +258,7 @@ impl Store {
         words::publish(&self.table.shared, &mut session.seat, place, piece, id);
     }
 
-    /// The id of a piece, if it is seen published. It takes one step.
+    /// The id of a piece's function, if the session sees it published. It takes one step.
     pub fn collect(&self, session: &mut Session, piece: usize) -> Option<NodeId>
         requires session { session.old.store ≡ self.now }
         requires piece { piece < self.now.plan.pieces }
