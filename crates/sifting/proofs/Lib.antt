@@ -1,7 +1,7 @@
 pub mod Paths
 pub mod BranchingNodes
 pub mod Counts
-pub mod ExchangedLevels
+pub mod SwappedLevels
 pub mod Insertions
 pub mod NodeSlots
 pub mod LevelNodes

@@ -2,7 +2,7 @@
 --     nodes_get, nodes_set, length-nodes      the nodes of a list of levels
 --     few_at, level_at      a bound on the nodes of a level; a level over the next one
 --     held_order, held_levels, held_size, held_small      the order, the level counts, the size and its bound
---     exchanged_held      the same with two neighbouring levels exchanged
+--     level_swap_held      the same with two adjacent levels swapped
 use Rattle.std.proofs.Common.{◌≡◌, ℕ, zero, suc, ◌+◌, ◌*◌, ◌^◌, ◌<◌, ◌≤◌, Bool, false, List, [], ◌∷◌, map, length, set, get_or, swap, refl, sym, ap, ◌∙◌, subst, arith, add-one, pow-suc, ap₂}
 use Rattle.std.specs.List.{sum, sum_by}
 use Rattle.std.proofs.Math.Nat.{pow-le-pow_right, mul-le-mul_left}
@@ -20,12 +20,12 @@ use Rattle.definitions.proofs.Functions.Tables.{table_same, same_refl}
 use Rattle.definitions.proofs.Functions.Same.{tables_same, level_counts_same}
 use Rattle.definitions.proofs.Lists.Swaps.{crossed, crossed_is, order_crossed, length_crossed}
 use Rattle.sifting.specs.declared.levels.Level.{Level}
-use Rattle.sifting.specs.Leveled.{Children, function_at, places, branching, HasChildren, AreLevels, AreRoots, Exchanges}
+use Rattle.sifting.specs.Leveled.{Children, function_at, places, branching, HasChildren, AreLevels, AreRoots, SwapsLevels}
 use Rattle.sifting.specs.LevelLists.{nodes_of, problem_at, HoldsDiagram}
 use Rattle.sifting.specs.Managed.{Managed, size_of, count_of, IsManagedOrder}
 use Rattle.sifting.proofs.BranchingNodes.{branching_few}
 use Rattle.sifting.proofs.Counts.{roots_cover, all_counts}
-use Rattle.sifting.proofs.ExchangedLevels.{At, placed, places_placed, levels_placed, path_placed}
+use Rattle.sifting.proofs.SwappedLevels.{At, placed, places_placed, levels_placed, path_placed}
 use Rattle.sifting.proofs.OrderSwaps.{keeps_crossed}
 use mathlib.Core.List.{map-map}
 
@@ -138,10 +138,10 @@ module _ (levels : List (List Children)) (T : List Bool) (order roots : List ℕ
   pub held_small : sum (map branching levels) ≤ 1048576
   held_small = grind (arith, levels_small, small_bound)
 
-  -- the two levels with their variables exchanged
+  -- the two levels with their variables swapped
   module _ (i : ℕ) (inside : i + 1 < length order) (lawful : has_pair kept.pairs (get_or order i 0) (get_or order (i + 1) 0) ≡ false)
       (upper' lower' : List Children)
-      (ex : Exchanges (get_or levels i []) (get_or levels (suc i) []) upper' lower') where
+      (ex : SwapsLevels (get_or levels i []) (get_or levels (suc i) []) upper' lower') where
     at_i : At levels i (get_or levels i []) (get_or levels (suc i) [])
     at_i = record { upper_is = refl; lower_is = refl; inside = let e = held.leveled.long in omega arith }
 
@@ -221,7 +221,7 @@ counts_get [] i d h = absurd (omega arith)
 counts_get (l ∷ items) zero d h = refl
 counts_get (l ∷ items) (suc i) d h = counts_get items i d (omega arith)
 
--- ---- two levels of a list exchanged
+-- ---- two levels of a list swapped
 
 module _ (levels : List Level) (T : List Bool) (order roots : List ℕ) (kept : KeptPairs)
     (held : HoldsDiagram (nodes_of levels) T order roots kept) (i : ℕ) (inside : i + 1 < length order) where
@@ -251,10 +251,10 @@ module _ (levels : List Level) (T : List Bool) (order roots : List ℕ) (kept : 
 
   module _ (upper lower : List Children) (e : get_or (nodes_of levels) i [] ≡ upper) (f : get_or (nodes_of levels) (suc i) [] ≡ lower)
       (lawful : has_pair kept.pairs (get_or order i 0) (get_or order (i + 1) 0) ≡ false) (upper' lower' : Level)
-      (ex : Exchanges upper lower upper'.nodes.items lower'.nodes.items) (order' : List ℕ) (swapped : order' ≡ swap order i (i + 1)) where
-    ex' : Exchanges (get_or (nodes_of levels) i []) (get_or (nodes_of levels) (suc i) []) upper'.nodes.items lower'.nodes.items
-    ex' = subst (λ m. Exchanges m (get_or (nodes_of levels) (suc i) []) upper'.nodes.items lower'.nodes.items) (sym e)
-        (subst (λ m. Exchanges upper m upper'.nodes.items lower'.nodes.items) (sym f) ex)
+      (ex : SwapsLevels upper lower upper'.nodes.items lower'.nodes.items) (order' : List ℕ) (swapped : order' ≡ swap order i (i + 1)) where
+    ex' : SwapsLevels (get_or (nodes_of levels) i []) (get_or (nodes_of levels) (suc i) []) upper'.nodes.items lower'.nodes.items
+    ex' = subst (λ m. SwapsLevels m (get_or (nodes_of levels) (suc i) []) upper'.nodes.items lower'.nodes.items) (sym e)
+        (subst (λ m. SwapsLevels upper m upper'.nodes.items lower'.nodes.items) (sym f) ex)
 
     nodes_are : nodes_of (set (set levels i upper') (i + 1) lower') ≡ placed (nodes_of levels) i upper'.nodes.items lower'.nodes.items
     nodes_are =
@@ -264,13 +264,13 @@ module _ (levels : List Level) (T : List Bool) (order roots : List ℕ) (kept : 
     order_is : order' ≡ crossed order i
     order_is = swapped ∙ crossed_is order i inside
 
-    pub exchanged_held : HoldsDiagram (nodes_of (set (set levels i upper') (i + 1) lower')) T order' roots kept
-    exchanged_held =
+    pub level_swap_held : HoldsDiagram (nodes_of (set (set levels i upper') (i + 1) lower')) T order' roots kept
+    level_swap_held =
         subst (λ o. HoldsDiagram (nodes_of (set (set levels i upper') (i + 1) lower')) T o roots kept) (sym order_is)
         (subst (λ ns. HoldsDiagram ns T (crossed order i) roots kept) (sym nodes_are)
         (swapped_held (nodes_of levels) T order roots kept held i inside lawful upper'.nodes.items lower'.nodes.items ex'))
 
-    pub exchanged_problem : problem_at (nodes_of (set (set levels i upper') (i + 1) lower')) T order' roots ≡ problem_at (nodes_of levels) T order roots
-    exchanged_problem =
+    pub level_swap_problem : problem_at (nodes_of (set (set levels i upper') (i + 1) lower')) T order' roots ≡ problem_at (nodes_of levels) T order roots
+    level_swap_problem =
         ap₂ (λ ns o. problem_at ns T o roots) nodes_are order_is
         ∙ swapped_problem (nodes_of levels) T order roots kept held i inside lawful upper'.nodes.items lower'.nodes.items ex'

@@ -1,4 +1,4 @@
--- Pairs that an order keeps, two of whose neighbours are exchanged.
+-- Pairs that an order keeps, two of whose neighbours are swapped.
 --     keeps_crossed      the pairs are kept still, where the two are no pair
 use Rattle.std.proofs.Common.{◌≡◌, ℕ, zero, suc, ◌<◌, Bool, true, false, cond, ◌&&◌, List, [], ◌∷◌, length, get_or, refl, sym, ◌∙◌, arith, nat_eq, eqb-true, eq-eqb}
 use Rattle.std.specs.List.{list_all}

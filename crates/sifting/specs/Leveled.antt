@@ -4,7 +4,7 @@
 --     branching L      how many nodes have two different children
 --     HasChildren below L, IsLevel below L, AreLevels      each node once, with its children on the next level, and each place there is a child
 --     NumbersFirst      nodes over the numbers of keys
---     Exchanges      two neighbouring levels, and the same with their variables exchanged
+--     SwapsLevels      two adjacent levels, and the same with their variables swapped
 use Rattle.std.specs.Prelude.{◌≡◌, ℕ, ◌*◌, ◌<◌, ◌≤◌, Bool, true, false, not, if◌then◌else◌, ◌⊎◌, List, [], ◌∷◌, length, slice_index, get_or, nat_eq}
 use Rattle.std.specs.List.{count_by}
 use Rattle.definitions.specs.Functions.{Point, Function, bit}
@@ -83,14 +83,14 @@ pub record NumbersFirst {K : Type 0} (d : K) (off_key on_key : ℕ → K) (done 
 abbrev pub grandchildren : List Children → List Children → Bool → ℕ → Children
 grandchildren upper lower b k = (child b (at lower (at upper k).0), child b (at lower (at upper k).1))
 
--- the first nodes of two levels with their variables exchanged: the nodes of the upper one stay, and below them each pair of grandchildren is there once
-abbrev pub ExchangesFirst : ℕ → List Children → List Children → List Children → List Children → Type 0
-ExchangesFirst done upper lower upper' lower' = NumbersFirst (0, 0) (grandchildren upper lower false)
+-- the first nodes of two levels with their variables swapped: the nodes of the upper one stay, and below them each pair of grandchildren is there once
+abbrev pub SwapsFirst : ℕ → List Children → List Children → List Children → List Children → Type 0
+SwapsFirst done upper lower upper' lower' = NumbersFirst (0, 0) (grandchildren upper lower false)
     (grandchildren upper lower true) done upper' lower'
 
--- two levels with their variables exchanged
-abbrev pub Exchanges : List Children → List Children → List Children → List Children → Type 0
-Exchanges upper lower upper' lower' = ExchangesFirst (length upper) upper lower upper' lower'
+-- two levels with their variables swapped
+abbrev pub SwapsLevels : List Children → List Children → List Children → List Children → Type 0
+SwapsLevels upper lower upper' lower' = SwapsFirst (length upper) upper lower upper' lower'
 
 -- the numbers of the roots: each is a place, and each place is a root's
 pub record AreRoots (below : ℕ) (roots : List ℕ) : Type 0 where

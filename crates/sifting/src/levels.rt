@@ -6,7 +6,7 @@
 //! levels.
 
 ghost use Rattle.std.specs.Prelude.{◌≡◌, ◌*◌, ◌<◌, ◌≤◌, ◌^◌, length, IfOk};
-ghost use Rattle.sifting.specs.Leveled.{branching, HasChildren, Exchanges};
+ghost use Rattle.sifting.specs.Leveled.{branching, HasChildren, SwapsLevels};
 
 use crate::node_table::NodeTable;
 use std::alloc::{AllocError, Global};
@@ -67,7 +67,7 @@ pub(crate) fn swap_levels(
 ) -> Result<(Level, Level), AllocError>
     requires few { 4 * length upper.now ≤ 2 ^ 32 }
     requires inside { HasChildren (length lower.now) upper.now }
-    ensures { IfOk result (λ r. Exchanges upper.now lower.now r.0.nodes.items r.1.nodes.items) }
+    ensures { IfOk result (λ r. SwapsLevels upper.now lower.now r.0.nodes.items r.1.nodes.items) }
 {
     let mut kept = table.spare_list(alloc, upper.len())?;
     table.begin(2 * upper.len())?;

@@ -1,5 +1,5 @@
 use Rattle.std.proofs.Common.{◌≡◌, ◌+◌, arith, subst, refl, sym, length, false, true}
-use Rattle.sifting.specs.Leveled.{ExchangesFirst, grandchildren}
+use Rattle.sifting.specs.Leveled.{SwapsFirst, grandchildren}
 use Rattle.sifting.proofs.BranchingNodes.{branching_none, branching_counted}
 use Rattle.sifting.proofs.LevelNodes.{numbers_none, numbers_more}
 use Rattle.sifting.proofs.levels.swap_levels.Goals as goal
@@ -12,7 +12,7 @@ overflow_add-count c =
     let counted = branching_counted c.loop-off.kept.items c.push.new.self.items (c.in_ok-without.without, c.in_ok-with.with) c.loop-off.count
     c.from-count.result c.loop-off.invariant.counted c.in_ok-push.ensures.items c.from-count.ensures in
     let few = counted.1 in
-    let many = c.loop-off.invariant.exchanges.many in
+    let many = c.loop-off.invariant.swaps.many in
     let t = c.loop-off-test.true in
     let r = c.requires.few in
     omega arith
@@ -25,10 +25,10 @@ loop-off-preserved c =
     let on = grandchildren c.args.upper.now c.args.lower.now true in
     let more = numbers_more (0, 0) off on c.loop-off.off-index c.loop-off.kept.items c.loop-off.table.nodes.items c.number_of.new.self.nodes.items
     c.number_of-in-loop-off.new.self.nodes.items (off c.loop-off.off-index) (on c.loop-off.off-index) c.in_ok-without.without c.in_ok-with.with
-    c.loop-off.invariant.exchanges c.in_ok-without.ensures.inserted c.in_ok-with.ensures.inserted refl refl in
+    c.loop-off.invariant.swaps c.in_ok-without.ensures.inserted c.in_ok-with.ensures.inserted refl refl in
     record {
-      exchanges = subst
-          (λ ks. ExchangesFirst (c.loop-off.off-index + 1) c.args.upper.now c.args.lower.now ks c.number_of-in-loop-off.new.self.nodes.items)
+      swaps = subst
+          (λ ks. SwapsFirst (c.loop-off.off-index + 1) c.args.upper.now c.args.lower.now ks c.number_of-in-loop-off.new.self.nodes.items)
           (sym c.in_ok-push.ensures.items) more;
       table = c.in_ok-with.ensures.table;
       room = let a = c.in_ok-with.ensures.base in let b = c.in_ok-without.ensures.base in let r = c.loop-off.invariant.room in omega arith;
@@ -41,4 +41,4 @@ returns c =
     let past = c.loop-off-test.false in
     let e : c.loop-off.off-index ≡ length c.args.upper.now = omega arith in
     rw c.finish-made.ensures
-    (subst (λ m. ExchangesFirst m c.args.upper.now c.args.lower.now c.loop-off.kept.items c.loop-off.table.nodes.items) e c.loop-off.invariant.exchanges)
+    (subst (λ m. SwapsFirst m c.args.upper.now c.args.lower.now c.loop-off.kept.items c.loop-off.table.nodes.items) e c.loop-off.invariant.swaps)

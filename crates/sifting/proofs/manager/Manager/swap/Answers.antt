@@ -1,9 +1,9 @@
 use Rattle.std.proofs.Common.{◌≡◌, ◌+◌, ◌<◌, length, get_or, sym, ap, subst, ◌∙◌, arith, false}
 use Rattle.definitions.specs.Pairs.{has_pair}
 use Rattle.sifting.specs.declared.levels.Level.{Level}
-use Rattle.sifting.specs.Leveled.{Exchanges}
+use Rattle.sifting.specs.Leveled.{SwapsLevels}
 use Rattle.sifting.specs.Managed.{Managed}
-use Rattle.sifting.proofs.ManagerFields.{length-nodes, upper_is, lower_is, upper_few, upper_inside, exchanged_held, exchanged_problem}
+use Rattle.sifting.proofs.ManagerFields.{length-nodes, upper_is, lower_is, upper_few, upper_inside, level_swap_held, level_swap_problem}
 use Rattle.sifting.proofs.manager.Manager.swap.Goals as goal
 
 pub index-requires : goal.index-requires
@@ -56,12 +56,12 @@ invariant_of-manager c =
     ∙ ap (λ (l : Level). l.nodes.items) (sym c.index.ensures) ∙ sym c.deref.ensures.value in
     let lower = lower_is s.levels.items s.terminals.items s.order s.roots.items s.pairs c.manager.invariant c.args.level inside d2
     ∙ ap (λ (l : Level). l.nodes.items) (sym c.index-2.ensures) ∙ sym c.deref-2.ensures.value in
-    let exchanges = subst (λ z. z)
-    (λ i. Exchanges c.deref.result.now c.deref-2.result.now (sym c.replace-upper.ensures.after i).nodes.items
+    let swaps = subst (λ z. z)
+    (λ i. SwapsLevels c.deref.result.now c.deref-2.result.now (sym c.replace-upper.ensures.after i).nodes.items
     (sym c.replace-lower.ensures.after i).nodes.items) c.in_ok-upper.ensures in
-    exchanged_held s.levels.items s.terminals.items s.order s.roots.items s.pairs c.manager.invariant c.args.level inside c.deref.result.now
+    level_swap_held s.levels.items s.terminals.items s.order s.roots.items s.pairs c.manager.invariant c.args.level inside c.deref.result.now
     c.deref-2.result.now upper lower lawful
-    c.replace-upper.new.dest c.replace-lower.new.dest exchanges c.swap.new.self c.swap.ensures
+    c.replace-upper.new.dest c.replace-lower.new.dest swaps c.swap.new.self c.swap.ensures
 
 pub returns-clause-functions : goal.returns-clause-functions
-returns-clause-functions c = grind (arith, upper_is, lower_is, exchanged_problem)
+returns-clause-functions c = grind (arith, upper_is, lower_is, level_swap_problem)

@@ -1,13 +1,13 @@
--- Two neighbouring levels with their variables exchanged.
+-- Two adjacent levels with their variables swapped.
 --     upper_level, lower_level      both are levels again
 --     path_placed      a path comes to the same place below them
 use Rattle.std.proofs.Common.{◌≡◌, ℕ, zero, suc, ◌*◌, ◌<◌, Bool, ◌⊎◌, inl, inr, List, [], ◌∷◌, length, set, get_or, sym, ap, ◌∙◌, subst, arith}
 use Rattle.definitions.specs.Functions.{Point, bit}
 use Rattle.definitions.proofs.Lists.Swaps.{crossed}
-use Rattle.sifting.specs.Leveled.{Children, child, at, place_below, places, HasChildren, IsLevel, AreLevels, Exchanges}
+use Rattle.sifting.specs.Leveled.{Children, child, at, place_below, places, HasChildren, IsLevel, AreLevels, SwapsLevels}
 use Rattle.sifting.proofs.Paths.{child_has, same_children}
 
-module _ (upper lower upper' lower' : List Children) (below : ℕ) (ex : Exchanges upper lower upper' lower')
+module _ (upper lower upper' lower' : List Children) (below : ℕ) (ex : SwapsLevels upper lower upper' lower')
     (u : IsLevel (length lower) upper) (l : IsLevel below lower) where
   -- which of the upper level's nodes have equal children
   apart : (j k : ℕ) → j < length upper → k < length upper → at upper' j ≡ at upper' k → j ≡ k
@@ -64,11 +64,11 @@ module _ (upper lower upper' lower' : List Children) (below : ℕ) (ex : Exchang
           ]
 
 -- the grandchild that two values of the variables take
-grandchild : (upper lower upper' lower' : List Children) → Exchanges upper lower upper' lower' → (k : ℕ) → k < length upper → (b c : Bool) →
+grandchild : (upper lower upper' lower' : List Children) → SwapsLevels upper lower upper' lower' → (k : ℕ) → k < length upper → (b c : Bool) →
     child b (at lower' (child c (at upper' k))) ≡ child c (at lower (child b (at upper k)))
 grandchild upper lower upper' lower' h k l b c = grind arith
 
--- the levels with those at i and i + 1 exchanged
+-- the levels with those at i and i + 1 swapped
 pub record At (levels : List (List Children)) (i : ℕ) (upper lower : List Children) : Type 0 where
   pub upper_is : get_or levels i [] ≡ upper
   pub lower_is : get_or levels (suc i) [] ≡ lower
@@ -77,7 +77,7 @@ pub record At (levels : List (List Children)) (i : ℕ) (upper lower : List Chil
 abbrev pub placed : List (List Children) → ℕ → List Children → List Children → List (List Children)
 placed levels i upper' lower' = set (set levels i upper') (suc i) lower'
 
-module _ (T : List Bool) (upper lower upper' lower' : List Children) (ex : Exchanges upper lower upper' lower') where
+module _ (T : List Bool) (upper lower upper' lower' : List Children) (ex : SwapsLevels upper lower upper' lower') where
   pub places_placed : (levels : List (List Children)) (i : ℕ) → At levels i upper lower → places (placed levels i upper' lower') T ≡ places levels T
   places_placed levels i h = grind arith
 
