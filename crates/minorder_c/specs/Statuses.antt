@@ -4,8 +4,8 @@
 --     RefusesOrder shape order r      the same, or what is given is no order
 --     RefusesPairs shape keepable r      the same, or no order keeps the pairs
 --     IsPlainStatus s, IsOrderStatus s      the numbers of calls without an order and with one
---     TellsShape shape s      the number says whether the arguments have their shape
---     TellsOrder order s, TellsPairs keepable s      it says whether what is given is an order; whether some order keeps the pairs
+--     ShowsShape shape s      the number shows whether the arguments have their shape
+--     ShowsOrder order s, ShowsPairs keepable s      it shows whether what is given is an order; whether some order keeps the pairs
 use Rattle.std.specs.Prelude.{ℕ, ◌≡◌, ◌⊎◌, ◌↔◌}
 use Rattle.minorder_c.specs.declared.status.Refusal.{Refusal}
 use Rattle.minorder_c.specs.declared.status.Refusal.TheVariants.{Shape, Certificate, OutOfMemory, Order, Pairs}
@@ -43,16 +43,16 @@ RefusesPairs shape keepable OutOfMemory = shape
 RefusesPairs shape keepable _ = ⊥
 
 -- 2 is the number of the calls whose arguments haven't their shape
-abbrev pub TellsShape : Type 0 → ℕ → Type 0
-TellsShape shape s = (s ≡ 2) ↔ (shape → ⊥)
+abbrev pub ShowsShape : Type 0 → ℕ → Type 0
+ShowsShape shape s = (s ≡ 2) ↔ (shape → ⊥)
 
 -- 5 is the number of calls that are given no order, 0 and 7 are those of calls that are given one
-abbrev pub TellsOrder : Type 0 → ℕ → Type 0
-TellsOrder order s = (s ≡ 5 → order → ⊥) × ((s ≡ 0) ⊎ (s ≡ 7) → order)
+abbrev pub ShowsOrder : Type 0 → ℕ → Type 0
+ShowsOrder order s = (s ≡ 5 → order → ⊥) × ((s ≡ 0) ⊎ (s ≡ 7) → order)
 
 -- 8 is the number of calls with pairs that no order keeps, 0 and 7 are those of calls with pairs that some order keeps
-abbrev pub TellsPairs : Type 0 → ℕ → Type 0
-TellsPairs keepable s = (s ≡ 8 → keepable → ⊥) × ((s ≡ 0) ⊎ (s ≡ 7) → keepable)
+abbrev pub ShowsPairs : Type 0 → ℕ → Type 0
+ShowsPairs keepable s = (s ≡ 8 → keepable → ⊥) × ((s ≡ 0) ⊎ (s ≡ 7) → keepable)
 
 -- the numbers of the calls that take an order
 abbrev pub IsOrderStatus : ℕ → Type 0

@@ -18,7 +18,7 @@ pub(crate) struct AbovePair {
     pub below: u8,
 }
 
-/// The numbers of pairs.
+/// The pairs (above, below) of what a call is given.
 fn numbers_of(alloc: Global, given: &[AbovePair]) -> Result<Vec<(VarIx, VarIx)>, AllocError>
     ensures { IfOk result (λ v. v.items ≡ pairs_given given.now) }
 {
@@ -30,7 +30,7 @@ fn numbers_of(alloc: Global, given: &[AbovePair]) -> Result<Vec<(VarIx, VarIx)>,
     Ok(pairs)
 }
 
-/// Pairs of n variables, if some order keeps them.
+/// The pairs of n variables that a call is given, if some order keeps them.
 pub(crate) fn kept_pairs(alloc: Global, given: &[AbovePair], n: u8) -> Result<Pairs, Refusal>
     requires some { 1 ≤ n }
     requires few { n ≤ 16 }

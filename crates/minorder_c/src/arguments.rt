@@ -1,8 +1,8 @@
-//! What calls are given.
+//! The arguments of calls.
 
 ghost use Rattle.std.specs.Prelude.{◌≡◌, ◌≤◌, ◌↔◌, length, IsTrue, IfOk, IfErr, OnOk};
 ghost use Rattle.definitions.specs.Orders.{IsOrder};
-ghost use Rattle.minorder_c.specs.Answers.{AreTables, HasCallShape, IsInRange, tables_in};
+ghost use Rattle.minorder_c.specs.Answers.{AreTables, HasCallShape, IsInRange, given, tables_in};
 ghost use Rattle.minorder_c.specs.Statuses.{RefusesShape, RefusesOrder};
 
 use crate::status::Refusal;
@@ -11,8 +11,8 @@ use order_model::{BadOrder, Order};
 use std::alloc::Global;
 use truth_table::Tables;
 
-/// What a caller gives as the truth tables of so many outputs of so many inputs. The words need
-/// not be tables.
+/// The truth tables that a call is given: words, and the numbers of inputs and outputs. The words
+/// need not be truth tables.
 #[derive(Clone, Copy, Debug)]
 pub(crate) struct GivenTables<'a> {
     pub words: &'a [u64],
@@ -20,14 +20,28 @@ pub(crate) struct GivenTables<'a> {
     pub outputs: u32,
 }
 
-/// Whether the numbers are those of 1 to 16 functions of 1 to 16 variables.
+impl<'a> GivenTables<'a> {
+    /// What a call is given as truth tables.
+    pub(crate) fn of(words: &'a [u64], inputs: u32, outputs: u32) -> GivenTables<'a>
+        ensures { result ≡ given words.entry inputs outputs }
+    {
+        GivenTables {
+            words,
+            inputs,
+            outputs,
+        }
+    }
+}
+
+/// Whether the numbers of inputs and outputs are from 1 to 16.
 pub(crate) fn is_in_range(given: &GivenTables) -> bool
     ensures { IsTrue result ↔ IsInRange given.now }
 {
     (1..=16).contains(&given.inputs) && (1..=16).contains(&given.outputs)
 }
 
-/// Whether the words are truth tables of so many outputs of so many inputs.
+/// Whether the numbers of inputs and outputs are from 1 to 16, and the words as many as their truth
+/// tables have.
 pub(crate) fn are_tables(given: &GivenTables) -> bool
     ensures { IsTrue result ↔ AreTables given.now }
 {
@@ -35,14 +49,15 @@ pub(crate) fn are_tables(given: &GivenTables) -> bool
         && given.words.len() == given.outputs as usize * words_per_table(given.inputs as u8)
 }
 
-/// Whether the words are truth tables, for so many places of variables and level counts.
+/// Whether a call is given truth tables, and room for as many variables (`places`) and level counts
+/// (`counts`) as there are inputs.
 pub(crate) fn has_call_shape(given: &GivenTables, places: usize, counts: usize) -> bool
     ensures { IsTrue result ↔ HasCallShape given.now places counts }
 {
     places == given.inputs as usize && counts == given.inputs as usize && are_tables(given)
 }
 
-/// The truth tables that the words hold.
+/// The truth tables that a call is given.
 pub(crate) fn tables_of(alloc: Global, given: &GivenTables) -> Result<Tables, Refusal>
     ensures there { OnOk result (AreTables given.now) }
     ensures tables { IfOk result (λ t. t ≡ tables_in given.now) }
@@ -57,7 +72,8 @@ pub(crate) fn tables_of(alloc: Global, given: &GivenTables) -> Result<Tables, Re
     }
 }
 
-/// The truth tables that the words hold, for so many places of variables and level counts.
+/// The truth tables that a call is given, if it has room for as many variables (`places`) and level
+/// counts (`counts`) as there are inputs.
 pub(crate) fn tables_for(
     alloc: Global,
     given: &GivenTables,
@@ -74,7 +90,7 @@ pub(crate) fn tables_for(
     tables_of(alloc, given)
 }
 
-/// The order that variables are listed in.
+/// The order that a call is given as a list of variables, top first.
 fn order_of(alloc: Global, variables: &[u8]) -> Result<Order, Refusal>
     requires some { 1 ≤ length variables.now }
     requires few { length variables.now ≤ 16 }
@@ -98,7 +114,8 @@ pub(crate) struct Arguments {
     pub(crate) order: Order,
 }
 
-/// The truth tables that the words hold and an order of their variables, for so many level counts.
+/// The truth tables and the order that a call is given, if it has room for as many level counts
+/// (`counts`) as there are inputs.
 pub(crate) fn arguments_of(
     alloc: Global,
     given: &GivenTables,

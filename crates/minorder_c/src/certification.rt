@@ -6,7 +6,7 @@ ghost use Rattle.solutions.specs.Solutions.{IsSolution};
 ghost use Rattle.minorder_c.specs.Answers.{AreTables, given, pairs_given};
 ghost use Rattle.minorder_c.specs.Certified.{IsTextFor, IsCertificateText, IsCertifyStatus};
 ghost use Rattle.minorder_c.specs.Rooms.{Holds, IsShort};
-ghost use Rattle.minorder_c.specs.Statuses.{RefusesPairs, TellsPairs, TellsShape};
+ghost use Rattle.minorder_c.specs.Statuses.{RefusesPairs, ShowsPairs, ShowsShape};
 
 use crate::above::{AbovePair, kept_pairs};
 use crate::arguments::{GivenTables, tables_of};
@@ -21,7 +21,7 @@ use std::alloc::{AllocError, Global};
 use truth_table::Tables;
 
 /// The first order of the fewest nodes among those that keep the pairs, and the cells of its
-/// certificate; where the truth tables are not small, searched below the size of a sifted order.
+/// certificate. Unless the truth tables are small, the size of a sifted order bounds the search.
 fn solution(alloc: Global, tables: &Tables, pairs: Pairs) -> Result<Solution, AllocError>
     requires { pairs.inputs ≡ tables.now.inputs }
     ensures { IfOk result (IsSolution tables.now pairs.pairs) }
@@ -80,8 +80,8 @@ pub extern "C" fn minorder_certify_with_pairs(
     size: &mut usize,
 ) -> u32
     ensures status { IsCertifyStatus result }
-    ensures shape { TellsShape (AreTables (given tables.entry inputs outputs)) result }
-    ensures kept { TellsPairs (CanBeKept inputs (pairs_given above.now)) result }
+    ensures shape { ShowsShape (AreTables (given tables.entry inputs outputs)) result }
+    ensures kept { ShowsPairs (CanBeKept inputs (pairs_given above.now)) result }
     ensures written { result ≡ 0 →
         Holds (IsTextFor (given tables.entry inputs outputs) above.now) text.old text.new size.new }
     ensures short { result ≡ 7 →
@@ -89,11 +89,7 @@ pub extern "C" fn minorder_certify_with_pairs(
     ensures stays { result ≢ 0 → text.new ≡ text.old }
     ensures refused { result ≢ 0 → result ≢ 7 → size.new ≡ size.old }
 {
-    let given = GivenTables {
-        words: tables,
-        inputs,
-        outputs,
-    };
+    let given = GivenTables::of(tables, inputs, outputs);
     match certificate(alloc, &given, above) {
         Ok(made) => {
             let bytes = made.as_bytes();

@@ -7,7 +7,7 @@ ghost use Rattle.definitions.specs.Orders.{IsOrder};
 ghost use Rattle.truth_table.specs.Levels.{ref_named};
 ghost use Rattle.minorder_c.specs.Answers.{given};
 ghost use Rattle.minorder_c.specs.Diagrams.{HasDiagramShape, HoldsDiagram, IsDiagramFor, IsDiagramStatus, IsShortDiagram, node_for};
-ghost use Rattle.minorder_c.specs.Statuses.{RefusesOrder, TellsOrder, TellsShape};
+ghost use Rattle.minorder_c.specs.Statuses.{RefusesOrder, ShowsOrder, ShowsShape};
 
 use crate::arguments::{GivenTables, arguments_of};
 use crate::rooms::{SHORT_ROOM, put_front};
@@ -33,7 +33,7 @@ struct DiagramForC {
     roots: Vec<u32>,
 }
 
-/// The number of a ref to one of the first 2^20 nodes.
+/// The number in C of a ref: 0 and 1 for the terminals, k + 2 for the node at place k.
 fn number_of(r: Ref) -> u32
     requires { IsBefore (2 ^ 20) r }
     ensures { ref_named result ≡ r }
@@ -45,7 +45,7 @@ fn number_of(r: Ref) -> u32
     }
 }
 
-/// The nodes of a diagram in C.
+/// The nodes of a diagram, as C has them.
 fn nodes_of(alloc: Global, diagram: &Diagram) -> Result<Vec<DiagramNode>, AllocError>
     requires { length diagram.now.graph.nodes ≤ 2 ^ 20 }
     ensures { IfOk result (λ v. map node_for v.items ≡ diagram.now.graph.nodes) }
@@ -67,7 +67,7 @@ fn nodes_of(alloc: Global, diagram: &Diagram) -> Result<Vec<DiagramNode>, AllocE
     Ok(made)
 }
 
-/// The roots of a diagram in C.
+/// The numbers in C of a diagram's roots.
 fn roots_of(alloc: Global, diagram: &Diagram) -> Result<Vec<u32>, AllocError>
     requires { length diagram.now.graph.nodes ≤ 2 ^ 20 }
     ensures { IfOk result (λ v. map ref_named v.items ≡ diagram.now.graph.roots) }
@@ -80,7 +80,8 @@ fn roots_of(alloc: Global, diagram: &Diagram) -> Result<Vec<u32>, AllocError>
     Ok(made)
 }
 
-/// The reduced diagram under an order. It is refused if `roots` isn't the number of outputs.
+/// The reduced diagram, as C has it, of what a call is given, if it has room for as many roots
+/// (`roots`) as there are outputs.
 fn diagram_of(
     alloc: Global,
     given: &GivenTables,
@@ -122,9 +123,9 @@ pub extern "C" fn minorder_diagram_with_lengths(
     count: &mut usize,
 ) -> u32
     ensures status { IsDiagramStatus result }
-    ensures shape { TellsShape (HasDiagramShape (given tables.entry inputs outputs)
+    ensures shape { ShowsShape (HasDiagramShape (given tables.entry inputs outputs)
         (length order.now) (length roots.old)) result }
-    ensures order { TellsOrder (IsOrder inputs order.now) result }
+    ensures order { ShowsOrder (IsOrder inputs order.now) result }
     ensures written { result ≡ 0 → HoldsDiagram (given tables.entry inputs outputs) order.now
         nodes.old nodes.new roots.new count.new }
     ensures short { result ≡ 7 →
@@ -132,11 +133,7 @@ pub extern "C" fn minorder_diagram_with_lengths(
     ensures stays { result ≢ 0 → (nodes.new ≡ nodes.old) × (roots.new ≡ roots.old) }
     ensures refused { result ≢ 0 → result ≢ 7 → count.new ≡ count.old }
 {
-    let given = GivenTables {
-        words: tables,
-        inputs,
-        outputs,
-    };
+    let given = GivenTables::of(tables, inputs, outputs);
     match diagram_of(alloc, &given, order, roots.len()) {
         Ok(diagram) => {
             *count = diagram.nodes.len();

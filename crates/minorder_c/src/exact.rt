@@ -5,7 +5,7 @@ ghost use Rattle.definitions.specs.KeptPairs.{CanBeKept};
 ghost use Rattle.definitions.specs.Pairs.{sorted_pairs};
 ghost use Rattle.minorder_c.specs.Answers.{AllStay, AreTables, HasCallShape, HasLengths, IsFirstFewestOf, given, pairs_given, tables_in};
 ghost use Rattle.solutions.specs.Solutions.{IsOptimumFor};
-ghost use Rattle.minorder_c.specs.Statuses.{IsPlainStatus, RefusesShape, RefusesPairs, TellsPairs, TellsShape};
+ghost use Rattle.minorder_c.specs.Statuses.{IsPlainStatus, RefusesShape, RefusesPairs, ShowsPairs, ShowsShape};
 
 use crate::above::{AbovePair, kept_pairs};
 use crate::arguments::{GivenTables, has_call_shape};
@@ -13,12 +13,12 @@ use crate::sifting_from::bound_of;
 use crate::status::Refusal;
 use order_model::{Pairs, SizedOrder};
 use order_solve::find_optimum_alone;
-use small_search::{Search, Workspace, are_few, write_optimum};
+use small_search::{SmallSearch, Workspace, are_few, write_optimum};
 use std::alloc::{AllocError, Global};
 use truth_table::Tables;
 
-/// The first order of the fewest nodes among those that keep the pairs, searched below the size of
-/// a sifted one.
+/// The first order of the fewest nodes among those that keep the pairs. The size of a sifted order
+/// bounds the search.
 fn searched(alloc: Global, given: &GivenTables, pairs: Pairs) -> Result<SizedOrder, AllocError>
     requires tables { AreTables given.now }
     requires pairs { pairs.inputs ≡ given.now.inputs }
@@ -51,7 +51,7 @@ pub(crate) fn optimum(
     let inputs = given.inputs as u8;
     let outputs = given.outputs as u8;
     if are_few(inputs, outputs) {
-        let search = Search::new(inputs, outputs, given.words, &pairs);
+        let search = SmallSearch::new(inputs, outputs, given.words, &pairs);
         return write_optimum(alloc, &search, workspace, order, levels);
     }
     let best = searched(alloc, given, pairs)?;
@@ -112,8 +112,8 @@ fn exact_above(
     Ok(total)
 }
 
-/// The first order of the fewest nodes of some functions, its level counts and its size. A call
-/// that is refused writes nothing.
+/// Writes the first order of the fewest nodes of some functions, its level counts and its size. A
+/// call that is refused writes nothing.
 #[unsafe(no_mangle)]
 pub extern "C" fn minorder_exact_with_lengths(
     alloc: Global,
@@ -125,18 +125,14 @@ pub extern "C" fn minorder_exact_with_lengths(
     total: &mut u32,
 ) -> u32
     ensures status { IsPlainStatus result }
-    ensures shape { TellsShape (HasCallShape (given tables.entry inputs outputs)
+    ensures shape { ShowsShape (HasCallShape (given tables.entry inputs outputs)
         (length order.old) (length levels.old)) result }
     ensures optimum { result ≡ 0 →
         IsFirstFewestOf (given tables.entry inputs outputs) [] order.new levels.new total.new }
     ensures refused { result ≢ 0 →
         AllStay order.old order.new levels.old levels.new total.old total.new }
 {
-    let given = GivenTables {
-        words: tables,
-        inputs,
-        outputs,
-    };
+    let given = GivenTables::of(tables, inputs, outputs);
     match exact(alloc, &given, order, levels) {
         Ok(size) => {
             *total = size;
@@ -146,9 +142,9 @@ pub extern "C" fn minorder_exact_with_lengths(
     }
 }
 
-/// The first order of the fewest nodes among those that keep some pairs, its level counts and its
-/// size. Pairs that no order keeps, or of other variables, are refused; a call that is refused
-/// writes nothing.
+/// Writes the first order of the fewest nodes among those that keep some pairs, its level counts
+/// and its size. Pairs that no order keeps, or of other variables, are refused; a call that is
+/// refused writes nothing.
 #[unsafe(no_mangle)]
 pub extern "C" fn minorder_exact_above_with_lengths(
     alloc: Global,
@@ -161,20 +157,16 @@ pub extern "C" fn minorder_exact_above_with_lengths(
     total: &mut u32,
 ) -> u32
     ensures status { (result ≡ 8) ⊎ IsPlainStatus result }
-    ensures shape { TellsShape (HasCallShape (given tables.entry inputs outputs)
+    ensures shape { ShowsShape (HasCallShape (given tables.entry inputs outputs)
         (length order.old) (length levels.old)) result }
-    ensures kept { TellsPairs (CanBeKept inputs (pairs_given above.now)) result }
+    ensures kept { ShowsPairs (CanBeKept inputs (pairs_given above.now)) result }
     ensures optimum { result ≡ 0 →
         IsFirstFewestOf (given tables.entry inputs outputs)
         (sorted_pairs inputs (pairs_given above.now)) order.new levels.new total.new }
     ensures refused { result ≢ 0 →
         AllStay order.old order.new levels.old levels.new total.old total.new }
 {
-    let given = GivenTables {
-        words: tables,
-        inputs,
-        outputs,
-    };
+    let given = GivenTables::of(tables, inputs, outputs);
     match exact_above(alloc, &given, above, order, levels) {
         Ok(size) => {
             *total = size;

@@ -4,13 +4,13 @@ ghost use Rattle.std.specs.Prelude.{◌≡◌, ◌≢◌, length, IfOk, IfErr, O
 ghost use Rattle.definitions.specs.Levels.{level_counts};
 ghost use Rattle.definitions.specs.Orders.{IsOrder};
 ghost use Rattle.minorder_c.specs.Answers.{HasCallShape, functions_in, given};
-ghost use Rattle.minorder_c.specs.Statuses.{IsOrderStatus, RefusesOrder, TellsOrder, TellsShape};
+ghost use Rattle.minorder_c.specs.Statuses.{IsOrderStatus, RefusesOrder, ShowsOrder, ShowsShape};
 
 use crate::arguments::{GivenTables, arguments_of};
 use crate::status::Refusal;
 use std::alloc::Global;
 
-/// The level counts under an order, for so many places of theirs.
+/// The level counts under an order that a call is given, if it has room for as many (`counts`).
 fn level_counts_of(
     alloc: Global,
     given: &GivenTables,
@@ -31,8 +31,8 @@ fn level_counts_of(
     Ok(levels)
 }
 
-/// The level counts of some functions under an order, top first. A call that is refused writes
-/// nothing.
+/// Writes the level counts of some functions under an order, top first. A call that is refused
+/// writes nothing.
 #[unsafe(no_mangle)]
 pub extern "C" fn minorder_levels_with_lengths(
     alloc: Global,
@@ -43,19 +43,15 @@ pub extern "C" fn minorder_levels_with_lengths(
     levels: &mut [u32],
 ) -> u32
     ensures status { IsOrderStatus result }
-    ensures shape { TellsShape (HasCallShape (given tables.entry inputs outputs)
+    ensures shape { ShowsShape (HasCallShape (given tables.entry inputs outputs)
         (length order.now) (length levels.old)) result }
-    ensures order { TellsOrder (IsOrder inputs order.now) result }
+    ensures order { ShowsOrder (IsOrder inputs order.now) result }
     ensures levels { result ≡ 0 →
         levels.new ≡ level_counts inputs (functions_in (given tables.entry inputs outputs))
         order.now }
     ensures refused { result ≢ 0 → levels.new ≡ levels.old }
 {
-    let given = GivenTables {
-        words: tables,
-        inputs,
-        outputs,
-    };
+    let given = GivenTables::of(tables, inputs, outputs);
     match level_counts_of(alloc, &given, order, levels.len()) {
         Ok(counts) => {
             levels.copy_from_slice(&counts);

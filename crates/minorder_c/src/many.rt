@@ -3,7 +3,7 @@
 ghost use Rattle.std.specs.Prelude.{◌≡◌, ◌≢◌, ◌*◌, ◌↔◌, length, IsTrue, IfOk, OnOk};
 ghost use Rattle.minorder_c.specs.Answers.{AreTables, ListsStay, given};
 ghost use Rattle.minorder_c.specs.Many.{AreFirstFewest, HasManyShape, IsPut};
-ghost use Rattle.minorder_c.specs.Statuses.{IsPlainStatus, TellsShape};
+ghost use Rattle.minorder_c.specs.Statuses.{IsPlainStatus, ShowsShape};
 
 use crate::arguments::{GivenTables, is_in_range};
 use crate::exact::optimum;
@@ -21,7 +21,7 @@ struct Answers {
     totals: Vec<u32>,
 }
 
-/// Whether a length is that of so many pieces of a size.
+/// Whether a length is `many * size`.
 fn is_length(length: usize, many: usize, size: usize) -> bool
     ensures { IsTrue result ↔ (length ≡ many * size) }
 {
@@ -31,7 +31,8 @@ fn is_length(length: usize, many: usize, size: usize) -> bool
     }
 }
 
-/// Whether these lengths are what so many problems ask for.
+/// Whether a call is given the truth tables of `many` problems, and room for their variables
+/// (`places`) and level counts (`counts`).
 fn is_shape(given: &GivenTables, places: usize, counts: usize, many: usize) -> bool
     ensures { IsTrue result ↔ HasManyShape given.now places counts many }
 {
@@ -70,7 +71,8 @@ fn put(
     Ok(())
 }
 
-/// The first order of the fewest nodes of each of many problems, whose words have their shape.
+/// The first order of the fewest nodes of each of `many` problems, with its level counts and its
+/// size. The words are their truth tables, one problem after the other.
 fn optima_of(alloc: Global, given: &GivenTables, many: usize) -> Result<Answers, AllocError>
     requires { HasManyShape given.now (many * given.now.inputs) (many * given.now.inputs) many }
     ensures optima { IfOk result
@@ -99,9 +101,9 @@ fn optima_of(alloc: Global, given: &GivenTables, many: usize) -> Result<Answers,
     Ok(answers)
 }
 
-/// The first order of the fewest nodes of each of many problems, their level counts and their
-/// sizes. The words of the problems stand one behind the other, and so do their answers. A call
-/// that is refused writes nothing.
+/// Writes the first order of the fewest nodes of each of many problems, its level counts and its
+/// size. The words of the problems stand one behind the other, and so do their answers. A call that
+/// is refused writes nothing.
 #[unsafe(no_mangle)]
 pub extern "C" fn minorder_exact_many_with_lengths(
     alloc: Global,
@@ -113,7 +115,7 @@ pub extern "C" fn minorder_exact_many_with_lengths(
     totals: &mut [u32],
 ) -> u32
     ensures status { IsPlainStatus result }
-    ensures shape { TellsShape (HasManyShape (given tables.entry inputs outputs)
+    ensures shape { ShowsShape (HasManyShape (given tables.entry inputs outputs)
         (length orders.old) (length levels.old) (length totals.old)) result }
     ensures optima { result ≡ 0 →
         AreFirstFewest (given tables.entry inputs outputs) (length totals.old) orders.new levels.new
@@ -121,11 +123,7 @@ pub extern "C" fn minorder_exact_many_with_lengths(
     ensures refused { result ≢ 0 →
         ListsStay orders.old orders.new levels.old levels.new totals.old totals.new }
 {
-    let given = GivenTables {
-        words: tables,
-        inputs,
-        outputs,
-    };
+    let given = GivenTables::of(tables, inputs, outputs);
     let many = totals.len();
     if !is_shape(&given, orders.len(), levels.len(), many) {
         return Refusal::Shape.status();

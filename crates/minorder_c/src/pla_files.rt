@@ -5,7 +5,7 @@ ghost use Rattle.definitions.specs.Problems.{words_per_table};
 ghost use Rattle.pla_reader.specs.Answering.{longest};
 ghost use Rattle.pla_reader.specs.Reading.{Reads};
 ghost use Rattle.minorder_c.specs.Read.{AreNames, HaveNamePlaces, HeadStays, IsFaultOf, IsRead, IsReadShort, IsReadStatus, IsReadWith, IsUnread, fault_kind};
-ghost use Rattle.minorder_c.specs.Statuses.{TellsShape};
+ghost use Rattle.minorder_c.specs.Statuses.{ShowsShape};
 
 use crate::rooms::{SHORT_ROOM, put_front};
 use crate::status::Refusal;
@@ -25,8 +25,8 @@ const TOO_LONG: u32 = 15;
 /// How many places there are for names of inputs, and for those of outputs.
 const NAME_PLACES: usize = 16;
 
-/// What is wrong with a text that is no PLA file: the number of its first faulty line, and that of
-/// the fault.
+/// What is wrong with a text that is no PLA file: the number of its first faulty line, and the
+/// number in C of the fault.
 #[repr(C)]
 #[derive(Clone, Copy, Debug)]
 pub(crate) struct PlaFault {
@@ -62,7 +62,7 @@ struct PlaForC {
     words: Vec<u64>,
 }
 
-/// The number of a line's fault.
+/// The number in C of a line's fault.
 fn kind_of(fault: LineFault) -> u32
     ensures { result ≡ fault_kind fault }
 {
@@ -84,7 +84,7 @@ fn kind_of(fault: LineFault) -> u32
     }
 }
 
-/// The cover that a text is read as.
+/// The cover that a text states, or why it isn't read.
 fn cover_of(alloc: Global, text: &[u8]) -> Result<Cover, Unread>
     ensures within { OnOk result (length text.now ≤ longest) }
     ensures read { IfOk result (λ cover. Reads text.now cover) }
@@ -106,7 +106,7 @@ fn cover_of(alloc: Global, text: &[u8]) -> Result<Cover, Unread>
     }
 }
 
-/// The 16 places of the names of a text that reads as `cover`.
+/// The places of the names of a text that states `cover`, filled up to 16 places.
 fn names_of(
     alloc: Global,
     text: &[u8],
@@ -129,7 +129,7 @@ fn names_of(
     Ok(places)
 }
 
-/// The numbers, names and words of a PLA text.
+/// The numbers, names and truth tables that a PLA text states.
 fn pla_of(alloc: Global, text: &[u8]) -> Result<PlaForC, Unread>
     ensures read { IfOk result (λ p. IsReadWith text.now p.inputs p.outputs p.input_names.items
         p.output_names.items (λ Is. Is p.words.items)) }
@@ -166,7 +166,7 @@ pub extern "C" fn minorder_read_pla_with_lengths(
     fault: &mut PlaFault,
 ) -> u32
     ensures status { IsReadStatus result }
-    ensures shape { TellsShape (HaveNamePlaces input_names.old output_names.old) result }
+    ensures shape { ShowsShape (HaveNamePlaces input_names.old output_names.old) result }
     ensures read { result ≡ 0 → IsRead text.now inputs.new outputs.new input_names.new
         output_names.new tables.old tables.new }
     ensures short { result ≡ 7 → IsReadShort text.now inputs.new outputs.new input_names.new

@@ -1,4 +1,4 @@
-//! Buffers with room for some items.
+//! Writing to buffers that a caller lends.
 
 ghost use Rattle.std.specs.Prelude.{◌≡◌, ◌≤◌, ◌++◌, drop, length};
 

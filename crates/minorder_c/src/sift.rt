@@ -5,7 +5,7 @@ ghost use Rattle.definitions.specs.Orders.{IsOrder};
 ghost use Rattle.definitions.specs.Problems.{functions};
 ghost use Rattle.definitions.specs.Levels.{level_count};
 ghost use Rattle.minorder_c.specs.Answers.{AllStay, HasCallShape, HasLengths, IsSiftedFrom, given};
-ghost use Rattle.minorder_c.specs.Statuses.{IsOrderStatus, RefusesOrder, TellsOrder, TellsShape};
+ghost use Rattle.minorder_c.specs.Statuses.{IsOrderStatus, RefusesOrder, ShowsOrder, ShowsShape};
 
 use crate::arguments::{GivenTables, arguments_of};
 use crate::sifting_from::sifted_from;
@@ -14,7 +14,7 @@ use order_model::{Pairs, SizedOrder};
 use sifting::Sifted;
 use std::alloc::{AllocError, Global};
 
-/// The level counts of a sifted order, one a level.
+/// The level counts of a sifted order, one for each level.
 fn levels_of(alloc: Global, sifted: &Sifted) -> Result<Vec<u32>, AllocError>
     ensures long { IfOk result (λ v. length v.items ≡ length sifted.now.order) }
     ensures counts { IfOk result
@@ -26,7 +26,8 @@ fn levels_of(alloc: Global, sifted: &Sifted) -> Result<Vec<u32>, AllocError>
     counts[..sifted.order().len()].to_vec(alloc)
 }
 
-/// What sifting makes of an order, for so many places of level counts.
+/// The order that one pass of sifting makes of one that a call is given, if it has room for as many
+/// level counts (`counts`).
 fn sifted_order(
     alloc: Global,
     given: &GivenTables,
@@ -52,7 +53,7 @@ fn sifted_order(
     })
 }
 
-/// Puts in the place of an order what one pass of sifting makes of it, and writes its level counts
+/// Writes the order that one pass of sifting makes of `order` in its place, and its level counts
 /// and its size. A call that is refused writes nothing.
 #[unsafe(no_mangle)]
 pub extern "C" fn minorder_sift_with_lengths(
@@ -65,19 +66,15 @@ pub extern "C" fn minorder_sift_with_lengths(
     total: &mut u32,
 ) -> u32
     ensures status { IsOrderStatus result }
-    ensures shape { TellsShape (HasCallShape (given tables.entry inputs outputs)
+    ensures shape { ShowsShape (HasCallShape (given tables.entry inputs outputs)
         (length order.old) (length levels.old)) result }
-    ensures order { TellsOrder (IsOrder inputs order.old) result }
+    ensures order { ShowsOrder (IsOrder inputs order.old) result }
     ensures sifted { result ≡ 0 →
         IsSiftedFrom (given tables.entry inputs outputs) order.old order.new levels.new total.new }
     ensures refused { result ≢ 0 →
         AllStay order.old order.new levels.old levels.new total.old total.new }
 {
-    let given = GivenTables {
-        words: tables,
-        inputs,
-        outputs,
-    };
+    let given = GivenTables::of(tables, inputs, outputs);
     match sifted_order(alloc, &given, order, levels.len()) {
         Ok(found) => {
             order.copy_from_slice(found.order.variables());

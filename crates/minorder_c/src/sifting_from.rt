@@ -11,7 +11,7 @@ use sifting::{Manager, Sifted};
 use std::alloc::{AllocError, Global};
 use truth_table::{Tables, reduced_diagram};
 
-/// The order sifted from one that keeps the pairs.
+/// The order that one pass of sifting makes of `start`, which keeps the pairs.
 pub(crate) fn sifted_from(
     alloc: Global,
     tables: &Tables,
@@ -34,8 +34,8 @@ pub(crate) fn sifted_from(
     Ok(sifted)
 }
 
-/// An order whose size bounds the search among the orders that keep the pairs: one that sifting
-/// from the first of them ends with.
+/// An order that keeps the pairs, whose size bounds the search: sifting starts from the first of
+/// the orders that keep them.
 pub(crate) fn bound_of(alloc: Global, tables: &Tables, pairs: Pairs) -> Result<Sifted, AllocError>
     requires { pairs.inputs ≡ tables.now.inputs }
     ensures problem { IfOk result (λ s. s.problem ≡ tables.now) }

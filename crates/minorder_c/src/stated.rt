@@ -4,7 +4,7 @@ ghost use Rattle.std.specs.Prelude.{◌≡◌, ◌≢◌};
 ghost use Rattle.minorder_c.specs.Answers.{AreTables, given};
 ghost use Rattle.minorder_c.specs.Judged.{IsNoCertificate, IsTextStatus};
 ghost use Rattle.minorder_c.specs.Stated.{AreFront, IsStated};
-ghost use Rattle.minorder_c.specs.Statuses.{TellsShape};
+ghost use Rattle.minorder_c.specs.Statuses.{ShowsShape};
 
 use crate::above::AbovePair;
 use crate::arguments::GivenTables;
@@ -12,7 +12,7 @@ use crate::verdicts::{ReturnedVerdict, judgement_on, verdict_for_c};
 use order_model::VarIx;
 use std::alloc::Global;
 
-/// Puts the first pairs in a place, as many as it has room for.
+/// Writes the first pairs to `place`, as many as it has room for.
 fn put_pairs(place: &mut [AbovePair], pairs: &[(VarIx, VarIx)])
     ensures { AreFront pairs.now place.old place.new }
 {
@@ -37,7 +37,7 @@ pub extern "C" fn minorder_check_total_with_pairs(
     count: &mut usize,
 ) -> u32
     ensures status { IsTextStatus result }
-    ensures shape { TellsShape (AreTables (given tables.entry inputs outputs)) result }
+    ensures shape { ShowsShape (AreTables (given tables.entry inputs outputs)) result }
     ensures no_certificate { result ≡ 3 → IsNoCertificate certificate.now }
     ensures stated { result ≡ 0 →
         IsStated (given tables.entry inputs outputs) certificate.now verdict.new total.new pairs.old
@@ -46,11 +46,7 @@ pub extern "C" fn minorder_check_total_with_pairs(
         (verdict.new ≡ verdict.old) × (total.new ≡ total.old) × (pairs.new ≡ pairs.old)
         × (count.new ≡ count.old) }
 {
-    let given = GivenTables {
-        words: tables,
-        inputs,
-        outputs,
-    };
+    let given = GivenTables::of(tables, inputs, outputs);
     match judgement_on(alloc, &given, certificate) {
         Ok(found) => {
             *verdict = verdict_for_c(found.verdict);

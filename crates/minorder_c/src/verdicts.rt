@@ -4,7 +4,7 @@ ghost use Rattle.std.specs.Prelude.{◌≡◌, ◌≢◌, IfOk, IfErr, OnOk};
 ghost use Rattle.certificate.specs.Spelling.{spelling};
 ghost use Rattle.minorder_c.specs.Answers.{AreTables, given};
 ghost use Rattle.minorder_c.specs.Judged.{IsJudged, IsNoCertificate, IsTextStatus, IsVerdictReturned, RefusesText, returned_verdict};
-ghost use Rattle.minorder_c.specs.Statuses.{TellsShape};
+ghost use Rattle.minorder_c.specs.Statuses.{ShowsShape};
 
 use crate::arguments::{GivenTables, tables_of};
 use crate::status::Refusal;
@@ -21,7 +21,7 @@ pub(crate) struct ReturnedVerdict {
     pub variable: u32,
 }
 
-/// A reason without an edge.
+/// The verdict in C that has a reason and no edge.
 fn plain(reason: u32) -> ReturnedVerdict
     ensures { result ≡ record { reason = reason; mask = 0; variable = 0 } }
 {
@@ -32,7 +32,7 @@ fn plain(reason: u32) -> ReturnedVerdict
     }
 }
 
-/// A verdict in C.
+/// A verdict as C has it.
 pub(crate) fn verdict_for_c(verdict: Verdict) -> ReturnedVerdict
     ensures { result ≡ returned_verdict verdict }
 {
@@ -105,17 +105,13 @@ pub extern "C" fn minorder_check(
     verdict: &mut ReturnedVerdict,
 ) -> u32
     ensures status { IsTextStatus result }
-    ensures shape { TellsShape (AreTables (given tables.entry inputs outputs)) result }
+    ensures shape { ShowsShape (AreTables (given tables.entry inputs outputs)) result }
     ensures no_certificate { result ≡ 3 → IsNoCertificate certificate.now }
     ensures returned { result ≡ 0 →
         IsVerdictReturned (given tables.entry inputs outputs) certificate.now verdict.new }
     ensures refused { result ≢ 0 → verdict.new ≡ verdict.old }
 {
-    let given = GivenTables {
-        words: tables,
-        inputs,
-        outputs,
-    };
+    let given = GivenTables::of(tables, inputs, outputs);
     match judgement_on(alloc, &given, certificate) {
         Ok(found) => {
             *verdict = verdict_for_c(found.verdict);

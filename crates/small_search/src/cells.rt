@@ -9,12 +9,12 @@ ghost use Rattle.subfunction_classes.specs.Table.{classes_of};
 ghost use Rattle.small_search.specs.FirstCells.{AreFirstCells, IsBestOf, IsFew, IsNoneWithin};
 ghost use Rattle.small_search.specs.Occurrences.{AreOf};
 
-use crate::instance::{NO_BOUND, Search};
+use crate::instance::{NO_BOUND, SmallSearch};
 use crate::width_counts::Subfunctions;
 use order_model::{Mask, contains};
 use subset_layers::Cell;
 
-/// The cell of the smaller cost, and the earlier one if both are equal.
+/// `best` if it costs no more than `next`, else `next`.
 #[inline(always)]
 fn cheaper(best: Option<Cell>, next: Cell) -> Cell
     ensures none { best ≡ None → result ≡ next }
@@ -27,11 +27,12 @@ fn cheaper(best: Option<Cell>, next: Cell) -> Cell
     }
 }
 
-/// The least sum of the cost without a member and the member's width, over the members without
-/// which the cost is within the bound, by the smallest such member; none if there is none.
+/// The least sum of cost and width over the members of a set, with the smallest member that gives
+/// it. The cost is that of the set without the member; members without which it exceeds `NO_BOUND`
+/// are left out. None if all are.
 #[inline(always)]
 fn best_cell(
-    search: &Search<'_>,
+    search: &SmallSearch<'_>,
     cells: &[Cell],
     subfunctions: &Subfunctions<'_>,
     set: Mask,
@@ -62,10 +63,10 @@ fn best_cell(
     best
 }
 
-/// The cell of a set, from those of all smaller masks and the subfunctions over the set: these give
-/// the widths of all its members.
+/// The cell of a set, from the cells of all smaller masks and the subfunctions over the set.
+/// `lawful` says whether the set is lawful; else its cell is clipped.
 pub(crate) fn cell_of_set(
-    search: &Search<'_>,
+    search: &SmallSearch<'_>,
     cells: &[Cell],
     subfunctions: &Subfunctions<'_>,
     set: Mask,

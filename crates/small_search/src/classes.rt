@@ -1,4 +1,6 @@
-//! Class tables of sets of four variables, from the values over three of them.
+//! Class tables of sets of four variables, from the values over three of them. A value is the truth
+//! table of a subfunction as a number; the variables of a set have places, and the lowest variable
+//! has the highest place.
 
 ghost use Rattle.std.specs.Prelude.{◌≡◌, ◌<◌, ◌+◌, ◌*◌, ◌/◌, ◌^◌, ◌≤◌, count_ones, get_or, if◌then◌else◌, ◌==◌, length, map, slice_index, ℕ, OnOk};
 ghost use Rattle.std.specs.Int.{bit_at};
@@ -15,10 +17,10 @@ use std::alloc::AllocError;
 /// An odd number whose multiples spread over the words of 32 bits.
 const SPREAD: u32 = 2_654_435_761;
 
-/// There are at least so many buckets for each pair, so that most pairs are the first of theirs.
+/// The least number of buckets for each pair: most pairs are then the first of their bucket.
 const BUCKETS_EACH: usize = 8;
 
-/// The places of the variables that each value over three depends on, as a mask.
+/// The places of the variables that each value over three variables depends on, as a mask.
 const PLACES: [u8; 256] = [
     0, 7, 7, 6, 7, 5, 7, 7, 7, 7, 5, 7, 6, 7, 7, 4, 7, 3, 7, 7, 7, 7, 7, 7, 7, 7, 7, 7, 7, 7, 7, 7,
     7, 7, 3, 7, 7, 7, 7, 7, 7, 7, 7, 7, 7, 7, 7, 7, 6, 7, 7, 2, 7, 7, 7, 7, 7, 7, 7, 7, 6, 7, 7, 6,
@@ -30,7 +32,7 @@ const PLACES: [u8; 256] = [
     7, 7, 7, 7, 7, 7, 7, 7, 7, 7, 7, 7, 7, 7, 3, 7, 4, 7, 7, 6, 7, 5, 7, 7, 7, 7, 5, 7, 6, 7, 7, 0,
 ];
 
-/// The places of the variables that a value over three depends on.
+/// The places of the variables that a value over three variables depends on, as a mask.
 #[inline(always)]
 fn places_of(value: u32) -> u8
     requires { value < 256 }
@@ -40,7 +42,8 @@ fn places_of(value: u32) -> u8
     PLACES[value as usize]
 }
 
-/// The places of the variables that a joined value over four depends on.
+/// The places of the variables, as a mask, that the value over four variables depends on whose
+/// halves over three are a pair. The variable that is joined has place 3.
 #[inline(always)]
 fn joined_places(pair: (u32, u32)) -> u8
     requires lower { pair.0 < 256 }
@@ -67,7 +70,7 @@ fn variables_of(set: Mask) -> [VarIx; 4]
     variables
 }
 
-/// A variable as a mask, if the bit of its place is 1.
+/// The mask of variable x if `places` has the place, else the empty mask.
 #[inline(always)]
 fn variable_at(places: u8, place: u32, x: VarIx) -> Mask
     requires place { place < 8 }
@@ -77,7 +80,7 @@ fn variable_at(places: u8, place: u32, x: VarIx) -> Mask
     Mask::from((places >> place) & 1) << x
 }
 
-/// The variables at places, as a mask; the first variable has the highest place.
+/// The mask of the variables at `places`. The first variable has place 3, and the last one place 0.
 #[inline(always)]
 fn mask_of_places(variables: &[VarIx; 4], places: u8) -> Mask
     requires { AllBelow variables.now 16 }
@@ -89,7 +92,8 @@ fn mask_of_places(variables: &[VarIx; 4], places: u8) -> Mask
         | variable_at(places, 3, variables[0])
 }
 
-/// The masks of all sets of places.
+/// For each mask of places the mask of the variables there. The first variable has place 3, and the
+/// last one place 0.
 fn masks_by_places(variables: &[VarIx; 4]) -> [Mask; 16]
     requires { AllBelow variables.now 16 }
     ensures { (q : ℕ) → q < 16 → slice_index result q ≡ mask_at variables.now q }
@@ -101,7 +105,8 @@ fn masks_by_places(variables: &[VarIx; 4]) -> [Mask; 16]
     masks
 }
 
-/// Writes what the joined values of pairs depend on.
+/// Writes to `masks`, for each distinct pair of values, the mask of the variables that their joined
+/// value depends on.
 fn write_masks(
     pairs: &PairNumbers,
     variables: &[VarIx; 4],
@@ -122,7 +127,8 @@ fn write_masks(
     Ok(())
 }
 
-/// Pair `j` of the values, which differ in x; the set has no variable below x.
+/// Pair `j` of the values: the value at which variable x is 0, and that at which it is 1. The set
+/// has no variable below x.
 #[inline(always)]
 fn value_pair(values: &[u8], x: VarIx, j: usize) -> (u32, u32)
     requires paired { IsPaired values.now x }
@@ -134,8 +140,8 @@ fn value_pair(values: &[u8], x: VarIx, j: usize) -> (u32, u32)
     (u32::from(values[low]), u32::from(values[low + step]))
 }
 
-/// Writes the class table of a set of four variables, from the values of the set without its lowest
-/// one. `seen` is memory to work in.
+/// Writes the class table of a set of four variables to `to`, from the values over the set without
+/// its lowest variable x. `seen` is working memory.
 pub(crate) fn number_values(
     values: &[u8],
     x: VarIx,

@@ -1,4 +1,4 @@
-//! What a search is for.
+//! The input of a search.
 
 ghost use Rattle.std.specs.Prelude.{◌≡◌, ◌<◌, ◌≤◌, [], length, IfOk, IsTrue};
 ghost use Rattle.definitions.specs.Orders.{members};
@@ -14,18 +14,18 @@ use std::marker::Model;
 /// Exceeds any cost: 16 widths of at most 2^20, and 16 nodes above.
 pub(crate) const NO_BOUND: u32 = 1 << 25;
 
-/// What a search is for: the truth tables of some functions, packed in words of 64 points, one
-/// after the other, and the pairs that an order must keep. What stands behind a table's last point
-/// doesn't count. No cost of a lawful set reaches the bound.
+/// The input of a search: the truth tables of some functions, packed in words of 64 points, one
+/// after the other, and the pairs that an order must keep. The bits behind a table's last point
+/// don't count. No cost of a lawful set reaches `NO_BOUND`.
 #[derive(Drop)]
-pub struct Search<'a> {
+pub struct SmallSearch<'a> {
     inputs: u8,
     outputs: u8,
     words: &'a [u64],
     pairs: &'a Pairs,
 }
 
-impl<'a> Model for Search<'a> {
+impl<'a> Model for SmallSearch<'a> {
     ghost use Rattle.definitions.specs.Problems.{packed_tables};
     ghost use Rattle.layer_core.specs.Instances.{InstanceOf};
     ghost use Rattle.small_search.specs.Searches.{HoldsSearch, plain_instance};
@@ -37,15 +37,15 @@ impl<'a> Model for Search<'a> {
     ghost invariant = { λ s. HoldsSearch s.inputs s.outputs s.words.now s.pairs.now };
 }
 
-impl<'a> Search<'a> {
-    /// The pairs are of the functions' variables.
-    pub fn new(inputs: u8, outputs: u8, words: &'a [u64], pairs: &'a Pairs) -> Search<'a>
+impl<'a> SmallSearch<'a> {
+    /// The search of the functions that the words hold. The pairs are of their variables.
+    pub fn new(inputs: u8, outputs: u8, words: &'a [u64], pairs: &'a Pairs) -> SmallSearch<'a>
         requires packed { ArePacked inputs outputs words.now }
         requires pairs { pairs.now.inputs ≡ inputs }
         ensures { result ≡ plain_instance (packed_tables inputs outputs words.now) pairs.now }
     {
         prove!(pairs.inputs() <= 16);
-        Search {
+        SmallSearch {
             inputs,
             outputs,
             words,
@@ -89,7 +89,7 @@ impl<'a> Search<'a> {
         self.pairs.count() == 0
     }
 
-    /// Whether a set has b wherever it has a, of each pair (a, b).
+    /// Whether a set is lawful: for each pair (a, b), if it has a it has b.
     #[inline(always)]
     pub(crate) fn lawful(&self, set: Mask) -> bool
         ensures { result ≡ is_lawful self.now.pairs.pairs

@@ -13,5 +13,5 @@ mod tables;
 mod values;
 mod width_counts;
 
-pub use instance::Search;
+pub use instance::SmallSearch;
 pub use search::{Workspace, are_few, find_optimum, is_small, solve, write_optimum};

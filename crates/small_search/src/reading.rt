@@ -6,13 +6,13 @@ ghost use Rattle.definitions.specs.Problems.{functions};
 ghost use Rattle.solutions.specs.FlatCells.{AreFlatCells};
 ghost use Rattle.solutions.specs.Solutions.{IsFirstFewest, IsReadOff};
 
-use crate::instance::Search;
+use crate::instance::SmallSearch;
 use order_model::{Mask, VarIx};
 use subset_layers::Cell;
 
 /// Writes the variables that the cells give from the set of all variables downward: each cell's
 /// variable is the next one from the top.
-fn read_variables(search: &Search<'_>, cells: &[Cell], order: &mut [VarIx])
+fn read_variables(search: &SmallSearch<'_>, cells: &[Cell], order: &mut [VarIx])
     requires cells { AreFlatCells search.now cells.now }
     requires long { length order.old ≡ search.now.problem.inputs }
     ensures read { IsReadOff search.now order.new }
@@ -27,8 +27,9 @@ fn read_variables(search: &Search<'_>, cells: &[Cell], order: &mut [VarIx])
     }
 }
 
-/// Writes by how much the cost falls when each variable is taken off the top.
-fn count_levels(search: &Search<'_>, cells: &[Cell], order: &[VarIx], levels: &mut [u32])
+/// Writes the level counts of the order that the cells give: by how much the cost falls when each
+/// variable is taken off the top.
+fn count_levels(search: &SmallSearch<'_>, cells: &[Cell], order: &[VarIx], levels: &mut [u32])
     requires cells { AreFlatCells search.now cells.now }
     requires read { IsReadOff search.now order.now }
     requires long { length order.now ≡ search.now.problem.inputs }
@@ -49,7 +50,7 @@ fn count_levels(search: &Search<'_>, cells: &[Cell], order: &[VarIx], levels: &m
 
 /// Writes the order that the cells give and its level counts, and returns its size.
 pub(crate) fn read_optimum(
-    search: &Search<'_>,
+    search: &SmallSearch<'_>,
     cells: &[Cell],
     order: &mut [VarIx],
     levels: &mut [u32],

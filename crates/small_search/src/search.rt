@@ -14,7 +14,7 @@ ghost use Rattle.solutions.specs.FlatCells.{AreFlatCells};
 ghost use Rattle.solutions.specs.Solutions.{IsFirstFewest, IsOptimumFor, IsSolution};
 
 use crate::cells::cell_of_set;
-use crate::instance::{NO_BOUND, Search, words_of};
+use crate::instance::{NO_BOUND, SmallSearch, words_of};
 use crate::reading::read_optimum;
 use crate::tables::{MOST_VALUE_VARIABLES, PathTables, values_over};
 use crate::values::occurring;
@@ -27,10 +27,10 @@ use subset_layers::Cell;
 /// A problem of more variables has sets that a bound and symmetric variables leave out.
 const MOST_INPUTS: u8 = 10;
 
-/// Of more entries of truth tables the layers' numbering is the faster one.
+/// With more entries of truth tables than these the search by layers is faster.
 const MOST_ENTRIES: usize = 1 << 13;
 
-/// Whether a problem is so small that this search is the faster one.
+/// Whether a problem is small: this search is then faster than the one by layers.
 pub fn is_small(problem: &Problem) -> bool
     ensures { IsTrue result ↔ ((problem.now.inputs ≤ 10)
         × (outputs_of problem.now * 2 ^ problem.now.inputs ≤ 2 ^ 13)) }
@@ -38,7 +38,8 @@ pub fn is_small(problem: &Problem) -> bool
     are_few(problem.inputs(), problem.outputs())
 }
 
-/// Whether so many functions of so many variables are a small problem.
+/// Whether a problem of this many inputs and outputs is small: this search is then faster than the
+/// one by layers.
 pub fn are_few(inputs: u8, outputs: u8) -> bool
     requires inputs { inputs ≤ 16 }
     ensures { IsTrue result ↔ ((inputs ≤ 10) × (outputs * 2 ^ inputs ≤ 2 ^ 13)) }
@@ -46,7 +47,7 @@ pub fn are_few(inputs: u8, outputs: u8) -> bool
     inputs <= MOST_INPUTS && (outputs as usize) << inputs <= MOST_ENTRIES
 }
 
-/// Memory for searches of small problems: each uses what the ones before it took.
+/// Memory for searches of small problems. Each search uses the memory that earlier ones took.
 #[derive(Drop)]
 pub struct Workspace {
     tables: PathTables,
@@ -63,9 +64,13 @@ impl Workspace {
     }
 }
 
-/// The different subfunctions over a set.
+/// The distinct subfunctions over a set, from the tables on the way to it.
 #[inline(always)]
-fn subfunctions_in<'a>(search: &Search<'_>, tables: &'a PathTables, set: Mask) -> Subfunctions<'a>
+fn subfunctions_in<'a>(
+    search: &SmallSearch<'_>,
+    tables: &'a PathTables,
+    set: Mask,
+) -> Subfunctions<'a>
     requires within { set < 2 ^ search.now.problem.inputs }
     requires path { HoldPath search.now.problem set tables.now }
     ensures { AreOf (classes_of search.now.problem set) result }
@@ -81,10 +86,11 @@ fn subfunctions_in<'a>(search: &Search<'_>, tables: &'a PathTables, set: Mask) -
     }
 }
 
-/// The cell of the set after those that have cells. It makes the tables on the way to that set.
+/// The cell of a set, from the cells of all smaller masks. The tables on the way to the set are
+/// made from those on the way to the set before.
 #[inline(always)]
 fn next_cell(
-    search: &Search<'_>,
+    search: &SmallSearch<'_>,
     tables: &mut PathTables,
     cells: &[Cell],
     set: Mask,
@@ -105,10 +111,10 @@ fn next_cell(
     Ok(cell_of_set(search, cells, &subfunctions, set, lawful))
 }
 
-/// Finds the cells of all sets, each at its set's mask.
+/// Writes the cells of all sets to `cells`, each at its set's mask.
 fn find_cells(
     alloc: Global,
-    search: &Search<'_>,
+    search: &SmallSearch<'_>,
     tables: &mut PathTables,
     cells: &mut Vec<Cell>,
 ) -> Result<(), AllocError>
@@ -135,7 +141,7 @@ fn find_cells(
 /// for small problems.
 pub fn write_optimum(
     alloc: Global,
-    search: &Search<'_>,
+    search: &SmallSearch<'_>,
     workspace: &mut Workspace,
     order: &mut [VarIx],
     levels: &mut [u32],
@@ -154,20 +160,20 @@ pub fn write_optimum(
     Ok(read_optimum(search, &workspace.cells, order, levels))
 }
 
-/// The cells of all sets of a problem, each at its set's mask.
+/// The cells of all sets of a problem's variables, each at its set's mask.
 fn all_cells(alloc: Global, problem: &Problem, pairs: &Pairs) -> Result<Vec<Cell>, AllocError>
     requires { pairs.now.inputs ≡ problem.now.inputs }
     ensures { IfOk result (λ v. AreFlatCells (plain_instance problem.now pairs.now) v.items) }
 {
     let words = words_of(alloc, problem)?;
-    let search = Search::new(problem.inputs(), problem.outputs(), &words, pairs);
+    let search = SmallSearch::new(problem.inputs(), problem.outputs(), &words, pairs);
     let mut path = PathTables::new(alloc)?;
     let mut cells = Vec::new(alloc);
     find_cells(alloc, &search, &mut path, &mut cells)?;
     Ok(cells)
 }
 
-/// The instance of a search.
+/// The problem instance of a search: its bound exceeds all costs.
 fn instance_of<'a>(problem: &'a Problem, pairs: &'a Pairs) -> Instance<'a>
     requires { pairs.now.inputs ≡ problem.now.inputs }
     ensures instance { result ≡ plain_instance problem.now pairs.now }

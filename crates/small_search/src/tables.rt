@@ -10,7 +10,7 @@ ghost use Rattle.small_search.specs.ValuePlaces.{start_of as place_of, values_at
 ghost use Rattle.subfunction_classes.specs.PairTables.{AllBelow, IsPaired};
 
 use crate::classes::number_values;
-use crate::instance::Search;
+use crate::instance::SmallSearch;
 use crate::values::{join_values, push_points};
 use order_model::{Mask, VarIx};
 use pair_buckets::{Numbered, PairNumbers, number_pairs};
@@ -31,7 +31,8 @@ pub(crate) struct PathTables {
     seen: PairNumbers,
 }
 
-/// Where the values over so many variables begin.
+/// The index at which the values over `size` variables begin. There are `entries` values over no
+/// variable.
 #[inline(always)]
 fn start_of(entries: usize, size: u32) -> usize
     requires size { size ≤ 3 }
@@ -46,7 +47,7 @@ fn start_of(entries: usize, size: u32) -> usize
     }
 }
 
-/// The values over so many variables.
+/// The values over `size` variables. There are `entries` values over no variable.
 #[inline(always)]
 pub(crate) fn values_over(values: &[u8], entries: usize, size: u32) -> &[u8]
     requires size { size ≤ 3 }
@@ -59,7 +60,7 @@ pub(crate) fn values_over(values: &[u8], entries: usize, size: u32) -> &[u8]
     own
 }
 
-/// Joins the values of the size before, whose pairs differ in x.
+/// Makes the values over `size` variables from those over one less, whose pairs differ in x.
 #[inline(always)]
 fn make_values(values: &mut [u8], entries: usize, x: VarIx, size: u32)
     requires some { 1 ≤ size }
@@ -76,7 +77,7 @@ fn make_values(values: &mut [u8], entries: usize, x: VarIx, size: u32)
     join_values(before, x, 1 << (size - 1), own);
 }
 
-/// Numbers the pairs of the class table of the size before, which differ in x.
+/// Makes the class table of `size` variables from that of one less, whose pairs differ in x.
 #[inline(always)]
 fn make_classes(
     classes: &mut [Numbered],
@@ -95,8 +96,8 @@ fn make_classes(
     number_pairs(numbers, x, masks, seen, &mut others[0])
 }
 
-/// Adds tables with room for so many pairs until there is one for each size from 4 to that of all
-/// variables.
+/// Adds class tables with room for `room` pairs until there is one for each size from 4 to
+/// `inputs`.
 fn add_tables(
     alloc: Global,
     room: usize,
@@ -113,7 +114,7 @@ fn add_tables(
 }
 
 impl PathTables {
-    /// No tables.
+    /// No tables, before the first search.
     pub(crate) fn new(alloc: Global) -> Result<PathTables, AllocError> {
         Ok(PathTables {
             entries: 0,
@@ -124,7 +125,11 @@ impl PathTables {
     }
 
     /// Makes the table of the empty set, and room for those of the other sizes.
-    pub(crate) fn restart(&mut self, alloc: Global, search: &Search<'_>) -> Result<(), AllocError>
+    pub(crate) fn restart(
+        &mut self,
+        alloc: Global,
+        search: &SmallSearch<'_>,
+    ) -> Result<(), AllocError>
         ensures { OnOk result (HoldPath search.now.problem 0 self.new) }
     {
         prove!(search.inputs() <= 16);
@@ -146,7 +151,11 @@ impl PathTables {
     /// Turns the tables on the way to the set before `set`, by their masks, into those on the way
     /// to `set`: makes one table, from that of the set without its lowest variable.
     #[inline(always)]
-    pub(crate) fn add_lowest(&mut self, search: &Search<'_>, set: Mask) -> Result<(), AllocError>
+    pub(crate) fn add_lowest(
+        &mut self,
+        search: &SmallSearch<'_>,
+        set: Mask,
+    ) -> Result<(), AllocError>
         requires some { 0 < set }
         requires within { set < 2 ^ search.now.problem.inputs }
         requires path { HoldPath search.now.problem (set - 1) self.old }

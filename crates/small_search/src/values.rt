@@ -9,12 +9,12 @@ ghost use Rattle.subfunction_classes.specs.Values.{row, values_of};
 ghost use Rattle.small_search.specs.Joining.{AreJoined};
 ghost use Rattle.small_search.specs.Counting.{AreOccurring};
 
-use crate::instance::Search;
+use crate::instance::SmallSearch;
 use order_model::VarIx;
 use order_model::packed::bit_of;
 use std::alloc::AllocError;
 
-/// Adds a function's values at all points, which stand packed in words of 64.
+/// Appends a function's values at all points, from its packed truth table.
 fn push_values(values: &mut Vec<u8>, words: &[u64], inputs: u8) -> Result<(), AllocError>
     requires few { inputs ≤ 16 }
     requires long { length words.now ≡ words_per_table inputs }
@@ -27,8 +27,8 @@ fn push_values(values: &mut Vec<u8>, words: &[u64], inputs: u8) -> Result<(), Al
     Ok(())
 }
 
-/// Puts the values of all functions at all points, function by function, into an empty list.
-pub(crate) fn push_points(values: &mut Vec<u8>, search: &Search<'_>) -> Result<(), AllocError>
+/// Appends the values of all functions at all points, function by function, to an empty list.
+pub(crate) fn push_points(values: &mut Vec<u8>, search: &SmallSearch<'_>) -> Result<(), AllocError>
     requires { values.old.items ≡ [] }
     ensures { OnOk result (values.new.items ≡ map weight (values_of search.now.problem)) }
 {
@@ -38,7 +38,8 @@ pub(crate) fn push_points(values: &mut Vec<u8>, search: &Search<'_>) -> Result<(
     Ok(())
 }
 
-/// Joins the values of pairs, which stand in blocks of `step`. A value has `shift` bits.
+/// Writes the joined value of each pair of `before` to `values`: the low value, and above its
+/// `shift` bits the high one. The pairs differ in variable x, and stand in blocks of `step`, 2^x.
 #[inline(always)]
 fn join_blocks(before: &[u8], x: VarIx, step: usize, shift: u32, values: &mut [u8])
     requires paired { IsPaired before.now x }
@@ -57,8 +58,9 @@ fn join_blocks(before: &[u8], x: VarIx, step: usize, shift: u32, values: &mut [u
     }
 }
 
-/// Joins the values of pairs that differ in x, below which the set has no variable. A value has
-/// `shift` bits. Small steps have a loop each, which is faster.
+/// Writes the joined value of each pair of `before` to `values`: the low value, and above its
+/// `shift` bits the high one. The pairs differ in variable x; the set has no variable below x.
+/// Small steps have a loop each, which is faster.
 pub(crate) fn join_values(before: &[u8], x: VarIx, shift: u32, values: &mut [u8])
     requires paired { IsPaired before.now x }
     requires shift { shift ≤ 4 }
@@ -74,7 +76,7 @@ pub(crate) fn join_values(before: &[u8], x: VarIx, shift: u32, values: &mut [u8]
     }
 }
 
-/// Which values occur, a bit for each. All are below 64.
+/// Which values occur, a bit for each, if all are below 64.
 #[inline(always)]
 fn few_occurring(values: &[u8]) -> [u64; 4]
     requires { AllBelow values.now 64 }

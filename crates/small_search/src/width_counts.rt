@@ -1,4 +1,4 @@
-//! The widths into a set, from its different subfunctions.
+//! The widths into a set, from its distinct subfunctions.
 
 ghost use Rattle.std.specs.Prelude.{◌≡◌, ◌^◌, ◌<◌, ◌≤◌};
 ghost use Rattle.definitions.specs.Orders.{without};
@@ -11,7 +11,7 @@ ghost use Rattle.small_search.specs.Occurrences.{AreOf, CanBeCounted, IsAtPlace}
 use order_model::{Mask, VarIx};
 use subfunction_classes::count_with;
 
-/// The different subfunctions over a set.
+/// The distinct subfunctions over a set.
 #[derive(Drop)]
 pub(crate) enum Subfunctions<'a> {
     /// Which values over up to three variables occur, a bit for each.
@@ -20,8 +20,8 @@ pub(crate) enum Subfunctions<'a> {
     Classes(&'a [Mask]),
 }
 
-/// Of the values over three variables those that depend on the variable at each place, a bit for
-/// each. A value over fewer variables depends on those at its own places as the same number does
+/// For each place the values over three variables that depend on the variable there, a bit for each
+/// value. A value over fewer variables depends on the same places as its number does as a value
 /// over three.
 const DEPENDENT: [[u64; 4]; 3] = [
     [
@@ -44,7 +44,7 @@ const DEPENDENT: [[u64; 4]; 3] = [
     ],
 ];
 
-/// The values that depend on the variable at a place.
+/// The values over three variables that depend on the variable at a place, a bit for each.
 fn dependent_values(place: u32) -> [u64; 4]
     requires { place < 3 }
     ensures { AreDependent place result }
@@ -68,7 +68,8 @@ pub(crate) fn count_dependent(occurring: &[u64; 4], place: u32) -> u32
 }
 
 impl<'a> Subfunctions<'a> {
-    /// How many depend on a member of the set, whose place is the number of greater members.
+    /// How many of the subfunctions depend on x, a member of the set whose place is the number of
+    /// greater members.
     #[inline(always)]
     pub(crate) fn width(&self, x: VarIx, place: u32) -> u32
         requires variable { x < 16 }

@@ -8,7 +8,7 @@ use order_solve::{Solution, find_optimum_alone, prepare, renaming_of, solve, sol
 use pla_reader::read_cover;
 use sifting::laws::diagrams_have_their_problems_tables;
 use sifting::{Manager, Sifted};
-use small_search::{Search, Workspace, are_few, is_small, write_optimum};
+use small_search::{SmallSearch, Workspace, are_few, is_small, write_optimum};
 use std::alloc::Global;
 use std::hint;
 use std::process::Abort;
@@ -124,10 +124,10 @@ fn finds_words_small(rt: &impl Abort, alloc: Global, tables: &Tables) -> bool {
 fn writes_words_small(rt: &impl Abort, alloc: Global) -> bool {
     let mut workspace = Workspace::new(alloc).expect(rt, "memory");
     let pairs = Pairs::none(4);
-    let parity = Search::new(4, 1, &[0x6996], &pairs);
+    let parity = SmallSearch::new(4, 1, &[0x6996], &pairs);
     let parity_size = write_optimum(alloc, &parity, &mut workspace, &mut [0; 4], &mut [0; 4]);
     let pairs = Pairs::none(3);
-    let words = Search::new(3, 1, &[0xff96], &pairs);
+    let words = SmallSearch::new(3, 1, &[0xff96], &pairs);
     let mut order = [3; 3];
     let mut levels = [0; 3];
     let size = write_optimum(alloc, &words, &mut workspace, &mut order, &mut levels);

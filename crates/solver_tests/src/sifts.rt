@@ -34,7 +34,7 @@ static STEPS: [Step; 6] = [
     (5, [10, 10, 8, 8, 6, 6], [0, 3, 4, 1, 5, 2]),
 ];
 
-/// The manager with a level and the next one exchanged.
+/// The manager after the swap of a level with the next one.
 fn swapped(rt: &impl Abort, alloc: Global, manager: Manager, level: usize) -> Manager
     requires { level < 16 }
 {

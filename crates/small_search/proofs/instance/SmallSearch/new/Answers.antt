@@ -2,7 +2,7 @@ use Rattle.std.proofs.Common.{arith}
 use Rattle.definitions.specs.Problems.{packed_tables}
 use Rattle.definitions.proofs.Bits.Problems.{length-tables_of}
 use Rattle.small_search.proofs.PlainSearches.{plain}
-use Rattle.small_search.proofs.instance.Search.new.Goals as goal
+use Rattle.small_search.proofs.instance.SmallSearch.new.Goals as goal
 
 pub invariant_of-result : goal.invariant_of-result
 invariant_of-result c =

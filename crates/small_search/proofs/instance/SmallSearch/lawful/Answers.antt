@@ -2,7 +2,7 @@ use Rattle.std.proofs.Common.{ap, ◌∙◌}
 use Rattle.definitions.specs.Orders.{members}
 use Rattle.definitions.specs.Pairs.{is_lawful}
 use Rattle.layer_core.specs.Instances.{InstanceOf}
-use Rattle.small_search.proofs.instance.Search.lawful.Goals as goal
+use Rattle.small_search.proofs.instance.SmallSearch.lawful.Goals as goal
 
 pub returns : goal.returns
 returns c =

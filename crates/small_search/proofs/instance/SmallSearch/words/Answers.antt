@@ -2,7 +2,7 @@ use Rattle.std.proofs.Common.{length, ap, ◌∙◌}
 use Rattle.definitions.specs.Problems.{table_in}
 use Rattle.layer_core.specs.Instances.{InstanceOf}
 use Rattle.small_search.proofs.PackedWords.{words_facts}
-use Rattle.small_search.proofs.instance.Search.words.Goals as goal
+use Rattle.small_search.proofs.instance.SmallSearch.words.Goals as goal
 
 pub block-requires : goal.block-requires
 block-requires c =
