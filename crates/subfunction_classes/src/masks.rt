@@ -1,4 +1,4 @@
-//! What the functions of classes depend on, as masks.
+//! The masks of classes: the variables that a class's functions depend on.
 
 ghost use Rattle.std.specs.Prelude.{◌≡◌, ◌^◌, ◌<◌, ◌≤◌, ◌==◌, length};
 ghost use Rattle.std.specs.Int.{bit_at};
@@ -7,7 +7,8 @@ ghost use Rattle.subfunction_classes.specs.Dependence.{joined_mask};
 
 use definitions::{Mask, VarIx, contains};
 
-/// The mask of a pair of classes: what its halves depend on, and `x` if they differ.
+/// The mask of a pair of classes, the function that is the lower class if x is 0 and the upper one
+/// if x is 1: the masks of both, and x if they differ.
 #[inline(always)]
 pub fn join_mask(masks: &[Mask], x: VarIx, pair: (u32, u32)) -> Mask
     requires variable { x < 16 }
@@ -24,7 +25,7 @@ pub fn join_mask(masks: &[Mask], x: VarIx, pair: (u32, u32)) -> Mask
     }
 }
 
-/// How many masks have the bit of a variable.
+/// How many masks have variable x.
 pub fn count_with(masks: &[Mask], x: VarIx) -> u32
     requires variable { x < 16 }
     requires few { length masks.now ≤ 2 ^ 20 }

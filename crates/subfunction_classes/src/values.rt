@@ -1,4 +1,4 @@
-//! Class numbers of values, and what their classes depend on.
+//! The class table of the empty set, whose classes are the two values.
 
 ghost use Rattle.std.specs.Prelude.{◌≡◌, ℕ, ◌+◌, ◌*◌, ◌<◌, ◌≤◌, ◌++◌, map, length, slice_index, IfOk, OnOk, nat_eq};
 ghost use Rattle.std.specs.List.{list_any};
@@ -9,14 +9,14 @@ use definitions::packed::bit_of;
 use definitions::{Mask, Problem};
 use std::alloc::{AllocError, Global};
 
-/// The number of a value.
+/// The class number of a value: 0 if it is the value `first`, else 1.
 fn number_of_value(value: bool, first: bool) -> u32
     ensures { result ≡ number first value }
 {
     if value == first { 0 } else { 1 }
 }
 
-/// Adds the numbers of a function's values, which stand packed in words of 64 points.
+/// Appends the class numbers of a function's values, from its packed truth table.
 fn push_values(
     numbers: &mut Vec<u32>,
     words: &[u64],
@@ -35,7 +35,7 @@ fn push_values(
     Ok(())
 }
 
-/// The numbers of all values: 0 for the first one met.
+/// The class numbers of all values of a problem: 0 for the first value, and 1 for the other one.
 pub fn value_numbers(alloc: Global, problem: &Problem) -> Result<Vec<u32>, AllocError>
     ensures numbers { IfOk result
         (λ v. v.items ≡ map (number (value_at problem.now 0 0)) (values_of problem.now)) }
@@ -53,14 +53,14 @@ pub fn value_numbers(alloc: Global, problem: &Problem) -> Result<Vec<u32>, Alloc
     Ok(numbers)
 }
 
-/// Whether both numbers occur.
+/// Whether both class numbers, 0 and 1, occur.
 fn has_both(numbers: &[u32]) -> bool
     ensures { result ≡ list_any (λ k. nat_eq k 1) numbers.now }
 {
     numbers.iter().any(|number| *number == 1)
 }
 
-/// The masks of the classes of values, which depend on nothing.
+/// The masks of the classes of the values in `numbers`, which depend on no variable.
 pub fn no_dependence(alloc: Global, numbers: &[u32]) -> Result<Vec<Mask>, AllocError>
     ensures long { IfOk result (λ v. length v.items ≡ class_count numbers.now) }
     ensures zeros { IfOk result (λ v. (c : ℕ) → slice_index v.items c ≡ 0) }

@@ -1,5 +1,5 @@
-//! The numbers of a problem's values, in strips: runs of 256 points are four words of a function,
-//! and equal ones are kept once.
+//! The class numbers of a problem's values, in strips. A strip of 256 points is four words of a
+//! function, and equal strips are kept once.
 
 ghost use Rattle.std.specs.Prelude.{◌≡◌, ◌==◌, ℕ, ◌+◌, ◌*◌, ◌/◌, ◌^◌, ◌<◌, ◌≤◌, ◌++◌, Bool, List, length, slice_index, IfOk, IfSome, OnOk};
 ghost use Rattle.std.specs.Int.{bit_at};
@@ -14,21 +14,21 @@ use definitions::Problem;
 use std::alloc::{AllocError, Global};
 use subfunction_classes::value_numbers;
 
-/// How many chains there are.
+/// How many chains of kept strips there are, one for each hash.
 const SLOTS: usize = 4096;
 
-/// The numbers of a problem's values in strips. Equal runs of points may share a strip: `outer`
-/// names the strip of each run, function by function, and `numbers` has the strips that are kept,
-/// one after the other.
+/// The class numbers of a problem's values in strips. Equal strips may be kept once: `outer` has
+/// the number of the kept strip at each place, function by function, and `numbers` has the entries
+/// of the kept strips, one strip after the other.
 #[derive(Drop)]
 pub struct ValueStrips {
     pub outer: Vec<u32>,
     pub numbers: Vec<u32>,
 }
 
-/// Runs of 256 points. `outer` names the kept run that each is equal to, and `kept` has the words
-/// of these, four each. The kept runs of a slot are chained from its head on: there stands one more
-/// than a run's number, or 0.
+/// Strips of 256 points. `outer` has the number of the kept strip at each place, and `kept` has the
+/// words of the kept strips, four each. The kept strips with one hash are chained: `heads` has one
+/// more than the number of the last one, or 0, and `next` the same for the one before each.
 #[derive(Drop)]
 struct Columns {
     outer: Vec<u32>,
@@ -37,7 +37,7 @@ struct Columns {
     heads: Vec<u32>,
 }
 
-/// The slot of a run.
+/// The chain of a strip of four words: a hash of the words.
 #[inline(always)]
 fn slot_of(run: &[u64]) -> usize
     requires { length run.now ≡ 4 }
@@ -52,7 +52,8 @@ fn slot_of(run: &[u64]) -> usize
     (spread >> 52) as usize % SLOTS
 }
 
-/// The number of a kept run that is equal to this one.
+/// The number of the kept strip that has the four words `run`. The chain from `head` on is
+/// searched.
 #[inline(always)]
 fn find_run(kept: &[u64], next: &[u32], head: u32, run: &[u64]) -> Option<u32>
     requires whole { length kept.now ≡ length next.now * 4 }
@@ -79,7 +80,8 @@ fn find_run(kept: &[u64], next: &[u32], head: u32, run: &[u64]) -> Option<u32>
     None
 }
 
-/// Adds a run.
+/// Adds a strip of four words: its place gets the number of an equal kept strip, or else it is
+/// kept.
 #[inline(always)]
 fn push_run(columns: &mut Columns, run: &[u64]) -> Result<(), AllocError>
     requires chained { IsChained columns.old }
@@ -105,7 +107,7 @@ fn push_run(columns: &mut Columns, run: &[u64]) -> Result<(), AllocError>
     Ok(())
 }
 
-/// Adds the runs of a function.
+/// Adds the strips of a function, from its packed truth table.
 fn push_runs(columns: &mut Columns, words: &[u64]) -> Result<(), AllocError>
     requires chained { IsChained columns.old }
     requires whole { (runs : ℕ) × (length words.now ≡ runs * 4) }
@@ -120,7 +122,7 @@ fn push_runs(columns: &mut Columns, words: &[u64]) -> Result<(), AllocError>
     Ok(())
 }
 
-/// The runs of a problem.
+/// The strips of all functions of a problem.
 fn columns_of(alloc: Global, problem: &Problem) -> Result<Columns, AllocError>
     requires { 8 ≤ problem.now.inputs }
     ensures some { 0 < outputs_of problem.now }
@@ -143,7 +145,7 @@ fn columns_of(alloc: Global, problem: &Problem) -> Result<Columns, AllocError>
     Ok(columns)
 }
 
-/// The number of the value in bit b.
+/// The class number of the value in bit b: 0 if it is the value `first`, else 1.
 #[inline(always)]
 fn number_at(byte: u32, b: u32, first: bool) -> u32
     requires { b < 32 }
@@ -153,7 +155,8 @@ fn number_at(byte: u32, b: u32, first: bool) -> u32
     if value == first { 0 } else { 1 }
 }
 
-/// The numbers of each byte's eight values, one byte after the other.
+/// The class numbers of the eight values in each byte, byte by byte: 0 for the value `first`, and 1
+/// for the other one.
 fn byte_numbers(alloc: Global, first: bool) -> Result<Vec<u32>, AllocError>
     ensures long { IfOk result (λ rows. length rows.items ≡ 2048) }
     ensures rows { IfOk result (λ rows. AreByteRows first rows.items) }
@@ -166,7 +169,7 @@ fn byte_numbers(alloc: Global, first: bool) -> Result<Vec<u32>, AllocError>
     Ok(rows)
 }
 
-/// Adds the bytes of a word, the lowest first.
+/// Appends the bytes of a word, the lowest first.
 #[inline(always)]
 fn push_bytes(bytes: &mut Vec<u8>, word: u64) -> Result<(), AllocError>
     requires { AllBelow bytes.old.items 256 }
@@ -181,7 +184,7 @@ fn push_bytes(bytes: &mut Vec<u8>, word: u64) -> Result<(), AllocError>
     Ok(())
 }
 
-/// The bytes of words.
+/// The bytes of words, the lowest byte of each word first.
 fn bytes_of(alloc: Global, words: &[u64]) -> Result<Vec<u8>, AllocError>
     requires { length words.now ≤ 2 ^ 16 }
     ensures small { IfOk result (λ v. AllBelow v.items 256) }
@@ -195,7 +198,7 @@ fn bytes_of(alloc: Global, words: &[u64]) -> Result<Vec<u8>, AllocError>
     Ok(bytes)
 }
 
-/// A strip for each run of 2^low points, function by function.
+/// The class numbers of a problem's values in strips of 2^low points, each of which is kept.
 pub fn whole_strips(alloc: Global, problem: &Problem, low: u8) -> Result<ValueStrips, AllocError>
     requires inside { low ≤ problem.now.inputs }
     ensures { IfOk result (λ v. HoldsValues problem.now v.outer.items v.numbers.items (2 ^ low)) }
@@ -209,8 +212,9 @@ pub fn whole_strips(alloc: Global, problem: &Problem, low: u8) -> Result<ValueSt
     Ok(ValueStrips { outer, numbers })
 }
 
-/// The strips of 256 points, whose numbers stand in rows of eight that bytes name: 0 for the first
-/// value met, and 1 for the other one.
+/// The class numbers of a problem's values in strips of 256 points, each of which is kept as 32
+/// bytes. Row b of `rows` has the eight class numbers of byte b: 0 for the first value of the
+/// problem, and 1 for the other one.
 #[derive(Drop)]
 pub struct ByteStrips {
     pub outer: Vec<u32>,
@@ -218,7 +222,7 @@ pub struct ByteStrips {
     pub rows: Vec<u32>,
 }
 
-/// The values of a problem as bytes of kept runs.
+/// The class numbers of a problem's values in strips of 256 points, as bytes.
 pub fn byte_strips(alloc: Global, problem: &Problem) -> Result<ByteStrips, AllocError>
     requires { 8 ≤ problem.now.inputs }
     ensures named { IfOk result (λ v. AreNamed v.bytes.items v.rows.items 8) }
