@@ -1,6 +1,6 @@
 -- What the search of a cover finds.
 --     IsSiftedFromFirst cover t P order size      the order sifted from the first one that keeps the pairs, and its size
---     IsFirstManager instance m      the diagram under the first order that keeps the pairs, as it is sifted
+--     IsStartingManager instance m      the diagram under the first order that keeps the pairs, as it is sifted
 --     IsSiftingOf m s, IsSiftingFor instance s      the sifted order, and one of the same functions to bound the search
 --     IsFound instance f      the best order, the sifted one with its size, and the size under the file order
 use Rattle.std.specs.Prelude.{◌≡◌, ℕ, List, sum}
@@ -24,7 +24,7 @@ pub record IsSiftedFromFirst (cover : NamedCover) (t : TruthTables) (P : List Pa
   pub is_size : size ≡ size_under t.inputs (functions t) order
 
 -- the diagram under the first order that keeps the pairs, as it is sifted
-pub record IsFirstManager (i : SearchInput) (m : Managed) : Type 0 where
+pub record IsStartingManager (i : SearchInput) (m : Managed) : Type 0 where
   pub first : IsFirstOrder i.cover.now.inputs i.pairs.now.pairs m.order
   pub functions : m.problem ≡ i.tables.now
   pub pairs : m.pairs ≡ i.pairs.now.pairs

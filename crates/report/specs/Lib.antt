@@ -1,3 +1,3 @@
-pub mod FirstDiagrams
+pub mod StartingDiagrams
 pub mod Bests
 pub mod Found

@@ -19,7 +19,7 @@ use std::alloc::{AllocError, Global};
 use std::thread::Threads;
 use truth_table::Tables;
 
-/// The pairs that the order has to keep.
+/// The pairs that an order has to keep, as the plan lists them. They are of n variables.
 pub(crate) fn pairs_of<'a>(plan: &RunPlan<'a>, n: u8) -> Result<Pairs, PairsFault>
     requires some { 1 ≤ n }
     requires few { n ≤ 16 }
@@ -31,7 +31,7 @@ pub(crate) fn pairs_of<'a>(plan: &RunPlan<'a>, n: u8) -> Result<Pairs, PairsFaul
     }
 }
 
-/// The text of the report. The levels are those that the search found.
+/// The text of the report on what a search found.
 fn report_of(alloc: Global, instance: &SearchInput<'_>, found: &Found) -> Result<String, AllocError>
     requires { IsFound instance.now found.now }
     ensures { IfOk result
@@ -72,7 +72,7 @@ fn certificate_of(
     Ok(Some(text))
 }
 
-/// The texts of the answer.
+/// The report on a cover, and the certificate if `certify` is true.
 pub(crate) fn answer_texts<R: Threads + Sync>(
     rt: &R,
     alloc: Global,

@@ -5,7 +5,7 @@ ghost use Rattle.definitions.specs.Diagrams.{nodes_at};
 ghost use Rattle.definitions.specs.Orders.{IsOrder};
 ghost use Rattle.dd_builder.specs.Building.{HasLevelCounts, IsDiagramOf};
 ghost use Rattle.pla_reader.specs.Covers.{functions_of};
-ghost use Rattle.report.specs.FirstDiagrams.{IsFirstDiagram};
+ghost use Rattle.report.specs.StartingDiagrams.{IsStartingDiagram};
 ghost use Rattle.report_texts.specs.Texts.{file_order_levels};
 
 use crate::search_input::SearchInput;
@@ -17,7 +17,7 @@ use std::alloc::{AllocError, Global};
 use std::thread::Threads;
 use truth_table::reduced_diagram;
 
-/// The level counts of a diagram, one a level of its order.
+/// The level counts of a diagram, one for each level.
 fn levels_of(alloc: Global, diagram: &Diagram) -> Result<Vec<u32>, AllocError>
     requires { length diagram.now.order ≤ 16 }
     ensures long { IfOk result (λ v. length v.items ≡ length diagram.now.order) }
@@ -30,8 +30,8 @@ fn levels_of(alloc: Global, diagram: &Diagram) -> Result<Vec<u32>, AllocError>
     counts[..diagram.order().len()].to_vec(alloc)
 }
 
-/// The reduced diagram of the cover's functions under an order: of small truth tables straight from
-/// these, else in a store.
+/// The reduced diagram of the cover's functions under an order. From small truth tables it is made
+/// directly, else in a store.
 fn diagram_under<R: Threads + Sync>(
     rt: &R,
     alloc: Global,
@@ -58,36 +58,36 @@ fn diagram_under<R: Threads + Sync>(
     )
 }
 
-/// The diagram under the first order that keeps the pairs.
-pub(crate) fn first_diagram<R: Threads + Sync>(
+/// The diagram under the starting order, the first order that keeps the pairs.
+pub(crate) fn starting_diagram<R: Threads + Sync>(
     rt: &R,
     alloc: Global,
     instance: &SearchInput<'_>,
 ) -> Result<Diagram, AllocError>
-    ensures { IfOk result (IsFirstDiagram instance.now.cover.now instance.now.pairs.now.pairs) }
+    ensures { IfOk result (IsStartingDiagram instance.now.cover.now instance.now.pairs.now.pairs) }
 {
     let order = instance.pairs.first_order(alloc)?;
     let diagram = diagram_under(rt, alloc, instance, &order)?;
     Ok(diagram)
 }
 
-/// The level counts under the file order, off the diagram under the first order if that is the file
-/// order, else off one that is built under it.
+/// The level counts under the file order. `starting` is the diagram under the starting order, which
+/// has them if that is the file order; else a diagram is built under the file order.
 pub(crate) fn file_order_levels_of<R: Threads + Sync>(
     rt: &R,
     alloc: Global,
     instance: &SearchInput<'_>,
-    first: &Diagram,
+    starting: &Diagram,
 ) -> Result<Vec<u32>, AllocError>
-    requires first { HasLevelCounts instance.now.cover.now.inputs
-        (functions_of instance.now.cover.now) first.now.order first.now.graph }
-    requires long { length first.now.order ≡ instance.now.cover.now.inputs }
+    requires starting { HasLevelCounts instance.now.cover.now.inputs
+        (functions_of instance.now.cover.now) starting.now.order starting.now.graph }
+    requires long { length starting.now.order ≡ instance.now.cover.now.inputs }
     ensures counts { IfOk result (λ v. v.items ≡ file_order_levels instance.now.cover.now) }
     ensures few { IfOk result (λ v. length v.items ≤ 16) }
 {
     let order = Order::file_order(alloc, instance.cover.inputs())?;
-    if first.order().variables() == order.variables() {
-        let levels = levels_of(alloc, first)?;
+    if starting.order().variables() == order.variables() {
+        let levels = levels_of(alloc, starting)?;
         return Ok(levels);
     }
     let diagram = diagram_under(rt, alloc, instance, &order)?;

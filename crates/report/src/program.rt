@@ -15,8 +15,8 @@ use std::fs;
 use std::rt::Files;
 use std::thread::Threads;
 
-/// Opens the file, makes that of the certificate, and carries out the plan. A count makes no
-/// certificate.
+/// Opens the PLA file, creates the certificate's file, and carries out the plan. With `--count` no
+/// certificate is made.
 fn run_on_files<'a, R: Files + AllocGlobal + Threads + Sync, W: CountedWrite>(
     rt: &R,
     line: &Line<'a>,

@@ -13,7 +13,8 @@ use report_texts::{RunTexts, counts_of, write_texts};
 use std::alloc::Global;
 use std::thread::Threads;
 
-/// The texts of a cover that the plan wants; a certificate only if it has a writer.
+/// The texts that the plan asks for: the counts, or the report with the certificate if `certify` is
+/// true.
 fn planned_texts<'a, R: Threads + Sync>(
     rt: &R,
     alloc: Global,

@@ -1,13 +1,14 @@
-//! The search of a cover: sifting bounds it, while workers prepare it.
+//! The search of a cover: sifting finds a bound for it, while workers prepare it. Sifting starts
+//! from the diagram under the starting order, the first order that keeps the pairs.
 
 ghost use Rattle.std.specs.Prelude.{◌≡◌, IfOk, sum};
 ghost use Rattle.std.specs.Thread.{IsSync};
-ghost use Rattle.report.specs.Found.{IsFirstManager, IsFound, IsSiftingFor, IsSiftingOf};
-ghost use Rattle.report.specs.FirstDiagrams.{IsFirstDiagram};
+ghost use Rattle.report.specs.Found.{IsStartingManager, IsFound, IsSiftingFor, IsSiftingOf};
+ghost use Rattle.report.specs.StartingDiagrams.{IsStartingDiagram};
 ghost use Rattle.report_texts.specs.Texts.{file_order_levels};
 
 use crate::best::{Best, best_order, small_best};
-use crate::diagrams::{file_order_levels_of, first_diagram};
+use crate::diagrams::{file_order_levels_of, starting_diagram};
 use crate::search_input::SearchInput;
 use order_model::{Diagram, Limit, LowerBound, Order, Workers, total};
 use order_solve::{Preparation, Renaming, prepare, renaming_of};
@@ -18,7 +19,7 @@ use std::alloc::{AllocError, Global};
 use std::thread;
 use std::thread::Threads;
 
-/// The order that sifting finds and its size, and the order whose size bounds the search.
+/// The order of one pass of sifting with its size, and the order whose size bounds the search.
 #[derive(Drop)]
 pub(crate) struct Sifting {
     pub(crate) sifted: Order,
@@ -26,7 +27,8 @@ pub(crate) struct Sifting {
     pub(crate) bound: Sifted,
 }
 
-/// Sifts, and sifts on for the bound.
+/// The order of one pass of sifting, and the order whose size bounds the search, which sifting goes
+/// on to from there.
 fn sift<R: Threads + Sync>(
     rt: &R,
     alloc: Global,
@@ -46,22 +48,23 @@ fn sift<R: Threads + Sync>(
     })
 }
 
-/// The diagram under the first order that keeps the pairs, to be sifted.
+/// The manager, to be sifted, of the diagram under the starting order.
 fn manager_of(
     alloc: Global,
     instance: &SearchInput<'_>,
-    first: Diagram,
+    starting: Diagram,
 ) -> Result<Manager, AllocError>
-    requires { IsFirstDiagram instance.now.cover.now instance.now.pairs.now.pairs first }
-    ensures { IfOk result (IsFirstManager instance.now) }
+    requires { IsStartingDiagram instance.now.cover.now instance.now.pairs.now.pairs starting }
+    ensures { IfOk result (IsStartingManager instance.now) }
 {
     prove!(instance.cover.outputs() <= 16);
     diagrams_have_their_functions_tables();
-    let manager = Manager::with_pairs(alloc, first, instance.pairs.copied())?;
+    let manager = Manager::with_pairs(alloc, starting, instance.pairs.copied())?;
     Ok(manager)
 }
 
-/// Prepares the search. Before a bound is known the size under the first order serves.
+/// Prepares the search with `size`, that of the starting order, as the bound: it is called before
+/// sifting has found one.
 fn prepare_below<'a, R: Threads + Sync>(
     rt: &R,
     alloc: Global,
@@ -85,7 +88,8 @@ fn prepare_below<'a, R: Threads + Sync>(
     Ok(prepared)
 }
 
-/// Sifts and prepares at the same time, or one after the other if that keeps one worker busy.
+/// Sifts and prepares the search, at the same time, or one after the other if that keeps one worker
+/// busy.
 fn sift_and_prepare<'a, R: Threads + Sync>(
     rt: &R,
     alloc: Global,
@@ -93,7 +97,7 @@ fn sift_and_prepare<'a, R: Threads + Sync>(
     renaming: &'a Renaming<'a>,
     manager: Manager,
 ) -> Result<(Sifting, Preparation<'a>), AllocError>
-    requires manager { IsFirstManager instance.now manager }
+    requires manager { IsStartingManager instance.now manager }
     requires renaming { renaming.now.problem ≡ instance.now.tables.now }
     ensures sifting { IfOk result (λ r. IsSiftingFor instance.now r.0) }
     ensures prepared { IfOk result (λ r. r.1.problem ≡ instance.now.tables.now) }
@@ -118,22 +122,22 @@ fn sift_and_prepare<'a, R: Threads + Sync>(
     Ok((sifting?, prepared?))
 }
 
-/// The size under the file order, from the diagram under the first order that keeps the pairs.
+/// The size under the file order. `starting` is the diagram under the starting order.
 fn file_size_of<R: Threads + Sync>(
     rt: &R,
     alloc: Global,
     instance: &SearchInput<'_>,
-    first: &Diagram,
+    starting: &Diagram,
 ) -> Result<u64, AllocError>
-    requires { IsFirstDiagram instance.now.cover.now instance.now.pairs.now.pairs first.now }
+    requires { IsStartingDiagram instance.now.cover.now instance.now.pairs.now.pairs starting.now }
     ensures { IfOk result (λ size. size ≡ sum (file_order_levels instance.now.cover.now)) }
 {
-    let levels = file_order_levels_of(rt, alloc, instance, first)?;
+    let levels = file_order_levels_of(rt, alloc, instance, starting)?;
     Ok(total(&levels))
 }
 
-/// What the search finds of a cover: the best order, the sifted one with its size, and the size
-/// under the file order.
+/// The result of a search: the best order, the sifted order with its size, and the size under the
+/// file order.
 #[derive(Drop)]
 pub(crate) struct Found {
     pub best: Best,
@@ -142,14 +146,14 @@ pub(crate) struct Found {
     pub file_size: u64,
 }
 
-/// What the search finds of a problem whose truth tables are small, by the calling thread alone.
+/// The result of a search of small truth tables, by the calling thread alone.
 fn search_small(
     alloc: Global,
     instance: &SearchInput<'_>,
     manager: Manager,
     file_size: u64,
 ) -> Result<Found, AllocError>
-    requires manager { IsFirstManager instance.now manager }
+    requires manager { IsStartingManager instance.now manager }
     requires file { file_size ≡ sum (file_order_levels instance.now.cover.now) }
     ensures { IfOk result (IsFound instance.now) }
 {
@@ -168,8 +172,8 @@ fn search_small(
     })
 }
 
-/// Searches, from the diagram under the first order that keeps the pairs: the first order of the
-/// fewest nodes, with the entries of its certificate if these are wanted.
+/// Searches for the first order of the fewest nodes among those that keep the pairs, with the
+/// entries of its certificate if these are wanted.
 pub(crate) fn search<R: Threads + Sync>(
     rt: &R,
     alloc: Global,
@@ -177,9 +181,9 @@ pub(crate) fn search<R: Threads + Sync>(
 ) -> Result<Found, AllocError>
     ensures { IfOk result (IsFound instance.now) }
 {
-    let first = first_diagram(rt, alloc, instance)?;
-    let file_size = file_size_of(rt, alloc, instance, &first)?;
-    let manager = manager_of(alloc, instance, first)?;
+    let starting = starting_diagram(rt, alloc, instance)?;
+    let file_size = file_size_of(rt, alloc, instance, &starting)?;
+    let manager = manager_of(alloc, instance, starting)?;
     if is_small(instance.tables.problem()) {
         return search_small(alloc, instance, manager, file_size);
     }

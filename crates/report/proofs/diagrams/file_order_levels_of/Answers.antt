@@ -20,8 +20,8 @@ returns-then-eq-clause-counts g c =
     let same : c.variables.result.now ≡ c.variables-2.result.now =
     (slice_eq-Decides Decides-eqb c.variables.result.now c.variables-2.result.now c.eq.result c.eq.ensures).0 c.if-eq.true in
     let order = sym (c.variables.ensures.value ∙ c.order.ensures.value) ∙ same ∙ c.variables-2.ensures.value in
-    let read = counts_read cover.inputs (functions_of cover) c.args.first.now.order c.in_ok-levels.levels.items c.args.first.now.graph
-    c.in_ok-levels.ensures.long c.in_ok-levels.ensures.counts c.requires.first in
+    let read = counts_read cover.inputs (functions_of cover) c.args.starting.now.order c.in_ok-levels.levels.items c.args.starting.now.graph
+    c.in_ok-levels.ensures.long c.in_ok-levels.ensures.counts c.requires.starting in
     read ∙ ap (level_counts cover.inputs (functions_of cover))
     (order ∙ c.in_ok-order.ensures ∙ ap (λ k. variables k) c.inputs.ensures.value)
 

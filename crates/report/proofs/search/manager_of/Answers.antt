@@ -10,7 +10,7 @@ pub with_pairs-requires-clause-few : goal.with_pairs-requires-clause-few
 with_pairs-requires-clause-few c =
     let cover = c.args.instance.now.cover.now in
     let long = c.diagrams_have_their_functions_tables.ensures.roots cover.inputs (functions_of cover)
-    c.args.first.order c.args.first c.requires.diagram in
+    c.args.starting.order c.args.starting c.requires.diagram in
     let outputs = functions_long cover in
     let few = c.outputs.ensures.few in
     let value = c.outputs.ensures.value in
@@ -23,8 +23,8 @@ pub returns : goal.returns
 returns c =
     let cover = c.args.instance.now.cover.now in
     let tables =
-    c.diagrams_have_their_functions_tables.ensures.tables cover.inputs (functions_of cover) c.args.first.order
-    c.args.first c.requires.long c.requires.diagram in
+    c.diagrams_have_their_functions_tables.ensures.tables cover.inputs (functions_of cover) c.args.starting.order
+    c.args.starting c.requires.long c.requires.diagram in
     record {
       first = subst (IsFirstOrder cover.inputs c.args.instance.now.pairs.now.pairs) (sym c.in_ok-manager.ensures.order) c.requires.starts;
       functions = c.in_ok-manager.ensures.functions ∙ tables

@@ -4,7 +4,7 @@ use Rattle.definitions.specs.Pairs.{IsFirstOrder}
 use Rattle.dd_builder.specs.Building.{HasLevelCounts}
 use Rattle.pla_reader.specs.Covers.{functions_of}
 use Rattle.definitions.proofs.Widths.SizeBounds.{order_length}
-use Rattle.report.proofs.diagrams.first_diagram.Goals as goal
+use Rattle.report.proofs.diagrams.starting_diagram.Goals as goal
 
 pub diagram_under-requires-clause-order : goal.diagram_under-requires-clause-order
 diagram_under-requires-clause-order g c κs within = rw c.args.instance.now.are_its_pairs at c.in_ok-order.ensures.is_order
