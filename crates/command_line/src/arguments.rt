@@ -1,4 +1,4 @@
-//! What both command lines are made of.
+//! Parts that both command lines share.
 
 ghost use Rattle.std.specs.Prelude.{◌≡◌, false};
 ghost use Rattle.clap.specs.Words.{rule_of};
@@ -10,7 +10,7 @@ use clap::error::ErrorKind;
 use clap::{Arg, Command};
 use std::alloc::Global;
 
-/// A path that has to be there.
+/// A required argument, the path of a file.
 pub(crate) fn required_path<'a>(alloc: Global, name: &'a str, help: &'a str) -> Arg<'a>
     ensures rule { rule_of result ≡ required_rule name.entry.now }
     ensures local { result.global ≡ false }
@@ -18,7 +18,8 @@ pub(crate) fn required_path<'a>(alloc: Global, name: &'a str, help: &'a str) -> 
     Arg::new(alloc, name).required(true).help(help)
 }
 
-/// The fault of words that lack an argument. Clap's own rules find it first.
+/// The usage fault of words that lack an argument. No words come to it, since clap refuses them
+/// first.
 pub(crate) fn missing_argument<'a>(mut command: Command<'a>, what: &str) -> Usage
     ensures { IsNoHelp result }
 {

@@ -33,7 +33,7 @@ pub struct Line<'a> {
     pub cert: Option<&'a str>,
 }
 
-/// `--workers W`.
+/// The option `--workers W`.
 fn workers_option<'a>(alloc: Global) -> Arg<'a>
     ensures rule { rule_of result ≡ workers_rule }
     ensures local { result.global ≡ false }
@@ -46,7 +46,7 @@ fn workers_option<'a>(alloc: Global) -> Arg<'a>
         .default_value("4")
 }
 
-/// An option with one value.
+/// The option `--NAME VALUE`, which takes one value.
 fn option<'a>(alloc: Global, name: &'a str, value: &'a str, help: &'a str) -> Arg<'a>
     ensures rule { rule_of result ≡ option_rule name.entry.now }
     ensures local { result.global ≡ false }
@@ -57,7 +57,7 @@ fn option<'a>(alloc: Global, name: &'a str, value: &'a str, help: &'a str) -> Ar
         .help(help)
 }
 
-/// `--count`.
+/// The option `--count`.
 fn count_option<'a>(alloc: Global) -> Arg<'a>
     ensures rule { rule_of result ≡ count_rule }
     ensures local { result.global ≡ false }
@@ -70,7 +70,7 @@ fn count_option<'a>(alloc: Global) -> Arg<'a>
         )
 }
 
-/// The options after others.
+/// The command with all options of minorder added.
 fn with_options<'a>(alloc: Global, command: Command<'a>) -> Result<Command<'a>, AllocError>
     ensures { IfOk result (λ c. app_of c ≡ options_of (app_of command.entry)) }
 {
@@ -93,7 +93,7 @@ fn with_options<'a>(alloc: Global, command: Command<'a>) -> Result<Command<'a>, 
         .arg(above)
 }
 
-/// The command that clap matches.
+/// The command line of minorder, as clap matches it.
 fn command<'a>(alloc: Global) -> Result<Command<'a>, AllocError>
     ensures { IfOk result (λ c. app_of c ≡ minorder) }
 {
@@ -110,7 +110,8 @@ fn command<'a>(alloc: Global) -> Result<Command<'a>, AllocError>
     with_options(alloc, command)?.arg(file)
 }
 
-/// What the matches of the command hold.
+/// The command line that clap's matches state. None if the file or the number of workers is
+/// missing.
 fn line_of<'a>(matches: &ArgMatches<'a>) -> Option<Line<'a>>
     ensures line { IfSome result
         (IsLineBy (first_value (found_of matches.now)) (one_text (found_of matches.now))) }
@@ -134,7 +135,7 @@ fn line_of<'a>(matches: &ArgMatches<'a>) -> Option<Line<'a>>
 }
 
 impl<'a> Line<'a> {
-    /// What the words after the program's name ask for, by clap's rules.
+    /// The command line that the words after the program's name state, by clap's rules.
     ///
     /// Options stand before or after the file, each at most once. An option's value may stand in
     /// the same word, as in `--workers=2`.

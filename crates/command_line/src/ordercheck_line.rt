@@ -19,7 +19,7 @@ pub struct CheckLine<'a> {
     pub cert: &'a str,
 }
 
-/// The command that clap matches.
+/// The command line of ordercheck, as clap matches it.
 fn command<'a>(alloc: Global) -> Result<Command<'a>, AllocError>
     ensures { IfOk result (λ c. app_of c ≡ ordercheck) }
 {
@@ -37,7 +37,7 @@ fn command<'a>(alloc: Global) -> Result<Command<'a>, AllocError>
         ))
 }
 
-/// What the matches of the command hold.
+/// The command line that clap's matches state. None if one of the two paths is missing.
 fn line_of<'a>(matches: &ArgMatches<'a>) -> Option<CheckLine<'a>>
     ensures line { IfSome result (IsCheckLineBy (first_value (found_of matches.now))) }
     ensures lacks { IsNone result →
@@ -50,7 +50,7 @@ fn line_of<'a>(matches: &ArgMatches<'a>) -> Option<CheckLine<'a>>
 }
 
 impl<'a> CheckLine<'a> {
-    /// What the words after the program's name ask for, by clap's rules.
+    /// The command line that the words after the program's name state, by clap's rules.
     pub fn of_words(alloc: Global, words: &'a [&'a str]) -> Result<CheckLine<'a>, Usage>
         ensures line { IfOk result (IsCheckLineOf (texts words.now)) }
         ensures refused { IfErr result (Explains ordercheck LacksPaths (texts words.now)) }

@@ -24,7 +24,7 @@ pub enum Refused {
 /// table.
 const FIRST_ROOM: usize = 1 << 22;
 
-/// The bytes of a device, read to its end; one with more than the limit is too long.
+/// The bytes of a device, read to its end. An error if there are more than `limit`.
 pub fn read_all<R: CountedRead>(
     alloc: Global,
     device: &mut R,
@@ -58,7 +58,7 @@ pub fn read_all<R: CountedRead>(
     }
 }
 
-/// Writes a whole text. After a failure what was written is a beginning of it.
+/// Writes a whole text. After an error the device holds a beginning of it.
 pub fn write_whole<W: CountedWrite>(device: &mut W, text: &[u8]) -> Result<(), Refused>
     ensures ok { OnOk result (Appends (W.contents device.old) (W.contents device.new) text.now) }
     ensures ok_calls { OnOk result (W.failures device.new ≡ W.failures device.old) }

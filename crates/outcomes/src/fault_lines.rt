@@ -35,7 +35,7 @@ fn program_text(program: Program) -> &'static str
     }
 }
 
-/// What is wrong with a line of a file.
+/// The name of a fault of a line of the PLA file.
 fn file_text(fault: FileFault) -> &'static str
     ensures kind { result.now ≡ file_kind fault }
     ensures short { length result.now ≤ 16 }
@@ -58,7 +58,7 @@ fn file_text(fault: FileFault) -> &'static str
     }
 }
 
-/// What is wrong with a line of a certificate.
+/// The name of a fault of a line of a certificate.
 fn certificate_text(fault: CertificateFault) -> &'static str
     ensures kind { result.now ≡ certificate_kind fault }
     ensures short { length result.now ≤ 12 }
@@ -84,7 +84,7 @@ fn push_number(text: &mut Text, label: &str, number: usize)
     text.push_str(digits.format(number));
 }
 
-/// Appends what is wrong with a list of pairs.
+/// Appends the name of a fault of a list of pairs.
 fn push_pairs(text: &mut Text, fault: PairsFault)
     requires { array_string_len text.old ≤ 12 }
     ensures words { text.new.bytes ≡ text.old.bytes ++ pairs_kind fault }
@@ -97,7 +97,7 @@ fn push_pairs(text: &mut Text, fault: PairsFault)
     }
 }
 
-/// Appends the words of a fault.
+/// Appends the words that name a fault.
 fn push_fault(text: &mut Text, fault: Fault)
     requires { array_string_len text.old ≤ 12 }
     ensures words { text.new.bytes ≡ text.old.bytes ++ fault_words fault }
@@ -123,7 +123,7 @@ fn push_fault(text: &mut Text, fault: Fault)
     }
 }
 
-/// The line that names a fault.
+/// The line that a program writes when a run is refused: the program's name and the fault.
 #[tactic(auto, unfolding(crate::specs::Messages::fault_line))]
 pub(crate) fn fault_line(program: Program, fault: Fault) -> Text
     ensures { result.bytes ≡ line_of program fault }

@@ -40,7 +40,8 @@ pub fn texts_of<'a>(alloc: Global, words: &'a [String]) -> Result<Vec<&'a str>, 
     }
 }
 
-/// Writes why a program was refused, which takes no memory. A failure of the writer has no effect.
+/// Writes the line that names a fault. It takes no memory, and a failure of the writer has no
+/// effect.
 pub fn write_fault<E: CountedWrite>(err: &mut E, program: Program, fault: Fault)
     ensures { Receives (line_of program fault) (writer (E.contents err.old) (E.failures err.old))
         (writer (E.contents err.new) (E.failures err.new)) }

@@ -11,7 +11,7 @@ use std::alloc::{AllocError, Global};
 use std::thread::Threads;
 use truth_table::Tables;
 
-/// The level counts of a cover under the file order, top first, by plain cofactors.
+/// The level counts of a cover under the file order, top first, directly from the truth tables.
 fn file_order_counts<R: Threads + Sync>(
     rt: &R,
     alloc: Global,

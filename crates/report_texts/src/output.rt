@@ -15,7 +15,7 @@ pub struct RunTexts {
     pub certificate: Option<String>,
 }
 
-/// Writes the certificate, if there are a text and a writer.
+/// Writes the text of a certificate, if there is one and it has a writer.
 fn write_certificate<C: CountedWrite>(
     cert: &mut Option<C>,
     text: &Option<String>,
@@ -38,8 +38,7 @@ fn write_certificate<C: CountedWrite>(
     }
 }
 
-/// Writes the texts of a run, the certificate first, if it has a writer. The report isn't begun
-/// before the certificate is out.
+/// Writes the texts of a run: first the certificate, if it has a writer, and then the report.
 pub fn write_texts<W: CountedWrite, C: CountedWrite>(
     texts: &RunTexts,
     out: &mut W,

@@ -59,7 +59,7 @@ fn push_variables(text: &mut String, variables: &[VarIx]) -> Result<(), AllocErr
     Ok(())
 }
 
-/// Appends the name of a variable.
+/// Appends the name of a variable: entry x of `names` is that of variable x.
 fn push_name(text: &mut String, names: &[String], variable: VarIx) -> Result<(), AllocError>
     requires { variable < length names.now }
     ensures { OnOk result
@@ -103,7 +103,7 @@ fn push_names(text: &mut String, names: &[String], variables: &[VarIx]) -> Resul
     Ok(())
 }
 
-/// Appends the two lines of an order and its names.
+/// Appends the two lines of an order: its variables, and their names.
 fn push_order(text: &mut String, names: &[String], order: &[VarIx]) -> Result<(), AllocError>
     requires { All (λ x. x < length names.now) order.now }
     ensures { OnOk result
@@ -118,7 +118,7 @@ fn push_order(text: &mut String, names: &[String], order: &[VarIx]) -> Result<()
     Ok(())
 }
 
-/// Appends the two lines of level counts, top first, and their sum.
+/// Appends the two lines of level counts: the counts, top first, and their sum.
 fn push_counts(text: &mut String, levels: &[u32]) -> Result<(), AllocError>
     requires { length levels.now ≤ 16 }
     ensures { OnOk result
@@ -131,7 +131,7 @@ fn push_counts(text: &mut String, levels: &[u32]) -> Result<(), AllocError>
     Ok(())
 }
 
-/// What the seven lines of a report say.
+/// What the seven lines of a report state.
 #[derive(Drop)]
 pub struct Report<'a> {
     pub names: &'a [String],
@@ -142,7 +142,7 @@ pub struct Report<'a> {
     pub file_size: u64,
 }
 
-/// Appends the three lines of the sifted order, its size and the size under the file order.
+/// Appends three lines: the sifted order, its size, and the size under the file order.
 fn push_sizes(text: &mut String, report: &Report<'_>) -> Result<(), AllocError>
     ensures { OnOk result
         (string_bytes text.new ≡ string_bytes text.old
@@ -173,7 +173,7 @@ pub(crate) fn count_text(alloc: Global, levels: &[u32]) -> Result<String, AllocE
     Ok(text)
 }
 
-/// The names' bytes together, each with one more.
+/// The number of bytes that names take with a space after each.
 fn names_room(names: &[String]) -> usize {
     let mut room: usize = 0;
     for name in names {
