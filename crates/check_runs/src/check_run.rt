@@ -14,7 +14,7 @@ use std::alloc::{AllocError, Global};
 use std::thread::Threads;
 use truth_table::Tables;
 
-/// Why the bytes of a certificate aren't there.
+/// The fault of a certificate whose bytes can't be read.
 fn fault_of_bytes(refused: Refused) -> Fault
     ensures { result ≡ bytes_fault refused }
 {
@@ -43,7 +43,7 @@ fn read_certificate<C: CountedRead>(alloc: Global, cert: &mut C) -> Result<Certi
     }
 }
 
-/// The line of the verdict on a certificate, and how a check ends that writes it.
+/// The outcome of a check, and the line that it writes.
 fn verdict_on<R: Threads + Sync>(
     rt: &R,
     alloc: Global,
