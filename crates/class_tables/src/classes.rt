@@ -110,7 +110,7 @@ impl<'a> Classes<'a> {
         Ok(width)
     }
 
-    /// The width of a variable over the set, in rows that are lent. The tally rises by one.
+    /// The width of a variable over the set, counted in working memory. The tally rises by one.
     pub fn width_in(&self, x: VarIx, scratch: &mut Scratch, tally: &mut Tally) -> u32
         requires inside { x < self.now.problem.inputs }
         requires new { IsFalse (has (set_of self.now) x) }
@@ -153,7 +153,7 @@ impl<'a> Classes<'a> {
         self.compact_by(alloc, x, false)
     }
 
-    /// The classes of the set with a variable more, whose pairs are numbered in an `IndexSet`.
+    /// The classes with one more variable in the set, whose pairs are numbered in an `IndexSet`.
     /// Slower than `compact`: only tests call it, to compare.
     pub fn compact_indexed(&self, alloc: Global, x: VarIx) -> Result<Classes<'a>, AllocError>
         requires inside { x < self.now.problem.inputs }

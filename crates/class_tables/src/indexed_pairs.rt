@@ -11,7 +11,7 @@ use indexmap::IndexSet;
 use pair_numbering::{EntryPairs, MaskedNumbers, MaskedPairs, join_masks, number_with_masks};
 use std::alloc::{AllocError, Global};
 
-/// The numbers of the pairs, in an `IndexSet`.
+/// The number of each pair by first occurrence, found in an `IndexSet`.
 fn index_pairs(alloc: Global, entries: &EntryPairs<'_>) -> Result<Vec<u32>, AllocError>
     ensures { IfOk result (λ v. v.items ≡
         ranks same_pair (places.pairs entries.now.numbers (2 ^ entries.now.rank))) }
@@ -26,7 +26,7 @@ fn index_pairs(alloc: Global, entries: &EntryPairs<'_>) -> Result<Vec<u32>, Allo
     Ok(out)
 }
 
-/// The pair of each number: a pair with the next number is the first of its kind.
+/// The pair of each number, where `numbered` has the number of each pair by first occurrence.
 fn distinct_pairs(
     alloc: Global,
     entries: &EntryPairs<'_>,
@@ -46,7 +46,8 @@ fn distinct_pairs(
     Ok(pairs)
 }
 
-/// The numbers of the pairs and their masks, in an `IndexSet`.
+/// The number of each pair by first occurrence, found in an `IndexSet`, and the mask of each
+/// number.
 fn number_pairs_by_index(
     alloc: Global,
     pairs: &MaskedPairs<'_>,
@@ -63,8 +64,8 @@ fn number_pairs_by_index(
     })
 }
 
-/// The numbers of the pairs and their masks: in an `IndexSet` if `indexed` is true, else in the
-/// fastest way.
+/// The number of each pair by first occurrence, and the mask of each number: found in an `IndexSet`
+/// if `indexed` is true, else in the fastest way.
 pub(crate) fn number_by(
     alloc: Global,
     pairs: &MaskedPairs<'_>,

@@ -1,4 +1,4 @@
-//! Counts of masks that take no memory: by chains and marks in rows that are lent.
+//! Counts of distinct pairs by their masks, in working memory that is made once.
 
 ghost use Rattle.std.specs.Prelude.{◌≡◌, ◌==◌, ℕ, ◌+◌, ◌*◌, ◌/◌, ◌^◌, ◌<◌, ◌≤◌, length, IfOk};
 ghost use Rattle.class_tables.specs.Scratch.{AreLong, CountsMasks, most_entries};
@@ -11,7 +11,8 @@ use std::alloc::{AllocError, Global};
 use std::marker::Model;
 use subfunction_classes::join_mask;
 
-/// Rows for the numbering of a problem's class tables: five words for each entry of the largest.
+/// Working memory for counts of pairs in a problem's class tables: five words for each entry of the
+/// largest table.
 #[derive(Drop)]
 pub struct Scratch {
     heads: Vec<u32>,
@@ -34,7 +35,7 @@ impl Model for Scratch {
 }
 
 impl Scratch {
-    /// Rows for all class tables of a problem.
+    /// Working memory for all class tables of a problem.
     pub fn of(alloc: Global, problem: &Problem) -> Result<Scratch, AllocError>
         ensures { IfOk result (λ s. s ≡ most_entries problem.now) }
     {
@@ -48,7 +49,7 @@ impl Scratch {
         })
     }
 
-    /// How many distinct pairs have a mask with `x`.
+    /// How many distinct pairs have variable x in their joined mask.
     pub fn count_joined(&mut self, pairs: &MaskedPairs<'_>) -> u32
         requires few { length pairs.now.masks.now ≤ length pairs.now.entries.numbers }
         requires long { length pairs.now.entries.numbers ≤ self.old }
@@ -67,7 +68,8 @@ impl Scratch {
     }
 }
 
-/// How many distinct pairs have a mask with `x`, in rows that are long enough.
+/// How many distinct pairs have variable x in their joined mask. The rows are working memory, long
+/// enough for the pairs.
 fn count_in(
     pairs: &MaskedPairs<'_>,
     heads: &mut [u32],
@@ -94,7 +96,8 @@ fn count_in(
     count_firsts(pairs, first)
 }
 
-/// How many pairs that are the first of their kind have a mask with `x`.
+/// How many distinct pairs have variable x in their joined mask. `first[j]` is the first pair that
+/// is equal to pair j, so a distinct pair is counted at the j with `first[j] = j`.
 fn count_firsts(pairs: &MaskedPairs<'_>, first: &[u32]) -> u32
     requires first { AreFirsts pairs.now.entries first.now }
     ensures { CountsMasks pairs.now.masks.now pairs.now.x
