@@ -15,7 +15,7 @@ LONG_CONTRACT, MANY_PARAMETERS, WINDOW, LONG_FILE = 10, 7, 5, 400
 COMMENT_COLUMNS, PYTHON_COLUMNS, PROOF_COLUMNS = 100, 130, 160
 # how many there may be of each
 MOST_CONTRACTS, MOST_PARAMETERS = 10, 0
-MOST_WINDOWS_OF_TWO, MOST_WINDOWS_OF_ONE = 7, 49
+MOST_WINDOWS_OF_TWO, MOST_WINDOWS_OF_ONE = 7, 37
 MOST_FILES, MOST_UNUSED, MOST_WIDE = 4, 0, 0
 NO_CODE = ("//", "use ", "ghost use ", "pub use ", "mod ", "pub mod ", "#!")
 FUNCTION = re.compile(r"^\s*(pub(\([a-z]+\))? )?(const )?(unsafe )?(extern \"C\" )?fn (\w+)")

@@ -5,7 +5,7 @@
 --     FillsOwn t w old new      the row of the table's own set is filled
 --     AreAsked p b needed      what is asked of a block's sets are their members
 --     AreRowsOf p b needed rows      the rows hold the widths that are asked
-use Rattle.std.specs.Prelude.{◌≡◌, ◌≢◌, ℕ, ◌+◌, ◌*◌, ◌^◌, ◌<◌, ◌≤◌, List, length, slice_index, bit_and}
+use Rattle.std.specs.Prelude.{◌≡◌, ◌≢◌, ℕ, ◌+◌, ◌*◌, ◌<◌, List, length, slice_index, bit_and}
 use Rattle.std.specs.Int.{bit_at}
 use Rattle.definitions.specs.Problems.{TruthTables}
 use Rattle.subfunction_classes.specs.Table.{ClassesOf}

@@ -14,6 +14,9 @@ const SPREAD: u64 = 0x9E37_79B9_7F4A_7C15;
 /// The most pairs of variables that change places.
 const MOST_CHANGES: u8 = 8;
 
+/// Class tables of so few distinct strips are small under any variables.
+const FEW_STRIPS: u32 = 16;
+
 /// A hash with one word more.
 fn mixed(hash: u64, word: u64) -> u64 {
     let product = (hash ^ word).wrapping_mul(SPREAD);
@@ -211,12 +214,16 @@ fn exchange(words: &mut [u64], low: VarIx, high: VarIx)
 }
 
 /// Eight variables for the lowest places, if others than those that are there leave at most three
-/// quarters of the distinct strips: from the lowest ones by one change after another, each the best.
+/// quarters of the distinct strips: from the lowest ones by one change after another, the best each
+/// time.
 fn lowest_of(alloc: Global, problem: &Problem) -> Result<Option<Mask>, AllocError>
     requires { problem.now.inputs ≤ 16 }
 {
     let mut tables = Tables::of(alloc, problem)?;
     let first = Halves::of(alloc, &tables.words, 0)?.count();
+    if first <= FEW_STRIPS {
+        return Ok(None);
+    }
     let mut fewest = first;
     for _change in 0..MOST_CHANGES {
         match tables.best_change(alloc, problem.inputs())? {

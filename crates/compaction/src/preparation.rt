@@ -193,7 +193,9 @@ impl<'a> Preparation<'a> {
     ) -> Result<(), AllocError>
         ensures { self.new.problem ≡ self.old.problem }
     {
-        let found = self.shared.rows_by_workers(rt, alloc, requests, end, workers)?;
+        let found = self
+            .shared
+            .rows_by_workers(rt, alloc, requests, end, workers)?;
         self.take(found)
     }
 

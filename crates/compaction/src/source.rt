@@ -44,7 +44,11 @@ impl<'a> WidthSource<'a> {
 
     /// Whether all widths of a set of the renamed problem were found.
     pub fn is_found(&self, set: Mask) -> bool {
-        match self.prepared.found().rows_at(&self.places, (set % 256) as u8) {
+        match self
+            .prepared
+            .found()
+            .rows_at(&self.places, (set % 256) as u8)
+        {
             Some(byte) => byte.is_whole(set),
             None => false,
         }
@@ -61,7 +65,10 @@ impl<'a> WidthSource<'a> {
         }
         prove!(self.prepared.problem().inputs() <= 16);
         let image = self.prepared.image_of(set);
-        let byte = self.prepared.found().rows_at(&self.places, (image.set % 256) as u8)?;
+        let byte = self
+            .prepared
+            .found()
+            .rows_at(&self.places, (image.set % 256) as u8)?;
         byte.row_by_image(&image, needed)
     }
 

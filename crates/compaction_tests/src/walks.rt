@@ -20,18 +20,14 @@ fn row_by_itself(rt: &impl Abort, alloc: Global, problem: &Problem, block: &Bloc
 }
 
 /// The row of the set that is alone in a block, from a row that is found for it.
-fn row_found(
-    rt: &impl Abort,
-    alloc: Global,
-    renaming: &Renaming<'_>,
-    block: &Block,
-) -> WidthRow {
+fn row_found(rt: &impl Abort, alloc: Global, renaming: &Renaming<'_>, block: &Block) -> WidthRow {
     let inputs = renaming.problem().inputs();
     assert!(rt; inputs == block.inputs());
     assert!(rt; block.len() == 1);
     let needed = block.mask(0);
     let pairs = Pairs::none(inputs);
     let mut prepared = Preparation::of(alloc, renaming, &pairs).expect(rt, "memory");
+    assert!(rt; u32::from(needed) < 1u32 << inputs);
     assert!(rt; needed == 0x0003 && prepared.end() == 0);
     let image = prepared.image_of(needed);
     let mut requests = prepared.requests(alloc).expect(rt, "memory");
@@ -42,7 +38,9 @@ fn row_found(
     let source = prepared.source();
     assert!(rt; source.is_found(image.set));
     let mut tally = Tally::new();
-    let rows = source.block_rows(alloc, block, &[needed], &mut tally).expect(rt, "memory");
+    let rows = source
+        .block_rows(alloc, block, &[needed], &mut tally)
+        .expect(rt, "memory");
     assert!(rt; rows.len() == 1 && tally.count() == 2);
     rows[0]
 }
@@ -78,22 +76,30 @@ fn a_row_has_the_widths_of_its_set(rt: HostRuntime) {
     let _ = row_at(&rt, rt.alloc(), &numbers, 3, 0x0300);
 }
 
-/// x0 x5 + x1 x6 + x2 x7 + x3 x8 + x4 x9.
-fn five_products(rt: &impl Abort, alloc: Global) -> Problem {
-    let mut problem = Problem::new(alloc, 10, 1).expect(rt, "memory");
-    for point in 0..1024u32 {
-        if point & (point >> 5) != 0 {
+/// x0 x7 + x1 x8 + x2 x9 + x3 x10 + x4 x11 + x5 x12 + x6 x13.
+fn seven_products(rt: &impl Abort, alloc: Global) -> Problem {
+    let mut problem = Problem::new(alloc, 14, 1).expect(rt, "memory");
+    for point in 0..1u32 << 14 {
+        if point & (point >> 7) != 0 {
             set_one(rt, &mut problem, 0, point);
         }
     }
     problem
 }
 
-// With products whole among the lowest variables the truth table has two distinct strips; else four.
+// With four products among the lowest variables the truth table has two distinct strips; now 64.
 #[test]
 fn variables_are_renamed_where_that_leaves_fewer_strips(rt: HostRuntime) {
-    let products = five_products(&rt, rt.alloc());
-    assert!(rt; renaming_of(rt.alloc(), &products).expect(&rt, "memory").is_renamed());
+    let products = seven_products(&rt, rt.alloc());
+    assert!(rt;
+        renaming_of(rt.alloc(), &products)
+            .expect(&rt, "memory")
+            .is_renamed()
+    );
     let cubes = cubes(&rt, rt.alloc());
-    assert!(rt; !renaming_of(rt.alloc(), &cubes).expect(&rt, "memory").is_renamed());
+    assert!(rt;
+        !renaming_of(rt.alloc(), &cubes)
+            .expect(&rt, "memory")
+            .is_renamed()
+    );
 }

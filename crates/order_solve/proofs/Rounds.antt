@@ -1,16 +1,14 @@
 -- A worker's rounds: a claim, and the posts of its block.
 --     Working t s0 s count      what a worker keeps from s0 to s
 --     working_none, working_stays, working_round      at the start, where claims stay, after a round
-use Rattle.std.proofs.Common.{◌≡◌, ℕ, ◌<◌, ◌≤◌, ◌*◌, ◌^◌, slice_get, arith, ◌+◌, Bool, true, false, not, ◌&&◌, List, Some, inl, inr, refl, sym, ap, ◌∙◌, subst, nat_eq}
+use Rattle.std.proofs.Common.{◌≡◌, ℕ, ◌<◌, slice_get, arith, ◌+◌, Bool, true, false, not, ◌&&◌, List, Some, inl, inr, refl, sym, ap, ◌∙◌, subst, nat_eq}
 use Rattle.std.specs.List.{filter}
 use Rattle.std.proofs.lemmas.Bool.{false≢true, cases_Bool, and_parts, and_from}
-use Rattle.std.proofs.lemmas.Option.{slice_get_within}
 use Rattle.definitions.specs.Orders.{has}
 use Rattle.definitions.proofs.Lists.Orders.{has_filter}
 use Rattle.subset_layers.specs.Layers.{LayerOf, BlockOf, masks_of, blocks_of, block_masks, layer_of, low_byte}
 use Rattle.layer_core.specs.Machine.{claimed, claims_block}
 use Rattle.layer_core.specs.Instances.{InstanceOf}
-use Rattle.layer_core.proofs.Layouts.{few_blocks}
 use Rattle.layer_board.specs.Views.{BoardId, SeatOf, stepped, has_claimed, knows_filled}
 use Rattle.solutions.specs.Needs.{widths_for}
 use Rattle.solutions.proofs.Filters.{filter_none}

@@ -36,11 +36,12 @@ fn is_found(
     true
 }
 
-/// Adds what serves for the cells of a block's sets.
+/// Adds what serves for the cells of a block's sets and wasn't found yet.
 fn add_needs(
     alloc: Global,
     context: &LayerContext<'_>,
     prepared: &Preparation<'_>,
+    source: &WidthSource<'_>,
     block: &Block,
     requests: &mut Requests,
 ) -> Result<(), AllocError>
@@ -49,8 +50,9 @@ fn add_needs(
 {
     let needs = needs_of_block(alloc, context.instance, context.before, block)?;
     for (i, set) in block.masks().iter().enumerate() {
-        if needs[i] != 0 {
-            requests.add_image(&prepared.image_of(*set), needs[i]);
+        let image = prepared.image_of(*set);
+        if needs[i] != 0 && !source.is_found(image.set) {
+            requests.add_image(&image, needs[i]);
         }
     }
     Ok(())
@@ -75,15 +77,15 @@ fn requests_of_layer(
     for place in 0..layer.blocks() {
         let block = layer.block(place);
         if !is_found(&context, prepared, &source, &block) {
-            add_needs(alloc, &context, prepared, &block, &mut requests)?;
+            add_needs(alloc, &context, prepared, &source, &block, &mut requests)?;
         }
     }
     Ok(requests)
 }
 
-/// What rows are to be found before the next layer, if not all that serve for its cells were: these,
-/// and with the same low bytes those of larger sets up to the size to which nearly whole layers are
-/// likely to be wanted.
+/// What rows are to be found before the next layer, if not all that serve for its cells were:
+/// these, and with the same low bytes those of larger sets up to the size to which nearly whole
+/// layers are likely to be wanted.
 pub(crate) fn look_ahead(
     alloc: Global,
     instance: &Instance<'_>,

@@ -3,7 +3,7 @@
 --     image_width, renamed_width      the width of a variable's partner over the image of a set is that of the variable over the set
 --     own_widths      a set keeps its own widths
 --     kept_after, renamed_after      widths that are kept are kept by one exchange more
-use Rattle.std.proofs.Common.{◌≡◌, ℕ, ◌^◌, ◌<◌, ◌≤◌, not, ◌&&◌, List, length, slice_index, eqb, refl, sym, ap, ◌∙◌, subst, arith}
+use Rattle.std.proofs.Common.{◌≡◌, ℕ, ◌^◌, ◌<◌, ◌≤◌, not, ◌&&◌, List, slice_index, eqb, refl, sym, ap, ◌∙◌, subst, arith}
 use Rattle.std.specs.Int.{bit_at}
 use Rattle.std.specs.Prelude.{nat_eq}
 use Rattle.definitions.specs.Orders.{has, members, without}

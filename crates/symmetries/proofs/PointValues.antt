@@ -114,7 +114,8 @@ moved_by_values n partners images ts us e are long values g m =
 
 -- the functions with exchanged variables are the others at exchanged points
 pub renamed_moved : (p : TruthTables) (r : RenamedOf) → IsRenamed p r → AreMoved p.inputs r.exchange.partners (functions p) (functions r.problem)
-renamed_moved p r is = moved_by_values p.inputs r.exchange.partners r.exchange.images p.tables r.problem.tables is.is_exchange is.images_are is.outputs is.values
+renamed_moved p r is =
+    moved_by_values p.inputs r.exchange.partners r.exchange.images p.tables r.problem.tables is.is_exchange is.images_are is.outputs is.values
 
 -- and the others are these at exchanged points
 pub renamed_back : (p : TruthTables) (r : RenamedOf) → IsRenamed p r → AreMoved p.inputs r.exchange.partners (functions r.problem) (functions p)

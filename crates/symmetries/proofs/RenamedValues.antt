@@ -2,8 +2,8 @@
 --     AreSetTo p old new images output k      the first k values of a function are those at the images of points, the others 0
 --     set_more, set_kept      with the value at one point more
 --     AreFilledTo p new images m      the first m functions have all their values
-use Rattle.std.proofs.Common.{◌≡◌, ◌≢◌, ℕ, ◌+◌, ◌^◌, ◌<◌, ◌≤◌, Bool, true, false, inl, inr, List, [], length, set, get_or, slice_index, sym, ap, ◌∙◌, subst, arith}
-use Rattle.std.proofs.lemmas.Bool.{cases_eq, cases_lt}
+use Rattle.std.proofs.Common.{◌≡◌, ◌≢◌, ℕ, ◌+◌, ◌^◌, ◌<◌, ◌≤◌, true, false, inl, inr, List, [], length, set, get_or, slice_index, sym, ap, ◌∙◌, arith}
+use Rattle.std.proofs.lemmas.Bool.{cases_eq}
 use Rattle.std.proofs.lemmas.List.{get_or-set_same, get_or-set_other, length-set}
 use Rattle.definitions.specs.Problems.{TruthTables, outputs_of, table_at, value_at}
 
@@ -17,7 +17,8 @@ pub record AreSetTo (p old new : TruthTables) (images : List ℕ) (output k : �
   pub others : (j : ℕ) → j ≢ output → table_at new j ≡ table_at old j
 
 -- with a 1 at one point more
-pub set_more : (p old new next : TruthTables) (images : List ℕ) (output k : ℕ) → AreSetTo p old new images output k → k < 2 ^ p.inputs → output < outputs_of new →
+pub set_more : (p old new next : TruthTables) (images : List ℕ) (output k : ℕ) → AreSetTo p old new images output k → k < 2 ^ p.inputs →
+    output < outputs_of new →
     value_at p output (slice_index images k) ≡ true → next.inputs ≡ new.inputs →
     next.tables ≡ set new.tables output (set (table_at new output) k true) → AreSetTo p old next images output (k + 1)
 set_more p old new next images output k are inside there one inputs tables = record {

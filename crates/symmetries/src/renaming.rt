@@ -51,11 +51,7 @@ fn set_values(renamed: &mut Problem, problem: &Problem, images: &[Mask], output:
 }
 
 /// The problem whose functions have the values at the images of points.
-fn renamed_problem(
-    alloc: Global,
-    problem: &Problem,
-    images: &[Mask],
-) -> Result<Problem, AllocError>
+fn renamed_problem(alloc: Global, problem: &Problem, images: &[Mask]) -> Result<Problem, AllocError>
     requires long { length images.now ≡ 2 ^ problem.now.inputs }
     requires inside { (k : ℕ) → k < 2 ^ problem.now.inputs →
         slice_index images.now k < 2 ^ problem.now.inputs }

@@ -10,8 +10,8 @@ pub needs_of_block-requires-clause-next : goal.needs_of_block-requires-clause-ne
 needs_of_block-requires-clause-next c =
     c.requires.layer ∙ ap (λ (b : ContextOf). b.layer) (sym c.context.view_is) ∙ own_layer _ c.context.invariant.0
 
-pub image_of-requires : goal.image_of-requires
-image_of-requires c =
+pub image_of-image-requires : goal.image_of-image-requires
+image_of-image-requires c =
     let is = c.masks-set-items.ensures in
     let small = (block_of_byte c.args.block.now c.loop-i.i (subst (λ (ms : List ℕ). c.loop-i.i < length ms) is c.loop-i-test.true)).0 in
     let own = c.requires.layer ∙ ap (λ (b : ContextOf). b.layer) (sym c.context.view_is) ∙ own_layer _ c.context.invariant.0 in

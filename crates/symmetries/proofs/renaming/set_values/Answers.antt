@@ -1,5 +1,5 @@
-use Rattle.std.proofs.Common.{◌<◌, ◌≤◌, ◌≡◌, ℕ, ◌+◌, ◌∙◌, true, false, ap, refl, sym, arith, subst}
-use Rattle.definitions.specs.Problems.{TruthTables, outputs_of, value_at}
+use Rattle.std.proofs.Common.{◌+◌, ◌∙◌, ap, refl, sym, arith, subst}
+use Rattle.definitions.specs.Problems.{TruthTables, value_at}
 use Rattle.symmetries.proofs.RenamedValues.{AreSetTo, set_kept, set_more}
 use Rattle.symmetries.proofs.renaming.set_values.Goals as goal
 use Rattle.symmetries.proofs.renaming.set_values.Goals.{then-value, else-value}

@@ -1,4 +1,4 @@
-use Rattle.std.proofs.Common.{◌≡◌, ℕ, ◌<◌, ap, ◌∙◌, slice_index, subst, sym}
+use Rattle.std.proofs.Common.{ap, ◌∙◌, slice_index, subst, sym}
 use Rattle.std.specs.Prelude.{IfSome}
 use Rattle.symmetries.specs.Exchanges.{IsExchange}
 use Rattle.symmetries.specs.Images.{AreImages}

@@ -1,4 +1,4 @@
-use Rattle.std.proofs.Common.{◌<◌, arith, subst}
+use Rattle.std.proofs.Common.{arith}
 use Rattle.symmetries.proofs.ImageWidths.{kept_after}
 use Rattle.symmetries.proofs.orbits.Orbits.first_from.Goals as goal
 

@@ -1,4 +1,4 @@
-use Rattle.std.proofs.Common.{◌<◌, ◌≡◌, ℕ, arith, length, sym, subst}
+use Rattle.std.proofs.Common.{◌<◌, arith, length, sym, subst}
 use Rattle.symmetries.specs.Orbits.{IsAfter}
 use Rattle.symmetries.specs.Renamings.{RenamedOf}
 use Rattle.symmetries.proofs.ImageWidths.{renamed_after}

@@ -1,4 +1,4 @@
-use Rattle.std.proofs.Common.{◌≡◌, ◌≤◌, ◌<◌, ◌^◌, ◌∙◌, ap, sym, subst}
+use Rattle.std.proofs.Common.{◌≤◌, ◌<◌, ◌^◌, sym, subst}
 use Rattle.std.specs.Prelude.{IfSome}
 use Rattle.symmetries.specs.Orbits.{TakesWidths}
 use Rattle.symmetries.specs.Renamings.{IsRenamed, RenamingOf, renamed_of}

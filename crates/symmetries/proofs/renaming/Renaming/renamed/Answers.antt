@@ -1,4 +1,4 @@
-use Rattle.std.proofs.Common.{◌≡◌, ◌∙◌, ap, sym}
+use Rattle.std.proofs.Common.{◌∙◌, ap, sym}
 use Rattle.symmetries.specs.Renamings.{RenamedOf, RenamingOf, renamed_of}
 use Rattle.symmetries.proofs.renaming.Renaming.renamed.Goals as goal
 
