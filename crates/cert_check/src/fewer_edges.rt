@@ -12,7 +12,8 @@ use order_model::{Mask, Pairs};
 use std::alloc::{AllocError, Global};
 use symmetries::{Exchange, exchanges_of};
 
-/// Whether sets and their images have equal values, and the edges into them are judged by partners.
+/// Whether each set and its image have equal values, and edges are judged into the image by the
+/// partners of the variables by which they are judged into the set.
 fn keeps_edges(edges: Edges, images: &[Mask]) -> bool
     requires long { length images.now ≡ 2 ^ edges.problem.now.inputs }
     requires inside { (S : ℕ) → S < length images.now →
@@ -33,7 +34,7 @@ fn keeps_edges(edges: Edges, images: &[Mask]) -> bool
     true
 }
 
-/// The exchanges under which no function changes that keep values and judged edges.
+/// The exchanges under which no function, no value and no judged edge changes.
 fn guides_of(alloc: Global, edges: Edges) -> Result<Vec<Exchange>, AllocError>
     ensures { IfOk result (λ v. AreAllGuides edges.entry v.items) }
 {
@@ -47,7 +48,7 @@ fn guides_of(alloc: Global, edges: Edges) -> Result<Vec<Exchange>, AllocError>
     Ok(guides)
 }
 
-/// Whether an exchange takes a set to a greater one.
+/// Whether one of the exchanges takes `set` to a greater mask.
 fn has_greater_image(edges: Edges, guides: &[Exchange], set: Mask) -> bool
     requires guides { AreAllGuides edges guides.now }
     requires set { set < 2 ^ edges.problem.now.inputs }
@@ -61,7 +62,7 @@ fn has_greater_image(edges: Edges, guides: &[Exchange], set: Mask) -> bool
     false
 }
 
-/// Leaves out the edges into sets that an exchange takes to greater ones.
+/// Leaves out of `fewer` the edges into sets that an exchange takes to greater ones.
 fn leave_out(edges: Edges, guides: &[Exchange], fewer: &mut Vec<u16>)
     requires guides { AreAllGuides edges guides.now }
     requires fewer { AreEnough edges fewer.old.items }
@@ -74,15 +75,17 @@ fn leave_out(edges: Edges, guides: &[Exchange], fewer: &mut Vec<u16>)
     }
 }
 
-/// Sets that exchanges reach: of one orbit all that are reached, and whether each of all sets was.
+/// The sets that exchanges reach.
 #[derive(Drop)]
 struct Reached {
+    /// For each set whether it was reached, from this orbit or one before.
     seen: Vec<bool>,
+    /// The sets of this orbit that were reached.
     sets: Vec<Mask>,
 }
 
 impl Reached {
-    /// Adds a set, unless it was reached before.
+    /// Adds a set to those of this orbit, unless it was reached before.
     fn add(&mut self, set: Mask) -> Result<(), AllocError>
         ensures { OnOk result
             ((self.new.sets.items ≡ self.old.sets.items)
@@ -99,8 +102,8 @@ impl Reached {
     }
 }
 
-/// Reaches the sets to which exchanges take a set of the orbit of `first`, and leaves out the edges
-/// into those below `first`.
+/// Adds to `reached` the sets to which exchanges take `set`, which is of the orbit of `first`.
+/// Leaves out of `fewer` the edges into those of them below `first`.
 fn step_from(
     edges: Edges,
     guides: &[Exchange],
@@ -126,7 +129,7 @@ fn step_from(
     Ok(())
 }
 
-/// Leaves out the edges into the sets of an orbit below `first`.
+/// Leaves out of `fewer` the edges into the sets of the orbit of `first` that are below it.
 fn leave_out_orbit(
     edges: Edges,
     guides: &[Exchange],
@@ -151,7 +154,7 @@ fn leave_out_orbit(
     Ok(())
 }
 
-/// Leaves out the edges into all sets of each orbit but the greatest.
+/// Leaves out of `fewer` the edges into all sets of each orbit but the greatest.
 fn leave_out_orbits(
     alloc: Global,
     edges: Edges,
@@ -174,7 +177,7 @@ fn leave_out_orbits(
     Ok(())
 }
 
-/// Into how many sets an edge is judged.
+/// Into how many sets an edge is judged. `judged` has the variables of the edges into each set.
 pub(crate) fn count_judged(judged: &[Mask]) -> usize {
     let mut count = 0usize;
     for edges in judged {
@@ -183,12 +186,12 @@ pub(crate) fn count_judged(judged: &[Mask]) -> usize {
     count
 }
 
-/// How many steps of an orbit take about the time in which edges into a set are judged.
+/// So many steps of an orbit take about as long as the edges into one set.
 const STEPS_OF_A_SET: usize = 512;
 
-/// Fewer edges, if variables may be exchanged: those into sets that exchanges take to greater ones
-/// are left out. Chains of exchanges are followed if many sets are left that no single exchange
-/// takes to a greater one.
+/// For each set the variables by which edges are still judged into it; nothing if no exchange is
+/// found. Edges into sets that an exchange takes to greater ones are left out. Chains of exchanges
+/// are followed if many sets are left that no single exchange takes to a greater one.
 pub(crate) fn fewer_edges(alloc: Global, edges: Edges) -> Result<Option<Vec<u16>>, AllocError>
     ensures { IfOk result (λ o. IfSome o (λ v. AreEnough edges.entry v.items)) }
 {

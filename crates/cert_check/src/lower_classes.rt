@@ -11,7 +11,8 @@ use pair_buckets::pair_at;
 use std::alloc::{AllocError, Global};
 use subfunction_classes::{count_with, join_mask};
 
-/// For each class the masks of the pairs whose lower class it is, joined.
+/// For each class the joined masks of the pairs whose lower class it is, as one mask. `numbers` has
+/// the entries, which are paired by x, and `masks` the mask of each class.
 fn lower_masks(
     alloc: Global,
     numbers: &[u32],
@@ -31,8 +32,9 @@ fn lower_masks(
     Ok(labels)
 }
 
-/// Whether the lower classes show, for each variable, that as many distinct pairs as are needed
-/// have it in their masks.
+/// Whether the lower classes show that, for each variable y, at least `needed[y]` distinct pairs
+/// have y in their joined masks. `numbers` has the entries, which are paired by x, and `masks` the
+/// mask of each class.
 pub(crate) fn are_wide(
     alloc: Global,
     numbers: &[u32],

@@ -15,17 +15,17 @@ use rayon::prelude::*;
 use std::alloc::{AllocError, Global};
 use std::thread::Threads;
 
-/// How many of the highest variables tell the tasks apart that share the sets.
+/// The sets that agree in so many highest variables are the share of one task.
 const PART_VARIABLES: u8 = 6;
 
-/// How many of the highest variables have the tables of their sets made once for all tasks.
+/// The class tables of the sets of so many highest variables are made once for all tasks.
 const SHARED_VARIABLES: u8 = 2;
 
-/// Up to how many sets with judged edges one thread walks over alone.
+/// If edges are judged into at most so many sets, one thread walks over them alone.
 const SETS_FOR_ONE: usize = 32;
 
-/// The part at a place. Parts of few variables take longest; laying the low bits over the high ones
-/// spreads them evenly over runs of neighbouring places.
+/// The part at a place, both below 2^end. Parts of few variables take longest; laying the low bits
+/// of the place over the high ones spreads them evenly over neighbouring places.
 #[tactic(auto, unfolding(crate::specs::Edges::part_at), using(crate::proofs::Places::part_within))]
 fn part_of(place: usize, end: u8) -> Mask
     requires end { end ≤ 6 }
@@ -37,7 +37,7 @@ fn part_of(place: usize, end: u8) -> Mask
     (mixed & ((1 << end) - 1)) as Mask
 }
 
-/// The first of the edges that parts found, if no part lacked memory.
+/// The first of the edges that the parts found, if any; an error if a part lacked memory.
 fn first_of_parts(parts: &[Result<Option<Edge>, AllocError>]) -> Result<Option<Edge>, AllocError>
     ensures { IfOk result (IsFirstOfParts parts.now) }
 {
@@ -51,8 +51,9 @@ fn first_of_parts(parts: &[Result<Option<Edge>, AllocError>]) -> Result<Option<E
     Ok(first)
 }
 
-/// The first edge that fails, of all that are judged: each task walks over the sets that have the
-/// same `end` highest variables.
+/// The first edge that fails, of all that are judged. Each task walks over the sets that agree in
+/// the `end` highest variables. `tops` has the class tables of sets of variables from y on, and
+/// `root` stands at the empty set.
 fn first_by_tasks<R: Threads + Sync>(
     rt: &R,
     alloc: Global,
@@ -84,24 +85,24 @@ fn first_by_tasks<R: Threads + Sync>(
     first_of_parts(&parts)
 }
 
-/// Who walks over the sets.
+/// Who walks over the sets: the threads of a pool, or the calling thread.
 pub(crate) trait Walker {
-    // What a walk asks for.
+    // What a walk requires.
     ghost ready: { Self → Type 0 };
 
-    /// The first edge that fails, of all that are judged.
+    /// The first edge that fails, of all that are judged; nothing if none does.
     fn first_of_all(&self, alloc: Global, edges: Edges) -> Result<Option<Edge>, AllocError>
         requires { ready self.now }
         ensures { IfOk result (IsFirstEdge (FailsAmong edges.entry)) };
 }
 
-/// The threads of `rayon`.
+/// The walker that shares the sets among the threads of `rayon`.
 #[derive(Drop)]
 pub(crate) struct ThreadPool<'r, R> {
     pub(crate) rt: &'r R,
 }
 
-/// The calling thread.
+/// The walker that is the calling thread alone.
 #[derive(Drop)]
 pub(crate) struct CallingThread;
 
@@ -142,9 +143,9 @@ impl Walker for CallingThread {
     }
 }
 
-/// The first edge that fails, of all that are judged. If variables may be exchanged without a
-/// change, fewer edges are judged first; if one of these fails, the first of all is one from a set
-/// up to that one's.
+/// The first edge that fails, of all that are judged; nothing if none does. If variables may be
+/// exchanged without a change, fewer edges are judged first. If one of these fails, the first of
+/// all leads from the same set or a smaller mask.
 pub(crate) fn first_failure<W: Walker>(
     walker: &W,
     alloc: Global,

@@ -6,11 +6,11 @@ ghost use Rattle.cert_check.specs.Blocks.{StandsAt};
 use crate::class_table::ClassTable;
 use order_model::{Mask, Problem, VarIx};
 
-/// An edge: from a set, as a mask, by a variable.
+/// An edge: the mask of the set from which it leads, and the variable that it adds.
 pub(crate) type Edge = (Mask, VarIx);
 
-/// What a walk is over: the values of all sets, and the variables by which the edges into each set
-/// are judged.
+/// What a walk is over: the value of each set, and for each set the variables by which edges are
+/// judged into it.
 #[derive(Clone, Copy)]
 pub(crate) struct Edges<'a> {
     pub(crate) problem: &'a Problem,
@@ -19,8 +19,7 @@ pub(crate) struct Edges<'a> {
     ghost tables: { AreEdgeTables problem.now.inputs values.now judged.now },
 }
 
-/// Where a walk stands: at the sets that differ from the table's set in variables below `free`
-/// alone.
+/// Where a walk stands: at the table's set with any variables below `free` added. These are free.
 #[derive(Clone, Copy)]
 pub(crate) struct Position<'a, 't> {
     pub(crate) edges: Edges<'a>,

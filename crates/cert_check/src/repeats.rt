@@ -1,4 +1,4 @@
-//! Rows of entries, of which those that have come before are left out.
+//! Rows of a table's entries, without those that have come before.
 
 ghost use Rattle.std.specs.Prelude.{◌≡◌, ℕ, ◌*◌, ◌^◌, ◌<◌, ◌≤◌, ◌++◌, List, [], length, IfOk, IfSome, IsTrue, OnOk};
 ghost use Rattle.cert_check.specs.Rows.{AreWholeRows, IsShortened};
@@ -9,7 +9,7 @@ use std::alloc::{AllocError, Global};
 /// An odd number whose multiples spread over the words of 64 bits.
 const SPREAD: u64 = 0x9E37_79B9_7F4A_7C15;
 
-/// The bucket of a row.
+/// The bucket of a row: a hash of its entries. `buckets` is a power of two.
 fn bucket_of(row: &[u32], buckets: usize) -> usize
     requires some { 0 < buckets }
     ensures within { result < buckets }
@@ -28,7 +28,7 @@ fn bucket_of(row: &[u32], buckets: usize) -> usize
     (key >> 40) as usize & (buckets - 1)
 }
 
-/// Whether a row is the kept one before a place. Place 0 has none before it.
+/// Whether `row` is the row of `kept` at `place`, counted from 1. No row is at place 0.
 fn is_kept(kept: &[u32], place: usize, row: &[u32]) -> bool
     requires some { 0 < length row.now }
     ensures { IsTrue result → (front : List ℕ) × (between : List ℕ) × (rows : ℕ)
@@ -43,8 +43,8 @@ fn is_kept(kept: &[u32], place: usize, row: &[u32]) -> bool
     before == row
 }
 
-/// Whether two equal rows of 2 ^ y entries are found in the first half of a table. Any answer is
-/// right: a table without a repeat is kept as it is.
+/// Whether two equal rows of 2^y entries are found in the first half of `numbers`. A wrong answer
+/// costs time or memory only.
 fn has_repeat(alloc: Global, numbers: &[u32], y: VarIx) -> Result<bool, AllocError>
     requires variable { y ≤ 16 }
     requires few { length numbers.now ≤ 2 ^ 20 }
@@ -64,8 +64,9 @@ fn has_repeat(alloc: Global, numbers: &[u32], y: VarIx) -> Result<bool, AllocErr
     Ok(false)
 }
 
-/// Puts the rows of 2 ^ y entries behind one another, mostly each once, in the order in which they
-/// first come. A bucket has the place of the last row that was put for it, from 1, or 0.
+/// Appends the rows of 2^y entries of `numbers` to `kept`, mostly each once, by first occurrence.
+/// `kept` is empty before. `places` has for each bucket the place of its last row in `kept`,
+/// counted from 1, or 0.
 fn keep_rows(
     numbers: &[u32],
     y: VarIx,
@@ -91,8 +92,8 @@ fn keep_rows(
     Ok(())
 }
 
-/// The rows of 2 ^ y entries, mostly each once, in the order in which they first come, if one of
-/// the first half of them is seen to come again.
+/// The rows of 2^y entries of `numbers`, mostly each once, by first occurrence. Nothing if in the
+/// first half no row is found to come again.
 pub(crate) fn without_repeats(
     alloc: Global,
     numbers: &[u32],

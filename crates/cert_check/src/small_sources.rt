@@ -1,4 +1,4 @@
-//! Edges from small sets.
+//! Edges that lead from small masks.
 
 ghost use Rattle.std.specs.Prelude.{◌≡◌, ◌+◌, ◌^◌, ◌≤◌, ℕ, IfOk, length};
 ghost use Rattle.cert_check.specs.FewerEdges.{AreFewer, IsPast};
@@ -6,7 +6,7 @@ ghost use Rattle.cert_check.specs.FewerEdges.{AreFewer, IsPast};
 use order_model::Mask;
 use std::alloc::{AllocError, Global};
 
-/// The smallest mask from which an edge leads into a set.
+/// The smallest mask from which an edge leads into `set`; 0 for the empty set.
 fn smallest_source(set: Mask) -> Mask
     ensures { (S x : ℕ) → S + 2 ^ x ≡ set → result ≤ S }
 {
@@ -17,7 +17,8 @@ fn smallest_source(set: Mask) -> Mask
     set - (1 << highest)
 }
 
-/// The judged edges, but for those into sets into which each edge leads from a set past `last`.
+/// The judged edges, without those into sets into which all edges lead from masks above `last`. For
+/// each set there is the mask of its edges' variables.
 pub(crate) fn edges_up_to(
     alloc: Global,
     judged: &[Mask],

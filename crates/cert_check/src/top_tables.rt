@@ -1,4 +1,4 @@
-//! Tables of sets of the highest variables, which tasks share.
+//! Class tables of sets of the highest variables, which tasks share.
 
 ghost use Rattle.std.specs.Prelude.{◌≡◌, ◌-◌, ◌<◌, ◌≤◌, IfOk, IfSome, OnOk};
 ghost use Rattle.std.specs.List.{All};
@@ -12,7 +12,8 @@ use crate::walk::{first_in_part, has_upper_judged, upper_table};
 use order_model::{Mask, VarIx};
 use std::alloc::{AllocError, Global};
 
-/// The table of the upper half, if an edge is judged into one of its sets.
+/// The class table of the set where the walk stands, with its highest free variable added. Nothing
+/// if no edge is judged into that set or into it with other free variables added.
 fn judged_upper_table<'t>(
     alloc: Global,
     at: Position<'_, 't>,
@@ -28,7 +29,8 @@ fn judged_upper_table<'t>(
     Ok(Some(larger))
 }
 
-/// Adds the tables of the upper halves: of the root, and of the tables that are there.
+/// Appends to `tops` the class tables with the highest free variable added: to the set of `root`,
+/// and to those of the tables in `tops`. Tables that no judged edge needs are left out.
 fn add_variable<'t>(
     alloc: Global,
     root: Position<'_, 't>,
@@ -57,8 +59,8 @@ fn add_variable<'t>(
     Ok(())
 }
 
-/// The tables of the sets of variables from `y` on, but for the empty one, into which or behind
-/// which an edge is judged.
+/// The class tables of the non-empty sets of variables from `y` on that the walk needs: an edge is
+/// judged into the set, or into it with smaller variables added. `root` stands at the empty set.
 pub(crate) fn top_tables<'t>(
     alloc: Global,
     root: Position<'_, 't>,
@@ -81,8 +83,8 @@ pub(crate) fn top_tables<'t>(
 }
 
 /// The first edge that fails among those into the sets of a part: `part` with any variables below
-/// `end`. The walk begins at the table among `tops` of the variables of `part` from `y` on, or at
-/// that of the empty set if none was made.
+/// `end` added. The walk begins at the table in `tops` of the variables of `part` from y on, or at
+/// `root`, which stands at the empty set, if there is none.
 pub(crate) fn first_from_tops(
     alloc: Global,
     root: Position,

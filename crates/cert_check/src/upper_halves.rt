@@ -1,5 +1,6 @@
-//! Blocks of sets that a walk need not enter, as the table of a smaller set tells that no edge into
-//! them fails.
+//! Blocks of sets that a walk need not enter, because the table of a smaller set shows that no edge
+//! into them fails. The upper half are the sets where a walk stands that have the highest free
+//! variable.
 
 ghost use Rattle.std.specs.Prelude.{◌≡◌, ℕ, ◌+◌, ◌-◌, ◌^◌, ◌<◌, ◌≤◌, false, None, length, slice_index, IfOk, IsTrue};
 ghost use Rattle.std.specs.Int.{bit_at};
@@ -11,7 +12,8 @@ use crate::walk::{has_judged, has_upper_judged};
 use order_model::{Mask, VarIx, contains};
 use std::alloc::{AllocError, Global};
 
-/// By how much the value rises along each edge that is judged into a set: the width that it needs.
+/// For each variable y by which an edge is judged into `set`, by how much the value rises along it:
+/// the width that y needs. 0 for the others.
 fn needed_widths(alloc: Global, edges: Edges, set: Mask) -> Result<Vec<u32>, AllocError>
     requires { set < 2 ^ edges.problem.now.inputs }
     ensures long { IfOk result (λ v. length v.items ≡ edges.entry.problem.now.inputs) }
@@ -32,7 +34,7 @@ fn needed_widths(alloc: Global, edges: Edges, set: Mask) -> Result<Vec<u32>, All
     Ok(needed)
 }
 
-/// Whether an edge is judged into some set after `set`, of 2 ^ y sets.
+/// Whether an edge is judged into one of the 2^y sets from `set` on, but for `set` itself.
 fn has_later(judged: &[Mask], set: Mask, y: VarIx) -> bool
     requires variable { y ≤ 16 }
     requires within { set + 2 ^ y ≤ length judged.now }
@@ -47,8 +49,8 @@ fn has_later(judged: &[Mask], set: Mask, y: VarIx) -> bool
     false
 }
 
-/// Whether a set is hardly listed, by its value. The widths into a listed set are mostly no greater
-/// than needed, so its lower classes seldom decide.
+/// Whether the value of `set` is so high that the set is most likely not listed. The widths into a
+/// listed set are mostly no greater than needed, so its lower classes seldom decide.
 fn is_hardly_listed(edges: Edges, set: Mask) -> bool
     requires { set < 2 ^ edges.problem.now.inputs }
 {
@@ -58,8 +60,9 @@ fn is_hardly_listed(edges: Edges, set: Mask) -> bool
     u64::from(edges.values[set as usize]) + u64::from(outside) >= u64::from(total)
 }
 
-/// Whether lower bounds on the widths, from the lower classes of the table, show that no edge into
-/// a set of the upper half fails.
+/// Whether the lower classes of the table show that no edge into a set of the upper half fails: one
+/// that has the highest free variable. They are tried only if edges are judged into the smallest of
+/// these sets alone.
 fn passes_by_lower_classes(alloc: Global, at: Position) -> Result<bool, AllocError>
     requires { 0 < at.free }
     ensures { IfOk result (λ none. IsTrue none → IsFirstEdge (FailsInUpper at.entry) None) }
@@ -74,7 +77,8 @@ fn passes_by_lower_classes(alloc: Global, at: Position) -> Result<bool, AllocErr
     table.tells_wide(alloc, x, &needed)
 }
 
-/// Whether it shows without the table of the upper half that no edge into one of its sets fails.
+/// Whether it shows, without another table, that no edge fails into a set of the upper half: one
+/// that has the highest free variable.
 pub(crate) fn upper_half_passes(alloc: Global, at: Position) -> Result<bool, AllocError>
     requires { 0 < at.free }
     ensures { IfOk result (λ passes. IsTrue passes → IsFirstEdge (FailsInUpper at.entry) None) }

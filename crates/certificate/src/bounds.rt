@@ -1,4 +1,4 @@
-//! What the parts of a certificate may be, so that the format has a spelling for them.
+//! The bounds of a certificate's parts, within which it can be written as text.
 
 ghost use Rattle.std.specs.Prelude.{◌≡◌, ◌≤◌, ◌^◌, ◌-◌, ◌↔◌, ℕ, None, IsTrue, IsFalse, length};
 ghost use Rattle.std.specs.List.{All};
@@ -11,7 +11,7 @@ use order_model::{ListedCell, VarIx};
 /// The largest cost, level count and total.
 pub(crate) const MOST_NODES: u32 = 999_999;
 
-/// The largest number of pairs: each two of 16 variables.
+/// The largest number of pairs: 16 * 15, as many as there are pairs of different variables.
 pub(crate) const MOST_PAIRS: usize = 240;
 
 /// How many proper subsets n variables have: 2^n - 1. This is also the mask of all n variables, and
@@ -23,7 +23,8 @@ pub(crate) fn sets_below_all(n: u8) -> u32
     (1 << n) - 1
 }
 
-/// Whether `key` is above the key before it, `last`, if there is one.
+/// Whether `key` is larger than `last`, the key of the entry before, or there is no entry before. A
+/// pair has the key that `key_of_pair` gives, and a listed set its mask.
 pub(crate) fn is_above(last: Option<u32>, key: u32) -> bool
     ensures { result ≡ above last key }
 {
@@ -33,15 +34,15 @@ pub(crate) fn is_above(last: Option<u32>, key: u32) -> bool
     }
 }
 
-/// The key of a pair by which pairs are sorted: the first variable, and then the second, which is
-/// below 16.
+/// The key of the pair (a, b), by which pairs are sorted: 16 a + b. Since b is below 16, pairs rise
+/// by a and then by b.
 pub(crate) fn key_of_pair(a: VarIx, b: VarIx) -> u32
     ensures { result ≡ pair_key (a, b) }
 {
     u32::from(a) * 16 + u32::from(b)
 }
 
-/// Whether all pairs are of variables below n and their keys rise.
+/// Whether all pairs (a, b) are of variables below n, and rise by a and then by b.
 fn pairs_rise(n: u8, pairs: &[(VarIx, VarIx)]) -> bool
     ensures { result ≡ fit (is_pair_of n) pair_key None pairs.now }
 {
@@ -100,7 +101,7 @@ fn levels_fit(n: u8, levels: &[u32]) -> bool
 }
 
 /// Whether a certificate of n inputs may have these pairs: at most `MOST_PAIRS`, of variables below
-/// n, by rising key.
+/// n, rising by first and then second variable.
 fn pairs_fit(n: u8, pairs: &[(VarIx, VarIx)]) -> bool
     ensures { IsTrue result ↔
         ((length pairs.now ≤ most_pairs) × IsTrue (fit (is_pair_of n) pair_key None pairs.now)) }
@@ -109,7 +110,7 @@ fn pairs_fit(n: u8, pairs: &[(VarIx, VarIx)]) -> bool
 }
 
 /// Whether a certificate of n inputs may list these sets: proper subsets of the variables with
-/// bounded costs, by rising mask.
+/// costs of at most `MOST_NODES`, by rising mask.
 fn cells_fit(n: u8, cells: &[ListedCell]) -> bool
     requires { n ≤ 16 }
     ensures { IsTrue result ↔
@@ -118,8 +119,8 @@ fn cells_fit(n: u8, cells: &[ListedCell]) -> bool
     cells.len() <= sets_below_all(n) as usize && cells_rise(n, cells)
 }
 
-/// Whether the format has a spelling for the parts: each number is in its bounds, and pairs and
-/// listed sets rise.
+/// Whether a certificate with these parts can be written as text: each number is within its bounds,
+/// and pairs and listed sets rise.
 pub(crate) fn have_spelling(parts: &CertificateParts) -> bool
     ensures spelled { IsTrue result → HasSpelling (contents parts.now) }
     ensures unspelled { IsFalse result → HasSpelling (contents parts.now) → ⊥ }

@@ -9,7 +9,7 @@ use crate::bounds::have_spelling;
 use order_model::{ListedCell, VarIx};
 use std::marker::Model;
 
-/// The parts of a certificate. Format 1 has no pairs, and format 2 may have an empty list.
+/// The parts of a certificate.
 #[derive(Debug, Drop)]
 pub struct CertificateParts {
     /// The number of inputs.
@@ -22,14 +22,15 @@ pub struct CertificateParts {
     pub levels: Vec<u32>,
     /// The number of nodes.
     pub total: u32,
-    /// The pairs (a, b) of variables, of which a has to stand above b.
+    /// The pairs (a, b) of variables, of which a has to stand above b. `None` in format 1; in
+    /// format 2 there is a list, which may be empty.
     pub pairs: Option<Vec<(VarIx, VarIx)>>,
     /// The listed sets with their costs.
     pub cells: Vec<ListedCell>,
 }
 
 impl CertificateParts {
-    /// The pairs, none in format 1.
+    /// The pairs (a, b), of which a has to stand above b. Format 1 has none.
     pub(crate) fn kept_pairs(&self) -> &[(VarIx, VarIx)]
         ensures { result.now ≡ pairs_in self.now.pairs }
     {
@@ -41,8 +42,8 @@ impl CertificateParts {
 }
 
 /// A certificate: an order with its level counts and their total, and the least costs of sets of
-/// variables by which a checker sees that no order that keeps the pairs has fewer nodes. It has a
-/// spelling.
+/// variables by which a checker sees that no order that keeps the pairs has fewer nodes. It can
+/// always be written as text.
 #[derive(Debug, Drop)]
 pub struct Certificate {
     parts: CertificateParts,
@@ -61,8 +62,9 @@ impl Model for Certificate {
 }
 
 impl Certificate {
-    /// The certificate of its parts, of which pairs rise by first and then second variable, and
-    /// listed sets by mask. `None` if the format has no spelling for it.
+    /// The certificate with these parts. `None` if it can't be written as text: a number is out of
+    /// its bounds, pairs don't rise by first and then second variable, or listed sets don't rise by
+    /// mask.
     pub fn from_parts(parts: CertificateParts) -> Option<Certificate>
         ensures some { IfSome result (λ c. c ≡ contents parts) }
         ensures none { IfNone result (HasSpelling (contents parts) → ⊥) }
@@ -73,7 +75,8 @@ impl Certificate {
         Some(Certificate { parts })
     }
 
-    /// A certificate in format 1, which has no pairs. `None` if the format has no spelling for it.
+    /// A certificate in format 1, which has no pairs. `None` if it can't be written as text: a
+    /// number is out of its bounds, or listed sets don't rise by mask.
     pub fn new(
         inputs: u8,
         outputs: u8,
@@ -99,8 +102,9 @@ impl Certificate {
         })
     }
 
-    /// A certificate in format 2, with the pairs that an order has to keep, by rising first and
-    /// then second variable. `None` if the format has no spelling for it.
+    /// A certificate in format 2, with pairs (a, b), of which a has to stand above b. `None` if it
+    /// can't be written as text: a number is out of its bounds, pairs don't rise by first and then
+    /// second variable, or listed sets don't rise by mask.
     pub fn new2(
         inputs: u8,
         outputs: u8,
@@ -153,29 +157,30 @@ impl Certificate {
         self.parts.outputs
     }
 
-    /// The order, top first; whether it has each variable once is for the checker to say.
+    /// The order, top first. It may lack a variable, and have another one twice: the checker tests
+    /// this.
     pub fn order(&self) -> &[VarIx]
         ensures { result.now ≡ self.now.order }
     {
         &self.parts.order
     }
 
-    /// The level counts, top first.
+    /// The level counts that the certificate states, top first.
     pub fn levels(&self) -> &[u32]
         ensures { result.now ≡ self.now.levels }
     {
         &self.parts.levels
     }
 
-    /// The number of nodes.
+    /// The number of nodes that the certificate states.
     pub fn total(&self) -> u32
         ensures { result ≡ self.now.total }
     {
         self.parts.total
     }
 
-    /// The pairs (a, b) of variables, of which a has to stand above b, rising; none in format 1.
-    /// The certificate has a spelling, which bounds all its numbers.
+    /// The pairs (a, b) of variables, of which a has to stand above b, rising; none in format 1. A
+    /// certificate can always be written as text, so its numbers are within the format's bounds.
     pub fn pairs(&self) -> &[(VarIx, VarIx)]
         ensures pairs { result.now ≡ self.now.pairs }
         ensures spelled { HasSpelling self.now }
@@ -183,8 +188,8 @@ impl Certificate {
         self.parts.kept_pairs()
     }
 
-    /// The listed sets with their costs, by rising mask. The certificate has a spelling, which
-    /// bounds all its numbers.
+    /// The listed sets with their costs, by rising mask. A certificate can always be written as
+    /// text, so its numbers are within the format's bounds.
     pub fn cells(&self) -> &[ListedCell]
         ensures cells { map listed result.now ≡ self.now.cells }
         ensures spelled { HasSpelling self.now }

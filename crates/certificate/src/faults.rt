@@ -12,10 +12,11 @@ pub enum LineFault {
     /// A fixed word or the number of words is wrong.
     #[error("BadLine")]
     BadLine,
-    /// A number or mask isn't spelled as the format has it, or is out of its bounds.
+    /// A number or mask isn't written as the format has it, or is out of its bounds.
     #[error("BadNumber")]
     BadNumber,
-    /// A pair or mask isn't above that of the line before.
+    /// A pair, or the mask of a listed set, isn't larger than that of the line before. Pairs are
+    /// compared by first and then second variable.
     #[error("NotRising")]
     NotRising,
     /// Something follows the last line.
@@ -29,7 +30,7 @@ pub enum CertFault {
     /// The first faulty line, counted from 1, and its fault.
     #[error("line {0}: {1}")]
     Line(usize, LineFault),
-    /// More than 1,048,576 bytes.
+    /// The text has more than 1,048,576 bytes.
     #[error("TooLong")]
     TooLong,
     /// An allocation was refused.

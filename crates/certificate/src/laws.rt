@@ -10,19 +10,19 @@ ghost use Rattle.certificate.specs.Spelling.{HasSpelling, spelling};
 ghost use Rattle.certificate.specs.Faults.{Spells, FirstCertFault, faults};
 ghost use Rattle.certificate.specs.Heads.{most_bytes};
 
-/// A text is the spelling of at most one certificate.
+/// A text is that of at most one certificate.
 pub fn texts_have_one_certificate()
     ensures { (a b : Certificate) → HasSpelling a → HasSpelling b →
         spelling a ≡ spelling b → a ≡ b }
 {}
 
-/// A spelling has no fault.
+/// The text of a certificate has no fault.
 pub fn spellings_have_no_fault()
     ensures { (cert : Certificate) → HasSpelling cert → faults (spelling cert) ≡ [] }
 {}
 
-/// Each text is the spelling of a certificate or has a first fault, and not both. It has only one
-/// first fault.
+/// Each text is that of a certificate or has a first fault, and not both. It has only one first
+/// fault.
 pub fn texts_have_one_reading()
     ensures some { (text : List ℕ) →
         ((cert : Certificate) × Spells text cert) ⊎
@@ -33,8 +33,8 @@ pub fn texts_have_one_reading()
         FirstCertFault text j f → (i ≡ j) × (e ≡ f) }
 {}
 
-/// A spelling has at most 256 bytes, 6 for each pair and 12 for each listed set; so it isn't too
-/// long to be read.
+/// A certificate's text has at most 256 bytes plus 6 for each pair and 12 for each listed set, and
+/// is never too long to be read.
 pub fn spellings_are_short()
     ensures bytes { (cert : Certificate) → HasSpelling cert →
         length (spelling cert) ≤ 256 + 6 * length cert.pairs + 12 * length cert.cells }
@@ -42,8 +42,8 @@ pub fn spellings_are_short()
         length text ≤ most_bytes }
 {}
 
-/// The certificate of an order has a spelling: that of 1 to 16 functions of 1 to 16 variables, with
-/// sorted pairs of which there are at most 240.
+/// The certificate that the tool makes for an order can be written as text, if it is of 1 to 16
+/// functions of 1 to 16 variables, with at most 240 sorted pairs.
 pub fn orders_have_certificates()
     ensures { (n : ℕ) (F : List Function) (P : List Pair) (order : List ℕ) → 1 ≤ n → n ≤ 16 →
         1 ≤ length F → length F ≤ 16 → IsOrder n order →

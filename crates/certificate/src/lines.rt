@@ -14,7 +14,7 @@ use crate::faults::LineFault;
 use crate::words::{cut, mask, number};
 use order_model::{ListedCell, VarIx};
 
-/// The two words of a line that has exactly two.
+/// The two words of a line. None if it has more or fewer.
 fn two_words(line: &[u8]) -> Option<(&[u8], &[u8])>
     ensures some { IfSome result (λ ws. words line.now ≡ ws.0.now ∷ ws.1.now ∷ []) }
     ensures none { IfNone result ((a b : _) → words line.now ≡ a ∷ b ∷ [] → ⊥) }
@@ -28,7 +28,8 @@ fn two_words(line: &[u8]) -> Option<(&[u8], &[u8])>
     }
 }
 
-/// The number of a line with two words, `name` and a number from `least` to `most`.
+/// Reads the number from a line of two words, `name` and a number from `least` to `most`. The fault
+/// is `BadNumber` if the second word is no such number, and `BadLine` for any other line.
 pub(crate) fn number_line(line: &[u8], name: &[u8], least: u32, most: u32) -> Result<u32, LineFault>
     requires { most ≤ most_nodes }
     ensures { Says (field_fault name.now 1 least most) line.now
@@ -46,8 +47,8 @@ pub(crate) fn number_line(line: &[u8], name: &[u8], least: u32, most: u32) -> Re
     }
 }
 
-/// The pair of variables below n that a line states. Its key is above `last`, the key of the pair
-/// before it, if there is one.
+/// Reads the pair (a, b) of variables below n from a line of two numbers. The fault is `NotRising`
+/// if its key isn't above `last`, the key of the pair before, if there is one.
 pub(crate) fn pair_line(line: &[u8], n: u8, last: Option<u32>) -> Result<(VarIx, VarIx), LineFault>
     requires some { 1 ≤ n }
     requires few { n ≤ 16 }
@@ -73,8 +74,8 @@ pub(crate) fn pair_line(line: &[u8], n: u8, last: Option<u32>) -> Result<(VarIx,
     Ok(pair)
 }
 
-/// The set of n variables, with its cost, that a line lists. Its mask is above `last`, the mask of
-/// the set before it, if there is one.
+/// Reads a set of n variables and its cost from a line of a mask and a number. The fault is
+/// `NotRising` if the mask isn't above `last`, the mask of the set before, if there is one.
 pub(crate) fn cell_line(line: &[u8], n: u8, last: Option<u32>) -> Result<ListedCell, LineFault>
     requires { n ≤ 16 }
     ensures { Says (entry_fault (is_cell n) (λ a b. above last (cell_key_of a b))) line.now
@@ -99,7 +100,8 @@ pub(crate) fn cell_line(line: &[u8], n: u8, last: Option<u32>) -> Result<ListedC
     Ok(ListedCell { mask, cost })
 }
 
-/// The format, 1 or 2, that the first line of a certificate states.
+/// Reads the format, 1 or 2, from the first line of a certificate. The fault of any other line is
+/// `BadLine`.
 pub(crate) fn title_line(line: &[u8]) -> Result<u8, LineFault>
     ensures { Says title_fault line.now
         (λ format. format ≡ number_of (get_or (words line.now) 1 [])) result }
@@ -113,7 +115,8 @@ pub(crate) fn title_line(line: &[u8]) -> Result<u8, LineFault>
     }
 }
 
-/// Nothing if a line is the last one of a certificate, `end`; else a fault.
+/// Accepts the last line of a certificate, which is `end`. The fault of any other line is
+/// `BadLine`.
 pub(crate) fn end_line(line: &[u8]) -> Result<(), LineFault>
     ensures { Says (fixed_fault (codes "end" ∷ [])) line.now (λ _. Unit {0}) result }
 {
@@ -124,7 +127,7 @@ pub(crate) fn end_line(line: &[u8]) -> Result<(), LineFault>
     }
 }
 
-/// How many words a text has.
+/// How many words a text has: one more than it has spaces.
 fn count_words(text: &[u8]) -> usize
     ensures { result ≡ length (words text.now) }
 {
@@ -137,7 +140,8 @@ fn count_words(text: &[u8]) -> usize
     count
 }
 
-/// The rest of a line after its first word, if this is `name` and `count` words follow it.
+/// The rest of a line after its first word, if this is `name` and `count` words follow it. None for
+/// any other line.
 pub(crate) fn behind_name<'a>(line: &'a [u8], name: &[u8], count: usize) -> Option<&'a [u8]>
     requires { 1 ≤ count }
     ensures some { IfSome result

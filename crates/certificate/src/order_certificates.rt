@@ -12,8 +12,8 @@ use crate::laws::orders_have_certificates;
 use order_model::{ListedCell, Pairs, Problem, SizedOrder};
 use std::alloc::{AllocError, Global};
 
-/// The text of an order's certificate, in format 2: its parts are the order's level counts, their
-/// sum and the listed sets.
+/// The text, in format 2, of the certificate of an order. `found` has the order with its level
+/// counts and their sum, and `cells` the sets that this certificate lists, with their costs.
 pub fn certificate_text(
     alloc: Global,
     problem: &Problem,

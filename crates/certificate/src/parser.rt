@@ -14,10 +14,10 @@ use crate::reader::{Lines, add};
 use order_model::{ListedCell, VarIx};
 use std::alloc::Global;
 
-/// The longest text of a certificate, in bytes.
+/// The most bytes of a text that is read as a certificate.
 pub const MOST_BYTES: usize = 1_048_576;
 
-/// Numbers of at most 15 as variables.
+/// The numbers of a list, each of at most 15, as variables.
 fn variables(alloc: Global, numbers: &[u32]) -> Result<Vec<VarIx>, CertFault>
     requires { All (λ k. k ≤ 15) numbers.now }
     ensures same { IfOk result (λ v. v.items ≡ numbers.now) }
@@ -41,7 +41,7 @@ pub(crate) struct Head {
     total: u32,
 }
 
-/// Takes the first six lines, and returns what they state.
+/// Takes the first six lines of a text off `lines`, and returns what they state.
 fn read_head(alloc: Global, lines: &mut Lines<'_>) -> Result<Head, CertFault>
     requires { FitsCount lines.old }
     ensures head { TakesHead lines.old.number lines.old.rest.now lines.new.number lines.new.rest.now
@@ -65,8 +65,8 @@ fn read_head(alloc: Global, lines: &mut Lines<'_>) -> Result<Head, CertFault>
     })
 }
 
-/// Takes the lines of listed sets of n variables, and the last line, and returns the sets with
-/// their costs.
+/// Takes the line with the number of listed sets, a line for each and the last line off `lines`,
+/// and returns the sets of n variables with their costs.
 fn read_sets(alloc: Global, lines: &mut Lines<'_>, n: u8) -> Result<Vec<ListedCell>, CertFault>
     requires small { FitsCount lines.old }
     requires few { n ≤ 16 }
@@ -77,8 +77,8 @@ fn read_sets(alloc: Global, lines: &mut Lines<'_>, n: u8) -> Result<Vec<ListedCe
     Ok(cells)
 }
 
-/// Takes the lines after the first six, to the end of the text, and returns the pairs, which format
-/// 1 has not, and the listed sets.
+/// Takes all lines after the first six off `lines`, and returns the pairs of variables below n,
+/// `None` in format 1, and the listed sets with their costs.
 fn read_body(
     alloc: Global,
     lines: &mut Lines<'_>,
@@ -101,8 +101,8 @@ fn read_body(
 }
 
 impl Certificate {
-    /// The certificate whose spelling a text of at most 1,048,576 bytes is, in either format, or
-    /// why there is none. Time and memory are linear in the text.
+    /// The certificate with this text, in either format, or why there is none: the text's first
+    /// fault, more than 1,048,576 bytes, or no memory. Time and memory are linear in the text.
     pub fn parse(alloc: Global, text: &[u8]) -> Result<Certificate, CertFault>
         ensures spelled { IfOk result (λ cert. text.now ≡ spelling cert) }
         ensures short { IfOk result (λ _. length text.now ≤ most_bytes) }

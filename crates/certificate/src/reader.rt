@@ -21,7 +21,7 @@ use crate::words::{cut, number};
 use order_model::{ListedCell, VarIx};
 use std::alloc::Global;
 
-/// Appends an item to a list.
+/// Appends an item to a list. The only fault is `OutOfMemory`.
 pub(crate) fn add<T: Drop>(items: &mut Vec<T>, item: T) -> Result<(), CertFault>
     ensures added { OnOk result (items.new.items ≡ items.old.items ++ item ∷ []) }
     ensures memory { IfErr result (λ fault. fault ≡ OutOfMemory) }
@@ -32,8 +32,8 @@ pub(crate) fn add<T: Drop>(items: &mut Vec<T>, item: T) -> Result<(), CertFault>
     }
 }
 
-/// Appends the number that a word spells, which is at most `most`. The word stands in line `line`,
-/// which an error names.
+/// Appends to `numbers` the number of at most `most` that a word states. Any other word is a
+/// `BadNumber` of line `line`, in which it stands.
 fn push_number(numbers: &mut Vec<u32>, word: &[u8], most: u32, line: usize) -> Result<(), CertFault>
     requires { most ≤ most_nodes }
     ensures added { OnOk result (numbers.new.items ≡ numbers.old.items ++ number_of word.now ∷ []) }
@@ -48,8 +48,8 @@ fn push_number(numbers: &mut Vec<u32>, word: &[u8], most: u32, line: usize) -> R
     add(numbers, value)
 }
 
-/// The numbers that the words of a text spell, each of at most `most`. The text stands in line
-/// `line`, which an error names.
+/// The numbers of at most `most` that the words of a text state. Any other word is a `BadNumber` of
+/// line `line`, in which the text stands.
 fn numbers_in(alloc: Global, text: &[u8], most: u32, line: usize) -> Result<Vec<u32>, CertFault>
     requires { most ≤ most_nodes }
     ensures numbers { IfOk result (λ v. v.items ≡ map number_of (words text.now)) }
@@ -69,10 +69,12 @@ fn numbers_in(alloc: Global, text: &[u8], most: u32, line: usize) -> Result<Vec<
     Ok(numbers)
 }
 
-/// What is left of a text, and the number of its first line.
+/// The lines of a text that have not been taken yet.
 #[derive(Drop)]
 pub(crate) struct Lines<'a> {
+    /// What is left of the text.
     rest: &'a [u8],
+    /// The number of the next line, counted from 1.
     number: usize,
 }
 
@@ -88,7 +90,8 @@ impl<'a> Lines<'a> {
         }
     }
 
-    /// Takes the next line.
+    /// Takes the next line, and returns it without its line feed. None, and nothing is taken, if no
+    /// line feed is left.
     fn next(&mut self) -> Option<&'a [u8]>
         requires { FitsCount self.old }
         ensures line { IfSome result (λ line. Cuts 10 self.old.rest.now line.now self.new.rest.now) }
@@ -102,7 +105,8 @@ impl<'a> Lines<'a> {
         Some(line)
     }
 
-    /// Takes the next line, and returns what `read` makes of it. A fault gets the line's number.
+    /// Takes the next line, and returns what `read` makes of it. Its fault is reported with the
+    /// line's number; if there is no next line, the fault is `MissingLine`.
     fn take<V, F: FnOnce(&[u8]) -> Result<V, LineFault>>(&mut self, read: F) -> Result<V, CertFault>
         requires small { FitsCount self.old }
         requires readable { F.IsAlwaysCallable read }
@@ -142,7 +146,7 @@ impl<'a> Lines<'a> {
         self.take(title_line)
     }
 
-    /// Takes the last line, `end`. Any text after it is a fault.
+    /// Takes the last line, `end`. If any text follows it, the fault is `TrailingText`.
     pub(crate) fn end(&mut self) -> Result<(), CertFault>
         requires { FitsCount self.old }
         ensures passed { OnOk result
@@ -158,8 +162,8 @@ impl<'a> Lines<'a> {
         Ok(())
     }
 
-    /// Takes a line that has the word `name` and `count` numbers of at most `most`, and returns
-    /// these.
+    /// Takes a line of the word `name` and `count` numbers of at most `most`, and returns the
+    /// numbers.
     pub(crate) fn numbers(
         &mut self,
         alloc: Global,
@@ -184,7 +188,8 @@ impl<'a> Lines<'a> {
         numbers_in(alloc, digits, most, number)
     }
 
-    /// Takes the line with the number of pairs and those of the pairs, and returns the pairs.
+    /// Takes the line that states the number of pairs and a line for each pair, and returns the
+    /// pairs. Variables are below n.
     pub(crate) fn pairs(&mut self, alloc: Global, n: u8) -> Result<Vec<(VarIx, VarIx)>, CertFault>
         requires small { FitsCount self.old }
         requires some { 1 ≤ n }
@@ -204,8 +209,8 @@ impl<'a> Lines<'a> {
         Ok(pairs)
     }
 
-    /// Takes the line with the number of listed sets and those of the sets, and returns the sets
-    /// with their costs.
+    /// Takes the line that states the number of listed sets and a line for each, and returns the
+    /// sets of n variables with their costs.
     pub(crate) fn cells(&mut self, alloc: Global, n: u8) -> Result<Vec<ListedCell>, CertFault>
         requires small { FitsCount self.old }
         requires few { n ≤ 16 }

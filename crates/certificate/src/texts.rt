@@ -11,13 +11,14 @@ use order_model::{ListedCell, VarIx};
 use std::alloc::{AllocError, Global};
 use std::fmt::Write;
 
-/// The longest text but for pairs and listed sets: at most 37 numbers of at most 6 digits and the
-/// fixed words.
+/// Bytes that are enough for all lines but those of pairs and listed sets: at most 38 numbers of at
+/// most 6 digits, and the fixed words.
 const LONGEST_HEAD: usize = 512;
 
-/// The longest line of a pair, and of a listed set.
+/// The most bytes of the line of a pair.
 const LONGEST_PAIR: usize = 6;
 
+/// The most bytes of the line of a listed set.
 const LONGEST_CELL: usize = 12;
 
 /// Appends a line of the word `name` and a number.
@@ -57,7 +58,7 @@ fn push_variables(text: &mut String, name: &str, variables: &[VarIx]) -> Result<
     Ok(())
 }
 
-/// Appends a line for each pair.
+/// Appends a line for each pair (a, b): its two variables.
 fn push_pairs(text: &mut String, pairs: &[(VarIx, VarIx)]) -> Result<(), AllocError>
     ensures { OnOk result
         (string_bytes text.new ≡ string_bytes text.old
@@ -69,7 +70,7 @@ fn push_pairs(text: &mut String, pairs: &[(VarIx, VarIx)]) -> Result<(), AllocEr
     Ok(())
 }
 
-/// Appends the line of a listed set.
+/// Appends the line of a listed set: its mask in hexadecimal, and its cost.
 fn push_cell(text: &mut String, cell: ListedCell) -> Result<(), AllocError>
     ensures { OnOk result
         (string_bytes text.new ≡ string_bytes text.old ++ text_line (cell_words (listed cell))) }
@@ -92,7 +93,7 @@ fn push_cells(text: &mut String, cells: &[ListedCell]) -> Result<(), AllocError>
     Ok(())
 }
 
-/// Appends the first six lines.
+/// Appends the first six lines: format, inputs, outputs, order, level counts and total.
 fn push_head(text: &mut String, cert: &Certificate) -> Result<(), AllocError>
     ensures { OnOk result
         (string_bytes text.new ≡ string_bytes text.old
@@ -107,7 +108,8 @@ fn push_head(text: &mut String, cert: &Certificate) -> Result<(), AllocError>
     Ok(())
 }
 
-/// Appends the line with the number of pairs and those of the pairs, which format 2 alone has.
+/// Appends the line that states the number of pairs and a line for each pair. Format 1 has none of
+/// these lines.
 fn push_pair_lines(text: &mut String, cert: &Certificate) -> Result<(), AllocError>
     ensures { OnOk result
         (string_bytes text.new ≡ string_bytes text.old
@@ -121,7 +123,7 @@ fn push_pair_lines(text: &mut String, cert: &Certificate) -> Result<(), AllocErr
     Ok(())
 }
 
-/// Appends the line with the number of listed sets and those of the sets.
+/// Appends the line that states the number of listed sets and a line for each.
 fn push_cell_lines(text: &mut String, cert: &Certificate) -> Result<(), AllocError>
     ensures { OnOk result
         (string_bytes text.new ≡ string_bytes text.old
@@ -133,8 +135,8 @@ fn push_cell_lines(text: &mut String, cert: &Certificate) -> Result<(), AllocErr
 }
 
 impl Certificate {
-    /// The certificate's text, whose storage is reserved before its first byte is made: at most 12
-    /// bytes a listed set and 6 a pair beside 512. It isn't too long to be read.
+    /// The certificate's text, which is short enough to be read back. Its storage is reserved
+    /// before its first byte is made: 512 bytes, 6 for each pair and 12 for each listed set.
     pub fn text(&self, alloc: Global) -> Result<String, AllocError>
         ensures spelling { IfOk result (λ text. string_bytes text ≡ spelling self.now) }
         ensures readable { IfOk result (λ text. length (string_bytes text) ≤ most_bytes) }

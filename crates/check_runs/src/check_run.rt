@@ -14,7 +14,7 @@ use std::alloc::{AllocError, Global};
 use std::thread::Threads;
 use truth_table::Tables;
 
-/// The fault of a certificate whose bytes can't be read.
+/// The fault of a check whose certificate can't be read.
 fn fault_of_bytes(refused: Refused) -> Fault
     ensures { result ≡ bytes_fault refused }
 {
@@ -25,7 +25,8 @@ fn fault_of_bytes(refused: Refused) -> Fault
     }
 }
 
-/// Reads a certificate to its end, and parses it.
+/// The certificate that the reader `cert` has, read to its end; a fault if it can't be read or is
+/// none.
 fn read_certificate<C: CountedRead>(alloc: Global, cert: &mut C) -> Result<Certificate, Fault>
     ensures cert { IfOk result (λ c. IfSome (C.remaining cert.old) (λ text. SpellsWithin text c)) }
     ensures refused { IfErr result
@@ -43,7 +44,8 @@ fn read_certificate<C: CountedRead>(alloc: Global, cert: &mut C) -> Result<Certi
     }
 }
 
-/// The outcome of a check, and the line that it writes.
+/// The outcome of a check, and the line that it writes. The certificate is checked for the
+/// functions of the cover.
 fn verdict_on<R: Threads + Sync>(
     rt: &R,
     alloc: Global,

@@ -4,8 +4,8 @@ ghost use Rattle.std.specs.Prelude.{◌≡◌, ℕ, List};
 ghost use Rattle.outcomes.specs.declared.outcome.Outcome.{Outcome};
 ghost use Rattle.check_runs.specs.Judging.{Judge};
 
-/// What a check decides, but for being out of memory and failed calls, follows from the bytes of
-/// the file and of the certificate alone.
+/// The outcome of a check and its line follow from the bytes of the file and of the certificate
+/// alone, unless memory is wanting or a call fails.
 pub fn verdicts_are_determined()
     ensures { (file text : List ℕ) (outcome other : Outcome) (a b : List ℕ) →
         Judge file text outcome a → Judge file text other b → (outcome ≡ other) × (a ≡ b) }

@@ -13,7 +13,7 @@ use std::fs;
 use std::rt::Files;
 use std::thread::Threads;
 
-/// Opens the file, then the certificate, and writes the verdict.
+/// Opens the PLA file, then the certificate, and writes the verdict to `out`.
 fn check_files<'a, R: Files + AllocGlobal + Threads + Sync, W: CountedWrite>(
     rt: &R,
     line: &CheckLine<'a>,
@@ -32,8 +32,8 @@ fn check_files<'a, R: Files + AllocGlobal + Threads + Sync, W: CountedWrite>(
     run_check(rt, rt.alloc(), &mut file, &mut cert, out)
 }
 
-/// The program: the words are those after its name, the verdict goes to `out`, messages to `err`.
-/// Returns the exit status.
+/// The program ordercheck. `words` are those after its name; the verdict goes to `out`, messages to
+/// `err`. Returns the exit status.
 ///
 /// The words are `FILE CERT`. Both files are opened before FILE is read and decided; then CERT is.
 pub fn ordercheck<'a, R: Files + AllocGlobal + Threads + Sync, W: CountedWrite, E: CountedWrite>(

@@ -12,7 +12,7 @@ use std::fmt::Write;
 /// The longest line: two numbers of at most 6 digits and the words.
 const LONGEST_LINE: usize = 32;
 
-/// Appends the words of a reason.
+/// Appends the words of a reason to `text`.
 fn push_reason(text: &mut String, reason: Reason) -> Result<(), AllocError>
     ensures { OnOk result
         (string_bytes text.new ≡ string_bytes text.old ++ reason_words (reason_of reason)) }
@@ -32,7 +32,7 @@ fn push_reason(text: &mut String, reason: Reason) -> Result<(), AllocError>
     }
 }
 
-/// The line of a certificate that is not good.
+/// The line on a certificate that is not good: `invalid` and the reason.
 pub(crate) fn invalid_text(alloc: Global, reason: Reason) -> Result<String, AllocError>
     ensures { IfOk result (λ text. string_bytes text ≡ invalid_line (reason_of reason)) }
 {
@@ -43,7 +43,7 @@ pub(crate) fn invalid_text(alloc: Global, reason: Reason) -> Result<String, Allo
     Ok(text)
 }
 
-/// Appends how many pairs there are, if there are any.
+/// Appends the number of pairs to `text`, if there are any.
 fn push_pairs(text: &mut String, pairs: usize) -> Result<(), AllocError>
     ensures { OnOk result (string_bytes text.new ≡ string_bytes text.old ++ pairs_words pairs) }
 {
@@ -53,7 +53,8 @@ fn push_pairs(text: &mut String, pairs: usize) -> Result<(), AllocError>
     Ok(())
 }
 
-/// The line of a certificate that is good.
+/// The line on a certificate that is good: `valid`, its total, and the number of its pairs if it
+/// has any.
 pub(crate) fn valid_text(alloc: Global, cert: &Certificate) -> Result<String, AllocError>
     ensures { IfOk result (λ text. string_bytes text ≡ valid_line cert.now) }
 {

@@ -1,4 +1,4 @@
-//! Class tables.
+//! Class tables of single sets, and the widths over them.
 
 ghost use Rattle.std.specs.Prelude.{◌≡◌, ◌==◌, ℕ, ◌+◌, ◌*◌, ◌^◌, ◌<◌, ◌≤◌, if◌then◌else◌, length, slice_index, IfOk, OnOk, OnErr, IsFalse, IsTrue};
 ghost use Rattle.std.specs.Int.{bit_at};
@@ -17,9 +17,9 @@ use std::alloc::{AllocError, Global};
 use std::marker::Model;
 use subfunction_classes::{count_with, no_dependence, rank_of, value_numbers};
 
-/// The classes of a set of variables: which subfunctions over it are equal. Each assignment of the
-/// other variables has an entry in each function's part of the table, assignments rising, and equal
-/// subfunctions have one number, by first occurrence.
+/// The class table of a set: which subfunctions over it are equal. Each assignment of the other
+/// variables has an entry in each function's part of the table, assignments rising, and equal
+/// subfunctions have one class number, by first occurrence.
 #[derive(Drop)]
 pub struct Classes<'a> {
     problem: &'a Problem,
@@ -42,7 +42,7 @@ impl<'a> Model for Classes<'a> {
 impl<'a> Classes<'a> {
     ghost use Rattle.subfunction_classes.specs.Table.{set_of, functions_of, with_variable, classes_of};
 
-    /// The classes of the empty set.
+    /// The class table of the empty set.
     pub fn of_problem(alloc: Global, problem: &'a Problem) -> Result<Classes<'a>, AllocError>
         ensures { IfOk result (λ c. c ≡ classes_of problem.now 0) }
     {
@@ -56,7 +56,7 @@ impl<'a> Classes<'a> {
         })
     }
 
-    /// The classes of a set.
+    /// The class table of the set `mask`.
     pub fn of_set(
         alloc: Global,
         problem: &'a Problem,
@@ -74,7 +74,7 @@ impl<'a> Classes<'a> {
         Ok(classes)
     }
 
-    /// Whether a variable is outside the set, so that it may be added.
+    /// Whether x is a variable of the problem that the set lacks, so that it may be added.
     pub fn lacks(&self, x: VarIx) -> bool
         ensures inside { IsTrue result → x < self.now.problem.inputs }
         ensures new { IsTrue result → IsFalse (has (set_of self.now) x) }
@@ -84,8 +84,8 @@ impl<'a> Classes<'a> {
         x < self.problem.inputs() && !contains(self.set, x)
     }
 
-    /// The class of each entry, by first occurrence: function by function, assignments of the
-    /// variables outside the set rising, the lowest variable in the lowest bit.
+    /// The class number of each entry, by first occurrence: function by function, assignments of
+    /// the variables outside the set rising, the lowest variable in the lowest bit.
     pub fn numbers(&self) -> &[u32]
         ensures { result.now ≡ class_numbers self.now.problem.inputs (functions_of self.now)
             (set_of self.now) }
@@ -93,7 +93,7 @@ impl<'a> Classes<'a> {
         self.numbers.as_slice()
     }
 
-    /// The width of a variable over the set. The tally rises by one.
+    /// The width of x over the set. The tally rises by one.
     pub fn width(&self, alloc: Global, x: VarIx, tally: &mut Tally) -> Result<u32, AllocError>
         requires inside { x < self.now.problem.inputs }
         requires new { IsFalse (has (set_of self.now) x) }
@@ -110,7 +110,8 @@ impl<'a> Classes<'a> {
         Ok(width)
     }
 
-    /// The width of a variable over the set, counted in working memory. The tally rises by one.
+    /// The width of x over the set, counted in the working memory `scratch`. The tally rises by
+    /// one.
     pub fn width_in(&self, x: VarIx, scratch: &mut Scratch, tally: &mut Tally) -> u32
         requires inside { x < self.now.problem.inputs }
         requires new { IsFalse (has (set_of self.now) x) }
@@ -128,7 +129,7 @@ impl<'a> Classes<'a> {
         width
     }
 
-    /// The width of a variable of the set over the set without it.
+    /// The width of x, a member of the set, over the set without it.
     fn width_into(&self, x: VarIx) -> u32
         requires { IsTrue (has (set_of self.now) x) }
         ensures { result ≡ width_over self.now.problem.inputs (functions_of self.now)
@@ -137,14 +138,14 @@ impl<'a> Classes<'a> {
         count_with(&self.masks, x)
     }
 
-    /// The set, as a mask.
+    /// The set that the table is of, as a mask.
     pub fn set(&self) -> Mask
         ensures { result ≡ self.now.set }
     {
         self.set
     }
 
-    /// The classes with one more variable in the set.
+    /// The class table of the set with x added.
     pub fn compact(&self, alloc: Global, x: VarIx) -> Result<Classes<'a>, AllocError>
         requires inside { x < self.now.problem.inputs }
         requires new { IsFalse (has (set_of self.now) x) }
@@ -153,8 +154,8 @@ impl<'a> Classes<'a> {
         self.compact_by(alloc, x, false)
     }
 
-    /// The classes with one more variable in the set, whose pairs are numbered in an `IndexSet`.
-    /// Slower than `compact`: only tests call it, to compare.
+    /// The class table of the set with x added. Pairs of class numbers are numbered in an
+    /// `IndexSet`. Slower than `compact`: only tests call it, to compare.
     pub fn compact_indexed(&self, alloc: Global, x: VarIx) -> Result<Classes<'a>, AllocError>
         requires inside { x < self.now.problem.inputs }
         requires new { IsFalse (has (set_of self.now) x) }
@@ -163,8 +164,8 @@ impl<'a> Classes<'a> {
         self.compact_by(alloc, x, true)
     }
 
-    /// The classes with one more variable in the set, whose pairs are numbered in an `IndexSet` if
-    /// `indexed` is true.
+    /// The class table of the set with x added. Pairs of class numbers are numbered in an
+    /// `IndexSet` if `indexed` is true, else as `compact` does.
     fn compact_by(&self, alloc: Global, x: VarIx, indexed: bool) -> Result<Classes<'a>, AllocError>
         requires inside { x < self.now.problem.inputs }
         requires new { IsFalse (has (set_of self.now) x) }

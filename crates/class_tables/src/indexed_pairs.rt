@@ -1,4 +1,4 @@
-//! Numbers of pairs of entries by first occurrence, and their masks.
+//! Numbers of pairs of class numbers by first occurrence, and their masks.
 
 ghost use Rattle.std.specs.Prelude.{◌≡◌, ℕ, ◌*◌, ◌^◌, ◌<◌, ◌≤◌, length, IfOk};
 ghost use Rattle.definitions.specs.Widths.{same_pair};
@@ -11,7 +11,7 @@ use indexmap::IndexSet;
 use pair_numbering::{EntryPairs, MaskedNumbers, MaskedPairs, join_masks, number_with_masks};
 use std::alloc::{AllocError, Global};
 
-/// The number of each pair by first occurrence, found in an `IndexSet`.
+/// The number of each pair of entries by first occurrence, found in an `IndexSet`.
 fn index_pairs(alloc: Global, entries: &EntryPairs<'_>) -> Result<Vec<u32>, AllocError>
     ensures { IfOk result (λ v. v.items ≡
         ranks same_pair (places.pairs entries.now.numbers (2 ^ entries.now.rank))) }
@@ -26,7 +26,8 @@ fn index_pairs(alloc: Global, entries: &EntryPairs<'_>) -> Result<Vec<u32>, Allo
     Ok(out)
 }
 
-/// The pair of each number, where `numbered` has the number of each pair by first occurrence.
+/// The distinct pairs of entries, by their numbers. `numbered` has the number of each pair by first
+/// occurrence.
 fn distinct_pairs(
     alloc: Global,
     entries: &EntryPairs<'_>,
@@ -46,8 +47,8 @@ fn distinct_pairs(
     Ok(pairs)
 }
 
-/// The number of each pair by first occurrence, found in an `IndexSet`, and the mask of each
-/// number.
+/// The number of each pair by first occurrence, found in an `IndexSet`, and for each number the
+/// mask of the variables that its functions depend on.
 fn number_pairs_by_index(
     alloc: Global,
     pairs: &MaskedPairs<'_>,
@@ -64,8 +65,8 @@ fn number_pairs_by_index(
     })
 }
 
-/// The number of each pair by first occurrence, and the mask of each number: found in an `IndexSet`
-/// if `indexed` is true, else in the fastest way.
+/// The number of each pair by first occurrence, and for each number the mask of the variables that
+/// its functions depend on. Found in an `IndexSet` if `indexed` is true, else in the fastest way.
 pub(crate) fn number_by(
     alloc: Global,
     pairs: &MaskedPairs<'_>,

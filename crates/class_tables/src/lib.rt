@@ -1,5 +1,6 @@
 //! Class tables of single sets, and the widths over them, one at a time: what the solver computes
-//! for whole blocks at once, in the plainest form. And counts that take no memory.
+//! for whole blocks at once, in the plainest form. Widths may be counted in working memory that is
+//! made once.
 #![tactic(auto)]
 
 mod classes;

@@ -15,10 +15,15 @@ use subfunction_classes::join_mask;
 /// largest table.
 #[derive(Drop)]
 pub struct Scratch {
+    /// For each lower class its first pair.
     heads: Vec<u32>,
+    /// For each pair the next one with the same lower class.
     next: Vec<u32>,
+    /// For each upper class with which lower class it was met last.
     stamps: Vec<u32>,
+    /// For each upper class the first pair with it and that lower class.
     marks: Vec<u32>,
+    /// For each pair the first pair that is equal to it.
     first: Vec<u32>,
 }
 
@@ -49,7 +54,8 @@ impl Scratch {
         })
     }
 
-    /// How many distinct pairs have variable x in their joined mask.
+    /// How many distinct pairs have the variable by which they are paired in their joined masks:
+    /// the width of that variable.
     pub fn count_joined(&mut self, pairs: &MaskedPairs<'_>) -> u32
         requires few { length pairs.now.masks.now ≤ length pairs.now.entries.numbers }
         requires long { length pairs.now.entries.numbers ≤ self.old }
@@ -68,8 +74,8 @@ impl Scratch {
     }
 }
 
-/// How many distinct pairs have variable x in their joined mask. The rows are working memory, long
-/// enough for the pairs.
+/// How many distinct pairs have the variable by which they are paired in their joined masks. The
+/// rows are working memory, long enough for the pairs.
 fn count_in(
     pairs: &MaskedPairs<'_>,
     heads: &mut [u32],
@@ -96,8 +102,9 @@ fn count_in(
     count_firsts(pairs, first)
 }
 
-/// How many distinct pairs have variable x in their joined mask. `first[j]` is the first pair that
-/// is equal to pair j, so a distinct pair is counted at the j with `first[j] = j`.
+/// How many distinct pairs have the variable by which they are paired in their joined masks.
+/// `first[j]` is the first pair that is equal to pair j, so a distinct pair is counted at the j
+/// with `first[j] = j`.
 fn count_firsts(pairs: &MaskedPairs<'_>, first: &[u32]) -> u32
     requires first { AreFirsts pairs.now.entries first.now }
     ensures { CountsMasks pairs.now.masks.now pairs.now.x

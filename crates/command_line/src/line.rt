@@ -14,18 +14,20 @@ use std::alloc::{AllocError, Global};
 /// What a run has to do.
 #[derive(Clone, Copy, Debug)]
 pub struct RunPlan<'a> {
-    /// How many workers share the work. A count makes no use of them.
+    /// How many workers share the work. `--count` makes no use of them.
     pub workers: Workers,
     /// Whether only the level counts under the file order are wanted.
     pub count: bool,
     /// The pairs `A,B:C,D` that the order has to keep, as they were written: variable A above
-    /// variable B. A count makes no use of them.
+    /// variable B, and C above D. `--count` makes no use of them.
     pub above: Option<&'a str>,
 }
 
-/// A command line: `[--workers W] [--cert OUT] [--count] [--above LIST] FILE`, in any order.
+/// A command line of minorder: `[--workers W] [--cert OUT] [--count] [--above LIST] FILE`, in any
+/// order.
 #[derive(Clone, Copy, Debug)]
 pub struct Line<'a> {
+    /// What the run has to do.
     pub plan: RunPlan<'a>,
     /// The path of the PLA file.
     pub file: &'a str,
@@ -46,7 +48,8 @@ fn workers_option<'a>(alloc: Global) -> Arg<'a>
         .default_value("4")
 }
 
-/// The option `--NAME VALUE`, which takes one value.
+/// The option `--name`, which takes one value. Its line of help shows `value` for the value, and
+/// the text `help`.
 fn option<'a>(alloc: Global, name: &'a str, value: &'a str, help: &'a str) -> Arg<'a>
     ensures rule { rule_of result ≡ option_rule name.entry.now }
     ensures local { result.global ≡ false }
@@ -110,8 +113,8 @@ fn command<'a>(alloc: Global) -> Result<Command<'a>, AllocError>
     with_options(alloc, command)?.arg(file)
 }
 
-/// The command line that clap's matches state. None if the file or the number of workers is
-/// missing.
+/// The command line that clap's matches state. None if the file is missing, or the number of
+/// workers is missing or not from 1 to 64.
 fn line_of<'a>(matches: &ArgMatches<'a>) -> Option<Line<'a>>
     ensures line { IfSome result
         (IsLineBy (first_value (found_of matches.now)) (one_text (found_of matches.now))) }
@@ -135,7 +138,8 @@ fn line_of<'a>(matches: &ArgMatches<'a>) -> Option<Line<'a>>
 }
 
 impl<'a> Line<'a> {
-    /// The command line that the words after the program's name state, by clap's rules.
+    /// The command line that the words after the program's name state, by clap's rules, or help or
+    /// a fault.
     ///
     /// Options stand before or after the file, each at most once. An option's value may stand in
     /// the same word, as in `--workers=2`.

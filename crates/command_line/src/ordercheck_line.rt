@@ -50,7 +50,8 @@ fn line_of<'a>(matches: &ArgMatches<'a>) -> Option<CheckLine<'a>>
 }
 
 impl<'a> CheckLine<'a> {
-    /// The command line that the words after the program's name state, by clap's rules.
+    /// The command line that the words after the program's name state, by clap's rules, or help or
+    /// a fault.
     pub fn of_words(alloc: Global, words: &'a [&'a str]) -> Result<CheckLine<'a>, Usage>
         ensures line { IfOk result (IsCheckLineOf (texts words.now)) }
         ensures refused { IfErr result (Explains ordercheck LacksPaths (texts words.now)) }

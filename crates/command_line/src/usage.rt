@@ -7,7 +7,8 @@ use clap::Error;
 use clap::error::ErrorKind;
 use std::alloc::AllocError;
 
-/// Why a command line gives no plan. The text of help and of a fault is clap's.
+/// Why words after a program's name give no command line. The text of help and of a fault is
+/// clap's.
 #[derive(Debug, Drop)]
 pub enum Usage {
     /// Help was requested.

@@ -1,4 +1,5 @@
-//! One more variable in strips: pairs of strips, whose entries are numbered.
+//! Adds one more variable to class tables in strips: strips are paired by it, and the pairs of
+//! their entries are numbered.
 
 ghost use Rattle.std.specs.Prelude.{◌≡◌, ℕ, ◌+◌, ◌*◌, ◌^◌, ◌<◌, ◌≤◌, length, slice_index, IfOk, IsTrue};
 ghost use Rattle.subfunction_classes.specs.PairTables.{AreOwn};
@@ -11,18 +12,20 @@ use pair_numbering::{MaskedPairs, PairKeys, label_pairs};
 use std::alloc::{AllocError, Global};
 use std::marker::Model;
 
-/// Strips whose names are paired by a variable above those inside a strip.
+/// A class table in strips, and by which variable above those inside a strip the names of its
+/// strips are to be paired. The name of a strip is its number.
 #[derive(Drop)]
 pub(crate) struct StripTable<'a> {
-    /// The name of the strip of each assignment of the variables above those inside a strip.
+    /// For each assignment of the variables above those inside a strip, the name of its strip.
     pub(crate) outer: &'a [u32],
-    /// How many of these variables stand below the one that pairs the names.
+    /// How many of the variables of `outer` are below the one that pairs the names: names 2^rank
+    /// apart are a pair.
     pub(crate) rank: u32,
-    /// The entries of the strips, one strip after the other.
+    /// The class numbers in the strips, one strip after the other.
     pub(crate) numbers: &'a [u32],
     /// How many variables stand inside a strip: it has 2^bits entries.
     pub(crate) bits: u32,
-    /// The mask of each number.
+    /// For each class number, the mask of the variables that its subfunctions depend on.
     pub(crate) masks: &'a [Mask],
 }
 
@@ -42,8 +45,9 @@ impl<'a> Model for StripTable<'a> {
     ghost invariant = { λ t. IsStripTable t.outer.now t.rank t.numbers.now t.bits t.masks.now };
 }
 
-/// Strips, the names of the runs, and the mask of each number. If `all_used` is true each mask is
-/// that of a number that occurs.
+/// The parts of a class table in strips: the names in `outer` and the class numbers in `numbers` as
+/// in a `StripTable`, and a mask for each class number. If `all_used` is true, each mask is that of
+/// a class number that occurs.
 #[derive(Drop)]
 pub(crate) struct StripParts {
     pub(crate) outer: Vec<u32>,
@@ -54,7 +58,7 @@ pub(crate) struct StripParts {
 }
 
 impl StripParts {
-    /// Strips that may have masks of numbers that don't occur.
+    /// The parts of a table, whose masks may be those of class numbers that don't occur.
     pub(crate) fn new(outer: Vec<u32>, numbers: Vec<u32>, masks: Vec<Mask>) -> StripParts
         ensures outer { result.outer ≡ outer }
         ensures numbers { result.numbers ≡ numbers }
@@ -69,7 +73,7 @@ impl StripParts {
     }
 }
 
-/// Whether the numbers count up from 0, as they do if each is new.
+/// Whether the numbers are 0, 1, 2 and so on.
 pub(crate) fn are_in_order(numbers: &[u32]) -> bool
     ensures up { IsTrue result → AreOwn numbers.now }
     ensures all { AreOwn numbers.now → IsTrue result }
@@ -82,7 +86,7 @@ pub(crate) fn are_in_order(numbers: &[u32]) -> bool
     true
 }
 
-/// The numbers 0, 1, 2 and so on.
+/// The numbers 0, 1, 2 and so on, `count` of them.
 fn first_numbers(alloc: Global, count: usize) -> Result<Vec<u32>, AllocError>
     requires { count ≤ 2 ^ 20 }
     ensures long { IfOk result (λ v. length v.items ≡ count) }
@@ -95,8 +99,9 @@ fn first_numbers(alloc: Global, count: usize) -> Result<Vec<u32>, AllocError>
     Ok(numbers)
 }
 
-/// The names of strips with one more variable, which stands above those inside a strip, and the
-/// labels of their entries, if the strips are named in order: their entries are all entries.
+/// The names, and the class numbers with their masks, of the table with x added, a variable above
+/// those inside a strip. The names of `table` are 0, 1, 2 and so on: all its entries stand one
+/// behind the other, and are paired as they stand.
 fn add_in_order(
     alloc: Global,
     table: &StripTable<'_>,
@@ -115,8 +120,9 @@ fn add_in_order(
     Ok((outer, labels))
 }
 
-/// The names and labels of strips with one more variable, which stands above those inside a strip:
-/// pairs of strips become strips. Pairs of names that are known aren't numbered again.
+/// The names, and the class numbers with their masks, of the table with x added, a variable above
+/// those inside a strip. Each distinct pair of strips becomes a strip. `known` may have the pairs
+/// of these names, numbered beforehand.
 fn add_by_pairs(
     alloc: Global,
     table: &StripTable<'_>,
@@ -136,7 +142,8 @@ fn add_by_pairs(
     Ok((runs.numbers, labels))
 }
 
-/// Strips with one more variable, which stands above those inside a strip.
+/// The parts of the class table with x added, a variable above those inside a strip. `known` may
+/// have the pairs of the names, numbered beforehand.
 pub(crate) fn add_above(
     alloc: Global,
     table: &StripTable<'_>,

@@ -1,4 +1,4 @@
-//! Widths that are found ahead of their layer.
+//! Rows of widths that are found before the cells of their layer need them.
 
 ghost use Rattle.std.specs.Prelude.{◌≡◌, IfSome, OnOk, OnErr};
 ghost use Rattle.compaction.specs.Ahead.{none_ahead, with_others};
@@ -9,12 +9,13 @@ use order_model::Problem;
 use std::alloc::{AllocError, Global};
 use std::marker::Model;
 
-/// Rows of a problem that were found ahead of their layers, and the size of the largest sets of
-/// which rows are to be found.
+/// Rows of widths of a problem's sets that were found ahead of their layers.
 #[derive(Drop)]
 pub(crate) struct WidthsAhead<'a> {
     problem: &'a Problem,
+    /// The size of the largest sets of which rows are to be found.
     end: u8,
+    /// The rows of one low byte each. Of two with one low byte the last one counts.
     bytes: Vec<ByteRows>,
 }
 
@@ -33,7 +34,7 @@ impl<'a> Model for WidthsAhead<'a> {
 }
 
 impl<'a> WidthsAhead<'a> {
-    /// Nothing is found, and rows are to be found of sets up to a size.
+    /// An empty list of rows. `end` is the size of the largest sets of which rows are to be found.
     pub(crate) fn up_to(alloc: Global, problem: &'a Problem, end: u8) -> WidthsAhead<'a>
         ensures { result ≡ none_ahead problem.now end }
     {
@@ -51,7 +52,7 @@ impl<'a> WidthsAhead<'a> {
         self.end
     }
 
-    /// Appends what others found. If memory is refused this stays.
+    /// Appends the rows of `others`; `end` stays. If memory is refused nothing changes.
     pub(crate) fn append(&mut self, others: WidthsAhead<'_>) -> Result<(), AllocError>
         requires { others.problem ≡ self.old.problem }
         ensures ok { OnOk result (self.new ≡ with_others self.old others.entry) }
@@ -61,7 +62,7 @@ impl<'a> WidthsAhead<'a> {
         self.bytes.append(&mut others.bytes)
     }
 
-    /// Adds the rows of one low byte. If memory is refused this stays.
+    /// Appends the rows of one low byte. If memory is refused nothing changes.
     pub(crate) fn keep(&mut self, byte: ByteRows) -> Result<(), AllocError>
         requires { HoldsRows self.old.problem byte }
         ensures { self.new.problem ≡ self.old.problem }
@@ -71,14 +72,14 @@ impl<'a> WidthsAhead<'a> {
     }
 }
 
-/// Of each low byte the place of the rows that were found last.
+/// For each low byte, the place of its last rows in a `WidthsAhead`, if it has some.
 #[derive(Clone, Copy)]
 pub(crate) struct Places {
     of: [Option<usize>; 256],
 }
 
 impl Places {
-    /// The places of rows.
+    /// The place of each low byte's last rows in `found`.
     pub(crate) fn of(found: &WidthsAhead<'_>) -> Places {
         let mut places = Places { of: [None; 256] };
         for (place, byte) in found.bytes.iter().enumerate() {
@@ -89,7 +90,7 @@ impl Places {
 }
 
 impl<'a> WidthsAhead<'a> {
-    /// The rows of a low byte, if some were found.
+    /// The rows of the low byte `low`, at its place in `places`; none if none were found.
     pub(crate) fn rows_at(&self, places: &Places, low: u8) -> Option<&ByteRows>
         ensures rows { IfSome result (λ b. HoldsRows self.now.problem b.now) }
         ensures low { IfSome result (λ b. b.now.low ≡ low) }

@@ -15,7 +15,8 @@ use std::alloc::{AllocError, Global};
 use std::marker::Model;
 use subset_layers::Block;
 
-/// The widths of the sets of a block: a row for each of its masks.
+/// The widths of the sets of a block: a row for each set, and how many class tables were compacted
+/// for them.
 #[derive(Drop)]
 pub struct BlockWidths {
     rows: Vec<WidthRow>,
@@ -31,7 +32,7 @@ impl Model for BlockWidths {
 }
 
 impl BlockWidths {
-    /// Rows, and how many tables were compacted for them.
+    /// The widths with these rows, for which `compactions` class tables were compacted.
     pub(crate) fn new(rows: Vec<WidthRow>, compactions: u32) -> BlockWidths
         ensures rows { result.rows ≡ rows.items }
         ensures compactions { result.compactions ≡ compactions }
@@ -39,8 +40,8 @@ impl BlockWidths {
         BlockWidths { rows, compactions }
     }
 
-    /// The widths of the set at a place of the block: at each variable that was wanted its width
-    /// over the set without it, else 0.
+    /// The row of the set at place i of the block: at each member whose width was needed this
+    /// width, over the set without the member, and 0 elsewhere.
     pub fn row(&self, i: usize) -> WidthRow
         requires { i < length self.now.rows }
         ensures { slice_get self.now.rows i ≡ Some result }
@@ -48,7 +49,7 @@ impl BlockWidths {
         self.rows[i]
     }
 
-    /// The rows alone.
+    /// The rows, in the order of the block's sets.
     pub fn into_rows(self) -> Vec<WidthRow>
         ensures { result.items ≡ self.rows }
     {
@@ -63,7 +64,7 @@ impl BlockWidths {
     }
 }
 
-/// The widths of some members alone, and 0 of the others.
+/// The entries of `row` at the variables in `members`, and 0 elsewhere.
 fn members_only(row: WidthRow, members: Mask) -> WidthRow
     ensures { (x : ℕ) → x < 16 →
         slice_index result x ≡ (if bit_at members x == 1 then slice_index row x else 0) }
@@ -78,7 +79,8 @@ fn members_only(row: WidthRow, members: Mask) -> WidthRow
 }
 
 impl<'a> SharedTables<'a> {
-    /// What is wanted of a block's sets, from the rows of its low byte.
+    /// For each set of the block, the widths of its members in `needed`, and 0 elsewhere. They are
+    /// read from `byte`, the rows of the block's low byte.
     pub(crate) fn rows_of_block(
         &self,
         alloc: Global,
@@ -103,8 +105,8 @@ impl<'a> SharedTables<'a> {
     }
 }
 
-/// The widths that the cells of a block's sets need: of each set those of the variables in
-/// `needed`, all of which are its members. The tally rises by their number.
+/// For each set of the block, the widths of its members in `needed`, and 0 elsewhere, by a walk
+/// that has no tables to begin with. The tally rises by the number of these widths.
 pub fn block_widths(
     alloc: Global,
     problem: &Problem,
@@ -127,7 +129,8 @@ pub fn block_widths(
 }
 
 impl<'a> SharedTables<'a> {
-    /// As `block_widths`, of the problem that the tables are of.
+    /// For each set of the block, the widths of its members in `needed`, and 0 elsewhere, by a walk
+    /// that begins with the shared tables. The tally rises by the number of these widths.
     pub fn block_widths(
         &self,
         alloc: Global,
@@ -155,7 +158,8 @@ impl<'a> SharedTables<'a> {
         Ok(BlockWidths { rows, compactions })
     }
 
-    /// The widths of all members of a block's sets, for measurements and tests.
+    /// The widths of all members of the block's sets, for measurements and tests. The tally rises
+    /// by their number.
     pub fn all_widths(
         &self,
         alloc: Global,
@@ -177,7 +181,8 @@ impl<'a> SharedTables<'a> {
     }
 }
 
-/// The widths of all members of a block's sets, for measurements and tests.
+/// The widths of all members of the block's sets, for measurements and tests. The tally rises by
+/// their number.
 pub fn all_widths(
     alloc: Global,
     problem: &Problem,

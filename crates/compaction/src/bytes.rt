@@ -1,5 +1,5 @@
-//! Keys of sets of the lowest three variables: the values of a byte stand in a row, and only the
-//! rows of the 256 bytes are worked on before the strips are written out.
+//! Class tables of sets of the lowest three variables in a short form: a class number is stored for
+//! the entries of each of the 256 bytes, before the strips are written out.
 
 ghost use Rattle.std.specs.Prelude.{◌≡◌, ◌*◌, ◌^◌, ◌<◌, ◌≤◌, length, IfOk, IsFalse};
 ghost use Rattle.definitions.specs.Orders.{has};
@@ -14,15 +14,20 @@ use std::marker::Model;
 use subfunction_classes::rank_of;
 use value_strips::{ByteStrips, byte_strips};
 
-/// The keys of a set of the lowest three variables. A byte names a row, which has an entry for each
-/// assignment of those of the three outside the set.
+/// The class table of a set of the lowest three variables. A byte has the values at eight points
+/// that differ in these variables alone.
 #[derive(Drop)]
 pub(crate) struct ByteKeys<'a> {
     problem: &'a Problem,
     set: Mask,
+    /// For each assignment of the high variables, function by function, the name of its strip.
     outer: Vec<u32>,
+    /// The 32 bytes of each strip, one strip after the other.
     bytes: Vec<u8>,
+    /// A row for each of the 256 bytes: a class number for each assignment of those of the three
+    /// variables that are outside the set.
     rows: Vec<u32>,
+    /// For each class number, the mask of the variables that its subfunctions depend on.
     masks: Vec<Mask>,
 }
 
@@ -38,7 +43,8 @@ impl<'a> Model for ByteKeys<'a> {
         (classes_of c.problem.now c.set) 8 c.outer.items c.bytes.items c.rows.items c.masks.items };
 }
 
-/// Writes the strips that are named, one after the other.
+/// Writes to `out` the rows that `names` names, one behind the other. Row i is the `strip` entries
+/// of `numbers` from `i * strip` on.
 #[inline(always)]
 fn write_strips(names: &[u8], numbers: &[u32], strip: usize, out: &mut [u32])
     requires few { length numbers.now ≤ 2 ^ 20 }
@@ -55,7 +61,8 @@ fn write_strips(names: &[u8], numbers: &[u32], strip: usize, out: &mut [u32])
     }
 }
 
-/// All strips that are named, one after the other. Each length that occurs has its own loop.
+/// The rows that `names` names, one behind the other. Row i is the `strip` entries of `numbers`
+/// from `i * strip` on. Each length that occurs has a loop of its own.
 fn unroll(
     alloc: Global,
     names: &[u8],
@@ -81,7 +88,8 @@ fn unroll(
 impl<'a> ByteKeys<'a> {
     ghost use Rattle.subfunction_classes.specs.Table.{set_of, with_variable, classes_of};
 
-    /// The keys of the empty set: the values.
+    /// The class table of the empty set: the problem's first value has class number 0, the other
+    /// one 1.
     pub(crate) fn of_problem(
         alloc: Global,
         problem: &'a Problem,
@@ -103,17 +111,17 @@ impl<'a> ByteKeys<'a> {
         })
     }
 
-    /// The names of the strips, function by function.
+    /// For each assignment of the high variables, function by function, the name of its strip.
     pub(crate) fn names(&self) -> &[u32] {
         self.outer.as_slice()
     }
 
-    /// How many strips are kept.
+    /// How many distinct strips there are.
     pub(crate) fn strips(&self) -> usize {
         self.bytes.len() / 32
     }
 
-    /// The keys with one more variable in the set.
+    /// The class table of the set with x added, one of the lowest three variables.
     pub(crate) fn add(&self, alloc: Global, x: VarIx) -> Result<ByteKeys<'a>, AllocError>
         requires inner { x < 3 }
         requires inside { 8 ≤ self.now.problem.inputs }
@@ -137,7 +145,7 @@ impl<'a> ByteKeys<'a> {
         })
     }
 
-    /// The strips, written out.
+    /// The class table of the same set, with each strip written out.
     pub(crate) fn write_out(&self, alloc: Global) -> Result<Strips<'a>, AllocError>
         requires { 8 ≤ self.now.problem.inputs }
         ensures { IfOk result (λ c. c ≡ self.now) }

@@ -1,4 +1,4 @@
-//! Rows of what is asked for, low byte by low byte, by one thread or several.
+//! Finds the rows that are requested, low byte by low byte, by one thread or several.
 
 ghost use Rattle.std.specs.Prelude.{◌≡◌, All, IfOk};
 ghost use Rattle.compaction.specs.Rows.{HoldsRows};
@@ -18,10 +18,11 @@ use std::thread::Threads;
 #[derive(Drop)]
 struct Turns {
     bytes: [u8; 256],
+    /// How often a thread came for a byte.
     taken: AtomicU64,
 }
 
-/// All bytes, by rising number of members.
+/// All bytes, those with the fewest bits first.
 fn bytes_by_size() -> [u8; 256] {
     let mut bytes = [0; 256];
     let mut count = 0usize;
@@ -37,7 +38,7 @@ fn bytes_by_size() -> [u8; 256] {
 }
 
 impl Turns {
-    /// None is taken.
+    /// The turns before any byte is taken.
     fn new() -> Turns {
         Turns {
             bytes: bytes_by_size(),
@@ -45,7 +46,7 @@ impl Turns {
         }
     }
 
-    /// The next low byte, if one is left.
+    /// The next low byte, or none if all are taken.
     fn next(&self) -> Option<u8> {
         let turn = self.taken.fetch_add(1, Ordering::SeqCst);
         if turn < 256 {
@@ -57,7 +58,7 @@ impl Turns {
 }
 
 impl<'a> SharedTables<'a> {
-    /// The rows of what is wanted of the sets with a low byte.
+    /// The rows of the sets with one low byte: the widths that `request` needs.
     fn rows_of(&self, alloc: Global, request: &WidthRequest) -> Result<ByteRows, AllocError>
         requires { request.now.inputs ≡ self.now.inputs }
         ensures { IfOk result (HoldsRows self.now) }
@@ -67,7 +68,8 @@ impl<'a> SharedTables<'a> {
         Ok(byte)
     }
 
-    /// The rows of the low bytes that a thread comes to take.
+    /// The rows that are requested for those low bytes that the calling thread takes from `turns`.
+    /// `end` is noted as the size of the largest sets of which rows are to be found.
     fn rows_by_turns(
         &self,
         alloc: Global,
@@ -93,8 +95,8 @@ impl<'a> SharedTables<'a> {
         Ok(found)
     }
 
-    /// The rows of what is wanted, by the calling thread. `end` is noted as the size of the largest
-    /// sets of which rows are to be found.
+    /// The rows that are requested, by the calling thread. `end` is noted as the size of the
+    /// largest sets of which rows are to be found.
     pub(crate) fn rows_alone(
         &self,
         alloc: Global,
@@ -107,7 +109,8 @@ impl<'a> SharedTables<'a> {
     }
 }
 
-/// What all threads found.
+/// The rows that all threads found; an error if a thread ran out of memory. `end` is noted as the
+/// size of the largest sets of which rows are to be found.
 fn collect<'a>(
     alloc: Global,
     problem: &'a Problem,
@@ -126,7 +129,8 @@ fn collect<'a>(
 }
 
 impl<'a> SharedTables<'a> {
-    /// The rows of `rows_alone`, by the workers; none if `end` is 0.
+    /// The rows that are requested, by the workers; none if `end` is 0. `end` is noted as the size
+    /// of the largest sets of which rows are to be found.
     pub(crate) fn rows_by_workers<R: Threads + Sync>(
         &self,
         rt: &R,

@@ -1,4 +1,4 @@
-//! Some of the 256 bytes that a set of high variables can be, as bits.
+//! Sets of high bytes. A high byte is the part of a set's mask that has its high variables.
 
 ghost use Rattle.std.specs.Prelude.{◌≡◌, ◌≢◌, ℕ, ◌+◌, ◌*◌, ◌-◌, ◌<◌, ◌≤◌, length, slice_index, IsTrue};
 ghost use Rattle.std.specs.Int.{bit_at};
@@ -7,13 +7,13 @@ ghost use Rattle.compaction.specs.HighBytes.{HasByte};
 use order_model::Mask;
 use order_model::packed::lower_half;
 
-/// Some high bytes.
+/// A set of high bytes: a bit for each of the 256.
 #[derive(Clone, Copy)]
 pub(crate) struct HighBytes {
     words: [u64; 4],
 }
 
-/// The bits of a word, by its place among the four, whose bytes lack a bit.
+/// A bit for each of the 64 bytes from 64 i on that lacks bit y.
 fn bits_without(i: usize, y: u8) -> u64
     requires place { i < 4 }
     requires bit { y < 8 }
@@ -29,7 +29,7 @@ fn bits_without(i: usize, y: u8) -> u64
 }
 
 impl HighBytes {
-    /// The bytes of the sets of which something is wanted.
+    /// The high bytes of the wanted sets: those at which `needed` has a member.
     pub(crate) fn wanted(needed: &[Mask]) -> HighBytes
         requires { length needed.now ≤ 256 }
         ensures { (h : ℕ) → h < length needed.now → slice_index needed.now h ≢ 0 →
@@ -44,14 +44,14 @@ impl HighBytes {
         HighBytes { words }
     }
 
-    /// Whether there is none.
+    /// Whether no high byte is in the set.
     pub(crate) fn is_empty(&self) -> bool
         ensures { IsTrue result → (h : ℕ) → h < 256 → HasByte self.now.words h → ⊥ }
     {
         self.words == [0; 4]
     }
 
-    /// Those that lack a bit.
+    /// The high bytes of the set that lack bit y.
     pub(crate) fn without(&self, y: u8) -> HighBytes
         requires { y < 8 }
         ensures { (h : ℕ) → h < 256 → HasByte self.now.words h → bit_at h y ≡ 0 →
@@ -64,7 +64,7 @@ impl HighBytes {
         HighBytes { words }
     }
 
-    /// Those that have a bit.
+    /// The high bytes of the set that have bit y.
     pub(crate) fn with(&self, y: u8) -> HighBytes
         requires { y < 8 }
         ensures { (h : ℕ) → h < 256 → HasByte self.now.words h → bit_at h y ≡ 1 →
@@ -77,7 +77,7 @@ impl HighBytes {
         HighBytes { words }
     }
 
-    /// How many there are.
+    /// How many high bytes are in the set.
     pub(crate) fn count(&self) -> u32 {
         let mut count = 0u32;
         for word in &self.words {

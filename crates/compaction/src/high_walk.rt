@@ -1,4 +1,4 @@
-//! A walk over the high variables, from the table of a low byte.
+//! A walk over the high variables, from the class table of a low byte.
 
 ghost use Rattle.std.specs.Prelude.{◌≡◌, ℕ, ◌+◌, ◌-◌, ◌^◌, ◌<◌, ◌≤◌, length, IfOk, IfSome, IsNone, OnOk, bit_or};
 ghost use Rattle.std.specs.Int.{bit_at};
@@ -17,15 +17,15 @@ use order_model::{Mask, Problem, VarIx, WidthRow, contains};
 use std::alloc::{AllocError, Global};
 use std::marker::Model;
 
-/// Where a walk stands: the variables that are decided, and the high bytes of the wanted sets that
-/// agree with its table's set in them.
+/// Where a walk stands: the variables of which it is decided whether its table's set has them, and
+/// the high bytes of the wanted sets that agree with this set in them.
 #[derive(Clone, Copy)]
 struct Branch {
     decided: Mask,
     wanted: HighBytes,
 }
 
-/// The first undecided variable; nothing if all are decided.
+/// The lowest of the `inputs` variables that is not in `decided`; nothing if all are.
 fn first_undecided(inputs: u8, decided: Mask) -> Option<VarIx>
     requires { inputs ≤ 16 }
     ensures undecided { IfSome result (λ y. (y < inputs) × (bit_at decided y ≡ 0)) }
@@ -40,7 +40,7 @@ fn first_undecided(inputs: u8, decided: Mask) -> Option<VarIx>
 }
 
 impl Branch {
-    /// How many of the wanted sets have a high variable.
+    /// How many of the wanted sets have the high variable y; 0 if y is low or decided.
     fn count_with(&self, y: VarIx) -> u32
         requires { y < 16 }
     {
@@ -50,9 +50,9 @@ impl Branch {
         self.wanted.with(y % 8).count()
     }
 
-    /// The undecided variable that most of the wanted sets have; nothing if all are decided.
-    /// Tables halve with each variable, so what most sets share is made first. The last two
-    /// variables aren't worth the count.
+    /// The undecided variable that most of the wanted sets have; nothing if all are decided. Tables
+    /// halve with each variable, so the one that most sets share is added first. Of the last two
+    /// the lower one is taken.
     fn next_variable(&self, inputs: u8) -> Option<VarIx>
         requires { inputs ≤ 16 }
         ensures undecided { IfSome result
@@ -77,7 +77,7 @@ impl Branch {
     }
 }
 
-/// A set with one more member.
+/// The set with y added.
 fn with_member(set: Mask, y: VarIx) -> Mask
     requires { y < 16 }
     ensures { result ≡ bit_or set (2 ^ y) }
@@ -85,7 +85,8 @@ fn with_member(set: Mask, y: VarIx) -> Mask
     set | (1 << y)
 }
 
-/// Fills the row of the table's own set.
+/// Writes the row of the table's own set: the widths of its needed members, and 0 elsewhere.
+/// Nothing is written if the request is for another low byte.
 fn fill_row(
     alloc: Global,
     table: &Strips<'_>,
@@ -104,8 +105,9 @@ fn fill_row(
     Ok(())
 }
 
-/// Fills the rows of the wanted sets that agree with the table's in the decided variables, by a
-/// walk over the others. The answer is how many tables were compacted.
+/// Writes the rows of the wanted sets that agree with the table's set in the decided variables, by
+/// a walk over the others. `names` has the pairs of names that were numbered beforehand. Returns
+/// how many class tables were compacted.
 fn walk(
     alloc: Global,
     table: &Strips<'_>,
@@ -147,15 +149,15 @@ fn walk(
     Ok(before + after + 1)
 }
 
-/// All low variables, as a mask.
+/// The mask of all low variables.
 fn low_mask(problem: &Problem) -> Mask
     ensures { result ≡ 2 ^ low_of problem.now - 1 }
 {
     (1 << low_variables(problem)) - 1
 }
 
-/// Fills the rows of what is wanted from the table of the low byte. Returns how many tables were
-/// compacted.
+/// Writes the rows of the wanted sets. `table` is the class table of their low byte. Returns how
+/// many class tables were compacted.
 fn walk_from(
     alloc: Global,
     shared: &SharedTables<'_>,
@@ -178,8 +180,8 @@ fn walk_from(
     Ok(count)
 }
 
-/// Fills the rows of what is wanted. The table of the low byte is made here if it wasn't
-/// beforehand. The answer is how many tables the walk compacted.
+/// Writes the rows of the wanted sets. The class table of their low byte is made here if it wasn't
+/// beforehand. Returns how many class tables were compacted from that one on.
 fn fill_rows(
     alloc: Global,
     shared: &SharedTables<'_>,
@@ -200,8 +202,8 @@ fn fill_rows(
     walk_from(alloc, shared, &table, request, rows)
 }
 
-/// The rows of sets with one low byte: of each set, at its high byte, the widths of the members
-/// that are wanted.
+/// The rows of sets with one low byte: at a set's high byte, the widths of those of its members
+/// that the request needs.
 #[derive(Drop)]
 pub(crate) struct ByteRows {
     pub(crate) request: WidthRequest,
@@ -224,9 +226,9 @@ impl Model for ByteRows {
     ghost invariant = { λ b. IsRequest b.request.inputs b.request.low b.request.needed.items };
 }
 
-/// The rows of what is wanted, and how many tables were compacted. The table of the low byte is
-/// made once, and the others by a walk over the high variables that shares common beginnings. If
-/// nothing is wanted no table is made.
+/// The rows of the wanted sets, and how many class tables were compacted for them. The table of the
+/// low byte is made once, and the others by a walk over the high variables that shares common
+/// beginnings. If nothing is needed no table is made.
 pub(crate) fn walked_rows(
     alloc: Global,
     shared: &SharedTables<'_>,

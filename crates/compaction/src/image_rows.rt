@@ -1,4 +1,4 @@
-//! The widths of a set from those of an image of it.
+//! The widths of a set from the row of its image.
 
 ghost use Rattle.std.specs.Prelude.{◌≡◌, ◌<◌, ◌≤◌, ◌%◌, ◌==◌, ℕ, if◌then◌else◌, IfSome, IsTrue, slice_index};
 ghost use Rattle.std.specs.Int.{bit_at};
@@ -11,7 +11,7 @@ use crate::high_walk::ByteRows;
 use order_model::{Mask, VarIx, WidthRow, contains};
 use symmetries::Image;
 
-/// The width at a variable; 0 if there is none.
+/// The entry of `row` at x; 0 if x is not below 16.
 fn width_at(row: &WidthRow, x: VarIx) -> u32
     ensures { result ≡ slice_index row.now x }
 {
@@ -21,7 +21,7 @@ fn width_at(row: &WidthRow, x: VarIx) -> u32
     }
 }
 
-/// Whether the variables to which some members go are all asked for.
+/// Whether each variable in `needed` goes to one in `asked`. Variable x goes to `variables[x]`.
 fn asks_for(asked: Mask, variables: &[VarIx; 16], needed: Mask) -> bool
     ensures { IsTrue result → (x : ℕ) → x < 16 → bit_at needed x ≡ 1 →
         bit_at asked (slice_index variables.now x) ≡ 1 }
@@ -37,7 +37,8 @@ fn asks_for(asked: Mask, variables: &[VarIx; 16], needed: Mask) -> bool
     true
 }
 
-/// The widths of some members from those of the variables to which they go, and 0 of the others.
+/// At each variable x in `needed` the entry of `row` at `variables[x]`, to which x goes; 0
+/// elsewhere.
 fn members_moved(row: &WidthRow, variables: &[VarIx; 16], needed: Mask) -> WidthRow
     ensures { (x : ℕ) → x < 16 → slice_index result x ≡
         (if bit_at needed x == 1 then slice_index row.now (slice_index variables.now x) else 0) }
@@ -52,13 +53,13 @@ fn members_moved(row: &WidthRow, variables: &[VarIx; 16], needed: Mask) -> Width
 }
 
 impl ByteRows {
-    /// Whether all widths of a set with the low byte are there.
+    /// Whether the widths of all members of a set with this low byte were found.
     pub(crate) fn is_whole(&self, set: Mask) -> bool {
         self.request.needed.get(usize::from(set >> 8)) == Some(&set)
     }
 
-    /// The widths of some members of a set from the row of its image, which has the low byte, if
-    /// they are all there.
+    /// The widths of a set's members in `needed`, and 0 elsewhere, from the row of its image, which
+    /// has this low byte. None if one of these widths was not requested.
     pub(crate) fn row_by_image(&self, image: &Image, needed: Mask) -> Option<WidthRow>
         ensures { (p q : TruthTables) (set : ℕ) → p.inputs ≤ 16 → HoldsRows q self.now →
             TakesWidths p q set image.now.set image.now.variables →

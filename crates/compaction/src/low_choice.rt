@@ -11,31 +11,31 @@ use symmetries::Renaming;
 /// An odd number whose multiples spread over the words of 64 bits.
 const SPREAD: u64 = 0x9E37_79B9_7F4A_7C15;
 
-/// The most pairs of variables that change places.
+/// The most exchanges of two variables that are made.
 const MOST_CHANGES: u8 = 8;
 
-/// Class tables of so few distinct strips are small under any variables.
+/// With so few distinct strips class tables are small whichever variables are the lowest.
 const FEW_STRIPS: u32 = 16;
 
-/// A hash with one word more.
+/// The hash of `hash` and one more word.
 fn mixed(hash: u64, word: u64) -> u64 {
     let product = (hash ^ word).wrapping_mul(SPREAD);
     product ^ (product >> 29)
 }
 
-/// A hash of two hashes, in this order.
+/// The hash of two hashes, in this order.
 fn joined(first: u64, second: u64) -> u64 {
     mixed(mixed(0, first), second)
 }
 
-/// Which of 16,384 values some hashes have.
+/// Which values the upper 14 bits of some hashes have, a bit for each of 16,384.
 #[derive(Clone, Copy)]
 struct Seen {
     words: [u64; 256],
 }
 
 impl Seen {
-    /// Notes a hash.
+    /// Adds the value of a hash.
     fn add(&mut self, hash: u64) {
         let value = hash >> 50;
         if let Some(word) = self.words.get_mut((value / 64) as usize) {
@@ -43,7 +43,7 @@ impl Seen {
         }
     }
 
-    /// How many values there are.
+    /// How many distinct values there are.
     fn count(&self) -> u32 {
         let mut count = 0u32;
         for word in &self.words {
@@ -53,7 +53,8 @@ impl Seen {
     }
 }
 
-/// Of each strip a hash of the half in which some low variable is 0, and one of the other half.
+/// For each strip a hash of its half where some low variable is 0, and one of its half where it is
+/// 1.
 #[derive(Drop)]
 struct Halves {
     lower: Vec<u64>,
@@ -61,7 +62,7 @@ struct Halves {
 }
 
 impl Halves {
-    /// The halves of strips of four words by a low variable.
+    /// The hashes for all strips, of four words each. Their halves differ in the variable `low`.
     fn of(alloc: Global, words: &[u64], low: VarIx) -> Result<Halves, AllocError>
         requires { low < 8 }
     {
@@ -97,8 +98,8 @@ impl Halves {
         seen.count()
     }
 
-    /// About how many there are if the low variable changes places with a high one, which is so
-    /// many places above the lowest of these.
+    /// About how many distinct strips there are after the low variable is exchanged with the high
+    /// variable `8 + place`.
     fn count_after(&self, place: u8) -> u32
         requires { place < 8 }
     {
@@ -117,7 +118,7 @@ impl Halves {
     }
 }
 
-/// Truth tables whose variables change places.
+/// The truth tables of a problem with exchanged variables.
 #[derive(Drop)]
 struct Tables {
     words: Vec<u64>,
@@ -125,7 +126,7 @@ struct Tables {
     variables: [VarIx; 16],
 }
 
-/// Two places at which variables change, and about how many distinct strips there are then.
+/// An exchange of the variables at two places, and about how many distinct strips it leaves.
 #[derive(Clone, Copy)]
 struct Change {
     low: VarIx,
@@ -136,7 +137,7 @@ struct Change {
 }
 
 impl Tables {
-    /// The tables of a problem.
+    /// The truth tables of a problem, no variable exchanged.
     fn of(alloc: Global, problem: &Problem) -> Result<Tables, AllocError> {
         let mut words = Vec::new(alloc);
         for output in 0..problem.outputs() {
@@ -148,7 +149,8 @@ impl Tables {
         })
     }
 
-    /// The change that leaves the fewest strips.
+    /// The exchange of a low and a high variable that leaves the fewest distinct strips, as far as
+    /// they are estimated; nothing if no variable is high.
     fn best_change(&self, alloc: Global, inputs: u8) -> Result<Option<Change>, AllocError>
         requires { inputs ≤ 16 }
     {
@@ -165,14 +167,14 @@ impl Tables {
         Ok(best)
     }
 
-    /// Lets the variables at two places change.
+    /// Exchanges the variables at the two places of `change`.
     fn make(&mut self, change: Change) {
         self.variables
             .swap(change.low as usize, change.high as usize);
         exchange(&mut self.words, change.low, change.high);
     }
 
-    /// The variables at the eight lowest places.
+    /// The variables at the eight lowest places, as a mask.
     fn lowest(&self) -> Mask {
         let mut set: Mask = 0;
         for place in 0..8 {
@@ -185,7 +187,7 @@ impl Tables {
     }
 }
 
-/// Lets a low variable and a high one change places in truth tables.
+/// Exchanges a low variable and a high one in packed truth tables.
 fn exchange(words: &mut [u64], low: VarIx, high: VarIx)
     requires low { low < 8 }
     requires high { high < 16 }
@@ -213,9 +215,9 @@ fn exchange(words: &mut [u64], low: VarIx, high: VarIx)
     }
 }
 
-/// Eight variables for the lowest places, if others than those that are there leave at most three
-/// quarters of the distinct strips: from the lowest ones by one change after another, the best each
-/// time.
+/// The mask of eight variables to be the lowest ones, if they leave at most about three quarters of
+/// the distinct strips; else nothing. They are found by one exchange after another, each the best
+/// at its time.
 fn lowest_of(alloc: Global, problem: &Problem) -> Result<Option<Mask>, AllocError>
     requires { problem.now.inputs ≤ 16 }
 {
@@ -241,8 +243,8 @@ fn lowest_of(alloc: Global, problem: &Problem) -> Result<Option<Mask>, AllocErro
     }
 }
 
-/// A renaming by which the lowest variables are ones under which class tables are small; none if it
-/// gains little, or if there are no others.
+/// A renaming by which the lowest variables are ones under which class tables are small. No
+/// variable is exchanged if that gains little, or if there are at most eight.
 pub fn renaming_of<'a>(alloc: Global, problem: &'a Problem) -> Result<Renaming<'a>, AllocError>
     ensures { IfOk result (λ r. r.problem ≡ problem.now) }
 {

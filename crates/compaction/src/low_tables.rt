@@ -1,4 +1,4 @@
-//! The table of a set of low variables.
+//! The class table of a set of low variables.
 
 ghost use Rattle.std.specs.Prelude.{◌≡◌, ◌%◌, ◌^◌, ◌<◌, ◌≤◌, IfOk};
 ghost use Rattle.compaction.specs.Strips.{low_variables as low_of};
@@ -11,7 +11,7 @@ use order_model::{Mask, contains};
 use std::alloc::{AllocError, Global};
 use std::marker::Model;
 
-/// The keys of a set's members below 3.
+/// The class table of those members of `low` that are below 3.
 fn low_bytes<'a>(
     alloc: Global,
     shared: &SharedTables<'a>,
@@ -32,7 +32,7 @@ fn low_bytes<'a>(
     keys.write_out(alloc)
 }
 
-/// The keys of a set of low variables, from those of its members below `from`.
+/// The class table of `low`, a set of low variables. `strips` is that of its members below `from`.
 fn add_members<'a>(
     alloc: Global,
     strips: Strips<'a>,
@@ -53,7 +53,8 @@ fn add_members<'a>(
     Ok(strips)
 }
 
-/// The keys of a set of low variables.
+/// The class table of `low`, a set of low variables. It is made from that of its members below 3,
+/// which `shared` may have.
 pub(crate) fn low_strips<'a>(
     alloc: Global,
     shared: &SharedTables<'a>,

@@ -1,5 +1,5 @@
 //! Pairs of the names of strips, numbered beforehand: they depend on the high variables alone, and
-//! so serve all blocks.
+//! so serve all walks. The name of a strip is its number.
 
 ghost use Rattle.std.specs.Prelude.{◌≡◌, ℕ, ◌*◌, ◌^◌, ◌<◌, ◌≤◌, IfOk, IsTrue};
 ghost use Rattle.subfunction_classes.specs.PairTables.{AllBelow, IsPairTable};
@@ -10,20 +10,22 @@ use order_model::{Mask, VarIx, contains};
 use pair_numbering::{EntryPairs, NumberedPairs, number_entries};
 use std::alloc::{AllocError, Global};
 
-/// The pairs of more names than these aren't numbered beforehand.
+/// With more names than these their pairs aren't numbered beforehand.
 const MOST_NAMES: usize = 1 << 12;
 
-/// Names of strips, and the numbers of their pairs by one variable.
+/// Names of strips, and the numbers of their pairs by one variable. Names 2^rank apart are a pair.
 #[derive(Drop)]
 pub(crate) struct NamePairs {
     names: Vec<u32>,
     rank: u32,
+    /// The number of each pair, by first occurrence.
     numbers: Vec<u32>,
+    /// The distinct pairs, by their numbers.
     pairs: Vec<(u32, u32)>,
     ghost numbered: { ArePairsNumbered names.items rank numbers.items pairs.items },
 }
 
-/// Whether all names are below a limit.
+/// Whether all names are below `limit`.
 fn are_below(names: &[u32], limit: usize) -> bool
     ensures { IsTrue result → AllBelow names.now limit }
 {
@@ -35,7 +37,7 @@ fn are_below(names: &[u32], limit: usize) -> bool
     true
 }
 
-/// Whether `count` names are whole blocks of pairs.
+/// Whether `count` is a multiple of 2 * 2^rank, so that each name has a partner 2^rank apart.
 fn are_whole_blocks(count: usize, rank: u32) -> bool
     requires { rank < 16 }
     ensures { IsTrue result → (blocks : ℕ) × (count ≡ blocks * (2 * 2 ^ rank)) }
@@ -45,7 +47,9 @@ fn are_whole_blocks(count: usize, rank: u32) -> bool
 }
 
 impl NamePairs {
-    /// The pairs of names, if they are worth keeping: names that count up aren't paired by number.
+    /// The pairs of names 2^rank apart, numbered. None if they aren't worth keeping: if there are
+    /// too many names, or if the names are 0, 1, 2 and so on. None, too, if some name has no
+    /// partner or isn't below their count.
     fn of(alloc: Global, names: &[u32], rank: u32) -> Result<Option<NamePairs>, AllocError>
         requires rank { rank < 16 }
     {
@@ -64,7 +68,7 @@ impl NamePairs {
         }))
     }
 
-    /// The pairs of names with the numbers that they were given before.
+    /// A copy of the numbers and of the distinct pairs.
     fn numbered_pairs(&self, alloc: Global) -> Result<NumberedPairs, AllocError>
         ensures { IfOk result
             (λ v. ArePairsNumbered self.now.names.items self.now.rank v.numbers.items
@@ -77,7 +81,8 @@ impl NamePairs {
     }
 }
 
-/// The numbers of the pairs of names, as they were given before if these names are those.
+/// The pairs of names 2^rank apart, numbered by first occurrence. All names are below `count`. If
+/// `known` has the pairs of these names, their numbers are copied from there.
 pub(crate) fn number_names(
     alloc: Global,
     names: &[u32],
@@ -97,15 +102,16 @@ pub(crate) fn number_names(
     number_entries(alloc, &EntryPairs::of_table(names, rank), count)
 }
 
-/// The pairs of names of each set of high variables, by each variable outside it. Those of a set
-/// and the variable `8 + y` stand at eight times the set's high byte and `y`.
+/// The pairs of names for each set of high variables, by each variable outside it. Those for a set
+/// and the variable `8 + y` stand at eight times the set's high byte plus y.
 #[derive(Drop)]
 pub(crate) struct AllNamePairs {
     steps: Vec<Option<NamePairs>>,
 }
 
-/// The pairs of a set's names by a variable, both counted from the first high variable: its names
-/// are the numbers of the pairs of the set without its lowest member.
+/// The pairs of names for a set, by y outside it, both counted from the first high variable.
+/// `names` are those of the empty set. Those of another set are the numbers of the pairs, in
+/// `steps`, of the set without its lowest member by that member; none if they are missing.
 fn step_of(
     alloc: Global,
     names: &[u32],
@@ -129,8 +135,8 @@ fn step_of(
 }
 
 impl AllNamePairs {
-    /// The pairs of names of all sets of `high` high variables, from the names of a problem's
-    /// strips.
+    /// The pairs of names for all sets of the `high` high variables. `names` are those of a
+    /// problem's strips.
     pub(crate) fn of(alloc: Global, names: &[u32], high: u8) -> Result<AllNamePairs, AllocError>
         requires { high ≤ 8 }
     {
@@ -148,14 +154,14 @@ impl AllNamePairs {
         Ok(AllNamePairs { steps })
     }
 
-    /// Nothing is known.
+    /// An empty list: no pairs are numbered beforehand.
     pub(crate) fn none(alloc: Global) -> AllNamePairs {
         AllNamePairs {
             steps: Vec::new(alloc),
         }
     }
 
-    /// The numbered pairs of a set's names by a high variable, if they were numbered beforehand.
+    /// The pairs of names for a set by the high variable y, if they were numbered beforehand.
     pub(crate) fn at(&self, set: Mask, y: VarIx) -> Option<&NamePairs> {
         match self
             .steps

@@ -1,5 +1,5 @@
-//! What a search begins with, and adds to from layer to layer. It knows no bound and pairs only by
-//! what is likely: rows are facts about the functions.
+//! What a search begins with, and adds to from layer to layer. It does not depend on the bound;
+//! pairs decide only of which sets rows are found, because rows are facts about the functions.
 
 ghost use Rattle.std.specs.Prelude.{◌≡◌, ◌<◌, ◌^◌, IfOk};
 ghost use Rattle.symmetries.specs.Orbits.{TakesWidths};
@@ -24,7 +24,10 @@ pub struct Preparation<'a> {
     renaming: &'a Renaming<'a>,
     shared: SharedTables<'a>,
     orbits: Option<Orbits<'a>>,
+    /// The pairs that orders are likely to keep, of the renamed variables: they say which sets are
+    /// lawful.
     pairs: Pairs,
+    /// The rows that were found so far.
     found: WidthsAhead<'a>,
 }
 
@@ -43,7 +46,8 @@ impl<'a> Model for Preparation<'a> {
 }
 
 impl<'a> Preparation<'a> {
-    /// Without rows, with such tables. The sets are those that are lawful by the pairs.
+    /// The preparation with these class tables and without rows. The pairs say which sets are
+    /// lawful.
     fn with_tables(
         alloc: Global,
         renaming: &'a Renaming<'a>,
@@ -64,7 +68,7 @@ impl<'a> Preparation<'a> {
         })
     }
 
-    /// Without rows, by the calling thread. The sets are those that are lawful by the pairs.
+    /// The preparation without rows, by the calling thread. The pairs say which sets are lawful.
     pub fn of(
         alloc: Global,
         renaming: &'a Renaming<'a>,
@@ -76,8 +80,8 @@ impl<'a> Preparation<'a> {
         Preparation::with_tables(alloc, renaming, shared, pairs)
     }
 
-    /// With the rows of the lawful sets up to a size, of each orbit the first, by the workers. With
-    /// size 0 there are none.
+    /// The preparation with rows, by the workers: of the sets of at most `end` variables that are
+    /// lawful by the pairs, and of each orbit the first alone. There are no rows if `end` is 0.
     pub fn by_workers<R: Threads + Sync>(
         rt: &R,
         alloc: Global,
@@ -96,21 +100,21 @@ impl<'a> Preparation<'a> {
         Ok(prepared)
     }
 
-    /// The problem.
+    /// The problem, before the renaming.
     pub fn problem(&self) -> &'a Problem
         ensures { result.now ≡ self.now.problem }
     {
         self.renaming.problem()
     }
 
-    /// The size of the largest sets of which rows were found.
+    /// The size of the largest sets of which rows were found; 0 if none were.
     pub fn end(&self) -> u8
         ensures { result ≡ self.now.found.end }
     {
         self.found.end()
     }
 
-    /// The rows that were found.
+    /// The rows that were found, of sets of the renamed problem.
     pub(crate) fn found(&self) -> &WidthsAhead<'a>
         ensures value { result.now ≡ self.now.found }
         ensures renamed { result.now.problem ≡ renamed_of self.now.problem self.now.renamed }
@@ -118,7 +122,8 @@ impl<'a> Preparation<'a> {
         &self.found
     }
 
-    /// The set by which a set has its row: the first of the orbit of what the renaming makes of it.
+    /// The image whose row has the widths of a set: the renaming takes the set to the renamed
+    /// problem, and exchanges from there to the first set of its orbit.
     pub fn image_of(&self, set: Mask) -> Image
         requires { set < 2 ^ self.now.problem.inputs }
         ensures { TakesWidths self.now.problem (renamed_of self.now.problem self.now.renamed) set
@@ -132,13 +137,13 @@ impl<'a> Preparation<'a> {
         }
     }
 
-    /// Requests for nothing.
+    /// Requests for this problem in which nothing is needed yet.
     pub fn requests(&self, alloc: Global) -> Result<Requests, AllocError> {
         prove!(self.renaming.problem().inputs() <= 16);
         Requests::none(alloc, self.renaming.problem().inputs())
     }
 
-    /// The first sets of orbits with sizes from the first to the last one.
+    /// The lawful sets of `first` to `last` variables, and of each orbit the first alone.
     fn wanted(&self, first: u8, last: u8) -> Wanted<'_, '_> {
         Wanted {
             pairs: &self.pairs,
@@ -148,15 +153,15 @@ impl<'a> Preparation<'a> {
         }
     }
 
-    /// Adds to requests all members of the first sets of orbits with sizes from the first to the
-    /// last one, if something is wanted of others with their low byte: the tables on the way serve
-    /// all.
+    /// Adds all members of the lawful sets of `first` to `last` variables, of each orbit the first
+    /// alone, to the requests of the low bytes for which something is needed already. The class
+    /// tables on the way serve all.
     pub fn add_larger(&self, requests: &mut Requests, first: u8, last: u8) {
         requests.add_sets(&self.wanted(first, last), false);
     }
 
-    /// Takes rows: besides those that were found, or, if they go to larger sets, in their place. If
-    /// memory is refused nothing changes.
+    /// Adds rows to those that were found, or puts them in their place if they go to larger sets.
+    /// If memory is refused nothing changes.
     fn take(&mut self, found: WidthsAhead<'a>) -> Result<(), AllocError>
         requires { found.problem ≡ renamed_of self.old.problem self.old.renamed }
         ensures { self.new.problem ≡ self.old.problem }
@@ -168,8 +173,8 @@ impl<'a> Preparation<'a> {
         self.found.append(found)
     }
 
-    /// Finds rows, by the calling thread. `end` is noted as the size of the largest sets of which
-    /// rows were found; if it is larger than before, rows of before go.
+    /// Finds the rows that are requested, by the calling thread. `end` is noted as the size of the
+    /// largest sets of which rows were found; if it is larger than before, the rows of before go.
     pub fn find_alone(
         &mut self,
         alloc: Global,
@@ -182,7 +187,9 @@ impl<'a> Preparation<'a> {
         self.take(found)
     }
 
-    /// Finds rows as `find_alone` does, by the workers; none if `end` is 0.
+    /// Finds the rows that are requested, by the workers; none if `end` is 0. `end` is noted as the
+    /// size of the largest sets of which rows were found; if it is larger than before, the rows of
+    /// before go.
     pub fn find<R: Threads + Sync>(
         &mut self,
         rt: &R,
@@ -199,7 +206,7 @@ impl<'a> Preparation<'a> {
         self.take(found)
     }
 
-    /// Where the widths of blocks come from, as long as no other rows are found.
+    /// Where the widths of blocks come from: the rows that were found so far.
     pub fn source(&self) -> WidthSource<'_>
         ensures { result ≡ self.now.problem }
     {

@@ -1,4 +1,4 @@
-//! What is wanted of sets with one low byte.
+//! Which widths are needed of the sets with one low byte.
 
 ghost use Rattle.std.specs.Prelude.{◌≡◌, ℕ, ◌^◌, ◌%◌, ◌<◌, ◌≤◌, length, slice_index, IfOk, IsTrue};
 ghost use Rattle.std.specs.Int.{bit_at};
@@ -11,8 +11,8 @@ use std::alloc::{AllocError, Global};
 use subset_layers::Block;
 use symmetries::Orbits;
 
-/// Of each set of so many variables with one low byte, at its high byte, the members whose widths
-/// are wanted.
+/// For each set of `inputs` variables with the low byte `low` the members whose widths are needed:
+/// they stand in `needed` at the set's high byte.
 #[derive(Drop)]
 pub(crate) struct WidthRequest {
     pub(crate) inputs: u8,
@@ -22,8 +22,8 @@ pub(crate) struct WidthRequest {
     ghost request: { IsRequest inputs low needed.items },
 }
 
-/// Sets of which rows are to be found: the lawful ones of sizes from the first to the last one, and
-/// of each orbit the first alone. Which sets these are decides time alone.
+/// The sets of which rows are to be found: the lawful ones of `first` to `last` variables, and of
+/// each orbit the first alone. Which sets these are decides time alone.
 #[derive(Clone, Copy)]
 pub(crate) struct Wanted<'a, 'b> {
     pub pairs: &'a Pairs,
@@ -33,7 +33,7 @@ pub(crate) struct Wanted<'a, 'b> {
 }
 
 impl<'a, 'b> Wanted<'a, 'b> {
-    /// Whether a set is one of them.
+    /// Whether a set is one of the wanted ones.
     fn has(&self, set: Mask) -> bool {
         let size = set.count_ones();
         if size < self.first || self.last < size {
@@ -47,7 +47,7 @@ impl<'a, 'b> Wanted<'a, 'b> {
 }
 
 impl WidthRequest {
-    /// Nothing is wanted.
+    /// The request in which nothing is needed.
     pub(crate) fn none(alloc: Global, inputs: u8, low: u8) -> Result<WidthRequest, AllocError>
         requires inputs { inputs ≤ 16 }
         requires low { low < 2 ^ inputs }
@@ -75,7 +75,7 @@ impl WidthRequest {
         })
     }
 
-    /// Some members of a set are wanted, too.
+    /// Adds `members`, which are members of `set`, to those whose widths are needed.
     pub(crate) fn add(&mut self, set: Mask, members: Mask)
         requires set { set < 2 ^ self.old.inputs }
         requires byte { set % 256 ≡ self.old.low }
@@ -91,7 +91,8 @@ impl WidthRequest {
         self.needed[usize::from(set >> 8)] |= members;
     }
 
-    /// Some members of a block's sets are wanted, too.
+    /// Adds the members in `needed`, a mask for each set of the block, to those whose widths are
+    /// needed.
     pub(crate) fn add_block(&mut self, block: &Block, needed: &[Mask])
         requires inputs { block.now.inputs ≡ self.old.inputs }
         requires low { block.now.low ≡ self.old.low }
@@ -109,19 +110,20 @@ impl WidthRequest {
         }
     }
 
-    /// Adds those of some variables that are members of a set; nothing if its low byte is another.
+    /// Adds those of `variables` that are members of `set` to the members whose widths are needed.
+    /// Nothing changes if the set has another low byte or a variable beyond the last one.
     pub(crate) fn add_members(&mut self, set: Mask, variables: Mask) {
         if u32::from(set) < 1u32 << self.inputs && set % 256 == Mask::from(self.low) {
             self.add(set, variables & set);
         }
     }
 
-    /// Whether nothing is wanted.
+    /// Whether nothing is needed.
     pub(crate) fn is_empty(&self) -> bool {
         self.needed.iter().all(|members| *members == 0)
     }
 
-    /// Adds all members of the sets of which rows are to be found.
+    /// Adds all members of each wanted set that has the low byte.
     pub(crate) fn add_sets(&mut self, wanted: &Wanted<'_, '_>) {
         for high in 0..self.needed.len().min(256) as Mask {
             let set = high * 256 + Mask::from(self.low);

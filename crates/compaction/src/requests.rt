@@ -1,4 +1,4 @@
-//! What is wanted of the sets of a whole layer, and of later ones.
+//! Which widths are needed of the sets of a whole layer, and of later ones.
 
 ghost use Rattle.std.specs.Prelude.{◌≡◌, ◌<◌, ◌≤◌, ◌^◌, ◌%◌, IfSome};
 
@@ -7,13 +7,13 @@ use order_model::{Mask, contains};
 use std::alloc::{AllocError, Global};
 use symmetries::Image;
 
-/// What is wanted of the sets of n variables, for each low byte.
+/// For each low byte the request for the sets of n variables that have it.
 #[derive(Drop)]
 pub struct Requests {
     bytes: Vec<WidthRequest>,
 }
 
-/// The variables to which members of a set go.
+/// The mask of the variables to which `members` go by the image.
 fn members_of_image(image: &Image, members: Mask) -> Mask {
     let mut found: Mask = 0;
     for x in 0..16u8 {
@@ -26,7 +26,7 @@ fn members_of_image(image: &Image, members: Mask) -> Mask {
 }
 
 impl Requests {
-    /// Nothing is wanted.
+    /// Requests for the sets of `inputs` variables in which nothing is needed.
     pub(crate) fn none(alloc: Global, inputs: u8) -> Result<Requests, AllocError>
         requires { inputs ≤ 16 }
     {
@@ -39,13 +39,13 @@ impl Requests {
         Ok(Requests { bytes })
     }
 
-    /// Whether nothing is wanted.
+    /// Whether nothing is needed.
     pub fn is_empty(&self) -> bool {
         self.bytes.iter().all(|request| request.is_empty())
     }
 
-    /// Adds all members of the sets of which rows are to be found; of the low bytes of which
-    /// something is wanted already, or of all.
+    /// Adds all members of the wanted sets: of all low bytes if `all` is true, else of those for
+    /// which something is needed already.
     pub(crate) fn add_sets(&mut self, wanted: &Wanted<'_, '_>, all: bool) {
         for request in &mut self.bytes {
             if all || !request.is_empty() {
@@ -54,15 +54,15 @@ impl Requests {
         }
     }
 
-    /// Adds what is wanted of an image: the variables to which some members of a set go. Nothing if
-    /// there is no request of its low byte.
+    /// Adds the variables to which `members` go by the image to those that are needed of the
+    /// image's set. Nothing changes if its low byte has no request.
     pub fn add_image(&mut self, image: &Image, members: Mask) {
         if let Some(request) = self.bytes.get_mut(usize::from(image.set % 256)) {
             request.add_members(image.set, members_of_image(image, members));
         }
     }
 
-    /// What is wanted of the sets with a low byte, if that is anything.
+    /// The request for a low byte, if something is needed there.
     pub(crate) fn of_byte(&self, low: u8) -> Option<&WidthRequest> {
         match self.bytes.get(usize::from(low)) {
             Some(request) if !request.is_empty() => Some(request),

@@ -1,4 +1,4 @@
-//! Tables that are made once a search and read by the walks of all blocks.
+//! Class tables that are made once a search and read by all walks.
 
 ghost use Rattle.std.specs.Prelude.{◌≡◌, ◌<◌, ◌≤◌, map, IfOk, IfSome};
 ghost use Rattle.std.specs.List.{All};
@@ -15,13 +15,13 @@ use std::marker::Model;
 use std::thread;
 use std::thread::Threads;
 
-/// Truth tables of no more distinct strips than these have the tables of all low sets made
-/// beforehand, which take 6,561 numbers a strip.
+/// The class tables of all sets of low variables are made beforehand if the truth tables have at
+/// most so many distinct strips: they take 6,561 class numbers a strip.
 const MOST_STRIPS: usize = 1 << 10;
 
-/// What the walks of all blocks share: the class tables of all sets of low variables if they are
-/// small, else the keys of the sets of the lowest three variables; and the pairs of names for the
-/// sets of high variables. They are made once a search.
+/// What all walks share: the class tables of all sets of low variables if they are small, else
+/// those of the sets of the lowest three, in `keys`; and the pairs of names for the sets of high
+/// variables. They are made once a search.
 #[derive(Drop)]
 pub struct SharedTables<'a> {
     problem: &'a Problem,
@@ -42,10 +42,10 @@ impl<'a> Model for SharedTables<'a> {
         × AreOfFirstSets b.problem.now b.keys.items };
 }
 
-/// Tables that were made.
+/// Class tables, or an error if memory was refused.
 type Made<'a> = Result<Vec<Strips<'a>>, AllocError>;
 
-/// Tables with one more low variable in each set.
+/// The class tables with the low variable x added to each set.
 fn with_low<'a>(alloc: Global, tables: &[Strips<'a>], x: VarIx) -> Made<'a>
     requires { All (CanTakeLow x) tables.now }
     ensures { IfOk result (λ v. v.items ≡ map (λ t. with_variable t x) tables.now) }
@@ -57,7 +57,7 @@ fn with_low<'a>(alloc: Global, tables: &[Strips<'a>], x: VarIx) -> Made<'a>
     Ok(larger)
 }
 
-/// The tables of all parts, one part after the other.
+/// The tables of all parts, one part after the other; an error if making a part ran out of memory.
 fn concatenate<'a>(
     alloc: Global,
     parts: Vec<Result<Vec<Strips<'a>>, AllocError>>,
@@ -73,7 +73,7 @@ fn concatenate<'a>(
     Ok(all)
 }
 
-/// Tables with one more low variable in each set, made by workers.
+/// The class tables with the low variable x added to each set, made by the workers.
 fn with_low_by_threads<'a, R: Threads + Sync>(
     rt: &R,
     alloc: Global,
@@ -98,23 +98,23 @@ fn with_low_by_threads<'a, R: Threads + Sync>(
     concatenate(alloc, parts)
 }
 
-/// Who makes tables of larger sets.
+/// Who makes the class tables of larger sets: the calling thread, or workers.
 trait TableMaker {
     // What the maker requires.
     ghost ready: { Self → Type 0 };
 
-    /// Tables with one more low variable in each set.
+    /// The class tables with the low variable x added to each set.
     fn with_low<'a>(&self, alloc: Global, tables: &[Strips<'a>], x: VarIx) -> Made<'a>
         requires ready { ready self.now }
         requires low { All (CanTakeLow x) tables.now }
         ensures { IfOk result (λ v. v.items ≡ map (λ t. with_variable t x) tables.now) };
 }
 
-/// The calling thread.
+/// The maker that is the calling thread alone.
 #[derive(Drop)]
 struct CallingThread;
 
-/// The threads of `workers` workers.
+/// The maker that shares the tables among the threads of `workers` workers.
 #[derive(Drop)]
 struct WorkerThreads<'r, R> {
     rt: &'r R,
@@ -139,8 +139,8 @@ impl<'r, R: Threads + Sync> TableMaker for WorkerThreads<'r, R> {
     }
 }
 
-/// The tables of all sets of low variables, in the order of their masks, from that of the empty set
-/// if there is one.
+/// The class tables of all sets of low variables by rising mask, made from `empty`, that of the
+/// empty set. There are none if `empty` is none.
 fn tables_of_low_sets<'a, M: TableMaker>(
     maker: &M,
     alloc: Global,
@@ -162,8 +162,8 @@ fn tables_of_low_sets<'a, M: TableMaker>(
     Ok(tables)
 }
 
-/// The keys of the sets of the lowest three variables, in the order of their masks, from those of
-/// the empty set.
+/// The class tables of the sets of the lowest three variables by rising mask, made from `empty`,
+/// that of the empty set.
 fn keys_of_low_sets<'a>(
     alloc: Global,
     problem: &'a Problem,
@@ -184,8 +184,9 @@ fn keys_of_low_sets<'a>(
     Ok(keys)
 }
 
-/// What shared tables are made from: the keys and the pairs of names, and the table of the empty
-/// set if those of all low sets are to be made of it.
+/// What shared tables are made from: the class table of the empty set if those of all sets of low
+/// variables are to be made, else in `keys` those of the sets of the lowest three; and the pairs of
+/// names.
 #[derive(Drop)]
 struct Basis<'a> {
     empty: Option<Strips<'a>>,
@@ -193,7 +194,7 @@ struct Basis<'a> {
     names: AllNamePairs,
 }
 
-/// What shared tables are made from.
+/// What the shared tables of a problem are made from.
 fn basis_of<'a>(alloc: Global, problem: &'a Problem) -> Result<Basis<'a>, AllocError>
     ensures empty { IfOk result (λ b. IfSome b.empty (λ t. t ≡ classes_of problem.now 0)) }
     ensures keys { IfOk result (λ b. AreOfFirstSets problem.now b.keys.items) }
@@ -222,7 +223,7 @@ fn basis_of<'a>(alloc: Global, problem: &'a Problem) -> Result<Basis<'a>, AllocE
 }
 
 impl<'a> SharedTables<'a> {
-    /// With all that serves several blocks, made by the calling thread.
+    /// The shared tables of a problem, with all that serves several walks, by the calling thread.
     pub fn of(alloc: Global, problem: &'a Problem) -> Result<SharedTables<'a>, AllocError>
         ensures { IfOk result (λ b. b ≡ problem.now) }
     {
@@ -235,7 +236,7 @@ impl<'a> SharedTables<'a> {
         })
     }
 
-    /// With all that serves several blocks, made by workers.
+    /// The shared tables of a problem, with all that serves several walks, by the workers.
     pub fn by_threads<R: Threads + Sync>(
         rt: &R,
         alloc: Global,
@@ -254,7 +255,7 @@ impl<'a> SharedTables<'a> {
         })
     }
 
-    /// With nothing made beforehand, for a single block.
+    /// The shared tables of a problem with nothing made beforehand, for a single walk.
     pub(crate) fn bare(alloc: Global, problem: &'a Problem) -> SharedTables<'a>
         ensures { result ≡ problem.now }
     {
@@ -266,26 +267,26 @@ impl<'a> SharedTables<'a> {
         }
     }
 
-    /// The problem.
+    /// The problem that the tables are of.
     pub(crate) fn problem(&self) -> &'a Problem
         ensures { result.now ≡ self.now }
     {
         self.problem
     }
 
-    /// The pairs of names.
+    /// The pairs of names that were numbered beforehand.
     pub(crate) fn names(&self) -> &AllNamePairs {
         &self.names
     }
 
-    /// The keys of a set of the lowest three variables, if they were made beforehand.
+    /// The class table of a set of the lowest three variables, if it was made beforehand.
     pub(crate) fn keys(&self, set: Mask) -> Option<&ByteKeys<'a>>
         ensures { IfSome result (λ k. k.now ≡ classes_of self.now set) }
     {
         self.keys.get(usize::from(set))
     }
 
-    /// The table of a set of low variables, if it was made beforehand.
+    /// The class table of a set of low variables, if it was made beforehand.
     pub(crate) fn table(&self, set: Mask) -> Option<&Strips<'a>>
         ensures { IfSome result (λ t. t.now ≡ classes_of self.now set) }
     {

@@ -15,8 +15,8 @@ use std::alloc::{AllocError, Global};
 use std::marker::Model;
 use subset_layers::Block;
 
-/// Where the widths of a layer's blocks come from: rows that were found ahead, by which images have
-/// theirs.
+/// Where the widths of a layer's blocks come from: the rows that were found ahead, each of which
+/// serves the sets that have its set as image; or else a walk.
 #[derive(Drop)]
 pub struct WidthSource<'a> {
     prepared: &'a Preparation<'a>,
@@ -32,7 +32,7 @@ impl<'a> Model for WidthSource<'a> {
 }
 
 impl<'a> WidthSource<'a> {
-    /// The rows that were found.
+    /// The source with the rows that the preparation has.
     pub(crate) fn new(prepared: &'a Preparation<'a>) -> WidthSource<'a>
         ensures { result ≡ prepared.now.problem }
     {
@@ -42,7 +42,7 @@ impl<'a> WidthSource<'a> {
         }
     }
 
-    /// Whether all widths of a set of the renamed problem were found.
+    /// Whether the widths of all members of a set of the renamed problem were found ahead.
     pub fn is_found(&self, set: Mask) -> bool {
         match self
             .prepared
@@ -54,7 +54,8 @@ impl<'a> WidthSource<'a> {
         }
     }
 
-    /// The row of a set, if nothing is wanted or the row of its image was found.
+    /// The widths of a set's members in `needed`, and 0 elsewhere, from the row of its image. None
+    /// if one of them was not found ahead.
     fn row_of(&self, set: Mask, needed: Mask) -> Option<WidthRow>
         requires set { set < 2 ^ self.now.inputs }
         requires members { AreMembersOf self.now.inputs set needed }
@@ -72,7 +73,8 @@ impl<'a> WidthSource<'a> {
         byte.row_by_image(&image, needed)
     }
 
-    /// The rows of a block's sets, if all that serve for them were found.
+    /// For each set of the block, the widths of its members in `needed`, and 0 elsewhere, from the
+    /// rows that were found ahead. None if a width is missing.
     fn rows_found(
         &self,
         alloc: Global,
@@ -93,8 +95,9 @@ impl<'a> WidthSource<'a> {
         Ok(Some(rows))
     }
 
-    /// What is wanted of a block's sets, as `block_widths` gives it: from the rows that were found,
-    /// or else by a walk. The tally rises by the number of widths.
+    /// For each set of the block, the widths of its members in `needed`, and 0 elsewhere. If a row
+    /// is missing that was to be found ahead, a walk computes all of them. The tally rises by the
+    /// number of widths.
     pub fn block_rows(
         &self,
         alloc: Global,

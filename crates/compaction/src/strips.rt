@@ -1,5 +1,5 @@
-//! Strips: tables of keys in which entries that differ in the low variables only stand together,
-//! and equal runs of them are kept once.
+//! Class tables in strips: entries that differ in the low variables alone stand together in a
+//! strip, and equal strips are stored once.
 
 ghost use Rattle.std.specs.Prelude.{◌≡◌, ℕ, ◌^◌, ◌<◌, ◌≤◌, length, slice_index, get_or, if◌then◌else◌, ◌==◌, false, IfOk, IsFalse, IsTrue};
 ghost use Rattle.std.specs.Int.{bit_at};
@@ -17,19 +17,24 @@ use std::marker::Model;
 use subfunction_classes::{count_with, rank_of};
 use value_strips::{ValueStrips, whole_strips};
 
-/// The keys of a set in strips: equal subfunctions have one key, and each key that occurs has the
-/// mask of what its function depends on. A strip has an entry for each assignment of the low
-/// variables outside the set; `outer` names the strip of each assignment of the high ones, function
-/// by function. If `all_used` is true each mask is that of a key that occurs. If all subfunctions
-/// are distinct and depend on the whole set their count is kept alone.
+/// The class table of a set in strips. A strip has a class number for each assignment of the low
+/// variables outside the set. If all subfunctions are distinct and depend on the whole set, only
+/// their count is kept.
 #[derive(Drop)]
 pub(crate) struct Strips<'a> {
     problem: &'a Problem,
     set: Mask,
+    /// How many subfunctions there are, if only their count is kept.
     distinct: Option<u32>,
+    /// If true, each mask is that of a class number that occurs.
     all_used: bool,
+    /// For each assignment of the high variables outside the set, function by function, the name of
+    /// its strip, which is its number.
     outer: Vec<u32>,
+    /// The class numbers in the strips, one strip after the other.
     numbers: Vec<u32>,
+    /// For each class number that occurs, the mask of the variables that its subfunctions depend
+    /// on.
     masks: Vec<Mask>,
 }
 
@@ -46,14 +51,14 @@ impl<'a> Model for Strips<'a> {
         c.outer.items c.numbers.items c.masks.items };
 }
 
-/// How many variables are low.
+/// How many variables of a problem are low: eight, or all if there are fewer.
 pub(crate) fn low_variables(problem: &Problem) -> u8
     ensures { result ≡ low_of problem.now }
 {
     problem.inputs().min(8)
 }
 
-/// At each wanted variable how many masks have its bit, else 0.
+/// At each variable in `wanted` how many masks have it, and 0 elsewhere.
 fn row_of(masks: &[Mask], wanted: Mask) -> WidthRow
     requires few { length masks.now ≤ 2 ^ 20 }
     ensures { (x : ℕ) → x < 16 →
@@ -69,7 +74,7 @@ fn row_of(masks: &[Mask], wanted: Mask) -> WidthRow
     row
 }
 
-/// Which numbers occur.
+/// For each number below `count`, whether it occurs in `numbers`.
 fn numbers_in_use(alloc: Global, numbers: &[u32], count: usize) -> Result<Vec<bool>, AllocError>
     requires below { AllBelow numbers.now count }
     ensures long { IfOk result (λ v. length v.items ≡ count) }
@@ -83,7 +88,7 @@ fn numbers_in_use(alloc: Global, numbers: &[u32], count: usize) -> Result<Vec<bo
     Ok(used)
 }
 
-/// The masks of the numbers that occur.
+/// The masks of the class numbers that occur in `numbers`.
 fn used_masks(alloc: Global, numbers: &[u32], masks: &[Mask]) -> Result<Vec<Mask>, AllocError>
     requires below { AllBelow numbers.now (length masks.now) }
     ensures { IfOk result (λ v. v.items ≡ masks_in_use numbers.now masks.now) }
@@ -98,7 +103,7 @@ fn used_masks(alloc: Global, numbers: &[u32], masks: &[Mask]) -> Result<Vec<Mask
     Ok(found)
 }
 
-/// Whether all masks are the same.
+/// Whether all masks are equal to `mask`.
 fn are_all(masks: &[Mask], mask: Mask) -> bool
     ensures { IsTrue result → (i : ℕ) → i < length masks.now → slice_index masks.now i ≡ mask }
 {
@@ -110,7 +115,8 @@ fn are_all(masks: &[Mask], mask: Mask) -> bool
     true
 }
 
-/// Whether all entries are distinct and have the mask of the whole set.
+/// Whether all entries are distinct and each has the mask of the whole set. Distinct names and
+/// numbers are 0, 1, 2 and so on.
 fn all_distinct(outer: &[u32], numbers: &[u32], masks: &[Mask], set: Mask) -> bool
     ensures exact { IsTrue result → length masks.now ≡ length numbers.now }
     ensures outer { IsTrue result → AreOwn outer.now }
@@ -123,7 +129,7 @@ fn all_distinct(outer: &[u32], numbers: &[u32], masks: &[Mask], set: Mask) -> bo
         && are_all(masks, set)
 }
 
-/// The row that has one width at each wanted variable, and 0 elsewhere.
+/// The row that has `width` at each variable in `wanted`, and 0 elsewhere.
 fn same_row(width: u32, wanted: Mask) -> WidthRow
     ensures { (x : ℕ) → x < 16 →
         slice_index result x ≡ (if bit_at wanted x == 1 then width else 0) }
@@ -142,8 +148,8 @@ impl<'a> Strips<'a> {
     ghost use Rattle.compaction.specs.Strips.{AreDistinct, HoldsStrips, low_variables};
     ghost use Rattle.subfunction_classes.specs.Table.{set_of, with_variable, classes_of};
 
-    /// A table of strips, or the count alone if all subfunctions are distinct and depend on the
-    /// whole set.
+    /// The class table of a set from its parts. Only the count of the subfunctions is kept if all
+    /// are distinct and depend on the whole set.
     pub(crate) fn of_parts(
         alloc: Global,
         problem: &'a Problem,
@@ -168,7 +174,8 @@ impl<'a> Strips<'a> {
         }
     }
 
-    /// So many distinct subfunctions, each of which depends on the whole set.
+    /// The class table of a set that has `count` subfunctions, all of them distinct and dependent
+    /// on the whole set.
     fn of_count(alloc: Global, problem: &'a Problem, set: Mask, count: u32) -> Strips<'a>
         requires { AreDistinct (classes_of problem.now set) count }
         ensures { result ≡ classes_of problem.now set }
@@ -184,7 +191,8 @@ impl<'a> Strips<'a> {
         }
     }
 
-    /// The keys of the empty set: the values.
+    /// The class table of the empty set: the problem's first value has class number 0, the other
+    /// one 1.
     pub(crate) fn of_problem(alloc: Global, problem: &'a Problem) -> Result<Strips<'a>, AllocError>
         ensures { IfOk result (λ c. c ≡ classes_of problem.now 0) }
     {
@@ -196,21 +204,21 @@ impl<'a> Strips<'a> {
         Ok(Strips::of_parts(alloc, problem, 0, parts))
     }
 
-    /// How many variables are low.
+    /// How many variables of the problem are low.
     pub(crate) fn low_variables(&self) -> u8
         ensures { result ≡ low_variables self.now.problem }
     {
         low_variables(self.problem)
     }
 
-    /// The set, as a mask.
+    /// The set that the table is of, as a mask.
     pub(crate) fn set(&self) -> Mask
         ensures { result ≡ self.now.set }
     {
         self.set
     }
 
-    /// The keys with one more low variable in the set.
+    /// The class table of the set with the low variable x added.
     pub(crate) fn add_low(&self, alloc: Global, x: VarIx) -> Result<Strips<'a>, AllocError>
         requires low { x < low_variables self.now.problem }
         requires new { IsFalse (has (set_of self.now) x) }
@@ -235,8 +243,8 @@ impl<'a> Strips<'a> {
         }
     }
 
-    /// The keys with one more high variable in the set. What is known of the pairs of names isn't
-    /// numbered again.
+    /// The class table of the set with the high variable x added. `known` may have the pairs of
+    /// names by x, numbered beforehand.
     pub(crate) fn add_high(
         &self,
         alloc: Global,
@@ -268,7 +276,7 @@ impl<'a> Strips<'a> {
         }
     }
 
-    /// The widths of the wanted variables, each over the set without it, and 0 of the others.
+    /// At each member in `wanted` its width over the set without it, and 0 elsewhere.
     pub(crate) fn width_row(&self, alloc: Global, wanted: Mask) -> Result<WidthRow, AllocError>
         requires { (x : ℕ) → bit_at wanted x ≡ 1 → IsTrue (has (set_of self.now) x) }
         ensures { IfOk result (λ row. IsWidthRow self.now.problem self.now.set wanted row) }

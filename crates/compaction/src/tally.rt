@@ -1,4 +1,4 @@
-//! How many widths were taken.
+//! A count of the widths that cells took.
 
 ghost use Rattle.std.specs.Prelude.{◌≡◌, ◌+◌, ◌*◌, ◌^◌, ◌<◌, ◌≤◌, length};
 ghost use Rattle.compaction.specs.Rows.{wanted_count};
@@ -6,7 +6,7 @@ ghost use Rattle.compaction.specs.Rows.{wanted_count};
 use order_model::Mask;
 use std::marker::Model;
 
-/// A count of widths taken.
+/// A count of the widths that cells took.
 #[derive(Drop)]
 pub struct Tally {
     count: u64,
@@ -20,7 +20,7 @@ impl Model for Tally {
     ghost view = { λ t. t.count };
 }
 
-/// How many widths are wanted.
+/// How many widths are needed: `needed` has a mask of members for each set.
 pub(crate) fn count_wanted(needed: &[Mask]) -> u64
     requires { length needed.now ≤ 2 ^ 20 }
     ensures count { result ≡ wanted_count needed.now }
@@ -34,21 +34,21 @@ pub(crate) fn count_wanted(needed: &[Mask]) -> u64
 }
 
 impl Tally {
-    /// None yet.
+    /// A tally of no widths.
     pub fn new() -> Tally
         ensures { result ≡ 0 }
     {
         Tally { count: 0 }
     }
 
-    /// How many there were.
+    /// How many widths were counted.
     pub fn count(&self) -> u64
         ensures { result ≡ self.now }
     {
         self.count
     }
 
-    /// With those of a block's sets, of which the members in `needed` are wanted.
+    /// Adds the number of widths that are needed: `needed` has a mask of members for each set.
     pub(crate) fn add_wanted(&mut self, needed: &[Mask])
         requires few { length needed.now ≤ 2 ^ 20 }
         requires room { self.old + wanted_count needed.now < 2 ^ 64 }
@@ -57,7 +57,7 @@ impl Tally {
         self.add(count_wanted(needed));
     }
 
-    /// More of them.
+    /// Adds `more` widths.
     pub fn add(&mut self, more: u64)
         requires { self.old + more < 2 ^ 64 }
         ensures { self.new ≡ self.old + more }

@@ -74,6 +74,8 @@ fn a_row_has_the_widths_of_its_set(rt: HostRuntime) {
     assert!(rt; row == [1, 1, 0, 0, 0, 0, 0, 0, 0, 0, 0, 0, 0, 0, 0, 0]);
     let numbers = five_bit_numbers(&rt, rt.alloc());
     let _ = row_at(&rt, rt.alloc(), &numbers, 3, 0x0300);
+    let products = seven_products(&rt, rt.alloc());
+    let _ = row_at(&rt, rt.alloc(), &products, 3, 0x3f80);
 }
 
 /// x0 x7 + x1 x8 + x2 x9 + x3 x10 + x4 x11 + x5 x12 + x6 x13.
@@ -85,6 +87,16 @@ fn seven_products(rt: &impl Abort, alloc: Global) -> Problem {
         }
     }
     problem
+}
+
+#[test]
+fn a_renaming_takes_the_set_to_the_lowest_variables(rt: HostRuntime) {
+    let numbers = five_bit_numbers(&rt, rt.alloc());
+    assert!(rt; numbers.inputs() == 10);
+    let found = Renaming::to_lowest(rt.alloc(), &numbers, 0x0304);
+    let renaming = found.expect(&rt, "memory");
+    assert!(rt; renaming.image_of(0x0304).set == 0x0007);
+    assert!(rt; renaming.image_of(0x0003).set == 0x0300);
 }
 
 // With four products among the lowest variables the truth table has two distinct strips; now 64.

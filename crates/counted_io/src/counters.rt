@@ -17,7 +17,7 @@ pub trait CountedRead {
     // How many calls have failed, counted up to the greatest value of a u64.
     ghost failures: { Self → ℕ };
 
-    /// Reads as std's `read` does: the number of bytes that were put into the buffer, 0 at the end.
+    /// Reads bytes into `buf` as std's `read` does, and returns how many: 0 at the end.
     fn read_some(&mut self, buf: &mut [u8]) -> io::Result<usize>
         ensures bound { ReadsAtMost result buf.new }
         ensures bytes { ReadConsumes (remaining self.old) (remaining self.new) result buf.new }
@@ -33,7 +33,7 @@ pub trait CountedWrite {
     // How many calls have failed, counted up to the greatest value of a u64.
     ghost failures: { Self → ℕ };
 
-    /// Writes as std's `write` does: the number of bytes that were taken.
+    /// Writes bytes from the front of `buf` as std's `write` does, and returns how many were taken.
     fn write_some(&mut self, buf: &[u8]) -> io::Result<usize>
         ensures bound { WritesAtMost result buf.now }
         ensures bytes { WriteAppends (contents self.old) (contents self.new) result buf.now }
@@ -41,10 +41,12 @@ pub trait CountedWrite {
             then one_more (failures self.old) else failures self.old) };
 }
 
-/// Counts the failed calls of a reader or a writer.
+/// A reader or a writer with a count of its failed calls.
 #[derive(Drop)]
 pub struct Counting<T> {
+    /// The reader or writer.
     inner: T,
+    /// How many of its calls failed.
     failed: u64,
 }
 
@@ -59,7 +61,7 @@ impl<T> Model for Counting<T> {
 }
 
 impl<T> Counting<T> {
-    /// The device, none of whose calls has failed so far.
+    /// The reader or writer `inner`, with no failed call counted so far.
     pub fn new(inner: T) -> Counting<T>
         ensures device { result.device ≡ inner }
         ensures failed { result.failed ≡ 0 }

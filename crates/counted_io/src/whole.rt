@@ -8,10 +8,10 @@ ghost use Rattle.counted_io.specs.Reading.{Refuses};
 use crate::counters::{CountedRead, CountedWrite};
 use std::alloc::Global;
 
-/// Why the bytes of a device aren't there.
+/// Why a device is not read to its end, or a text is not written whole.
 #[derive(Clone, Copy, Debug, PartialEq, Eq)]
 pub enum Refused {
-    /// There are more bytes than the limit.
+    /// The device has more bytes than the limit.
     TooLong,
     /// A call of the device failed.
     Device,
@@ -24,7 +24,8 @@ pub enum Refused {
 /// table.
 const FIRST_ROOM: usize = 1 << 22;
 
-/// The bytes of a device, read to its end. An error if there are more than `limit`.
+/// Reads a device to its end, and returns its bytes. An error if there are more than `limit`, if a
+/// call of the device fails, or if an allocation is refused.
 pub fn read_all<R: CountedRead>(
     alloc: Global,
     device: &mut R,
@@ -58,7 +59,7 @@ pub fn read_all<R: CountedRead>(
     }
 }
 
-/// Writes a whole text. After an error the device holds a beginning of it.
+/// Writes a whole text. After an error the device has taken a beginning of it.
 pub fn write_whole<W: CountedWrite>(device: &mut W, text: &[u8]) -> Result<(), Refused>
     ensures ok { OnOk result (Appends (W.contents device.old) (W.contents device.new) text.now) }
     ensures ok_calls { OnOk result (W.failures device.new ≡ W.failures device.old) }

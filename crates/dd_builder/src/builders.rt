@@ -24,8 +24,8 @@ use std::thread::Threads;
 use truth_table::Tables;
 use unique_table::{CloseFault, Pieces, Session, Store};
 
-/// The reduced diagram of the store's functions, whose parts are built: the outputs are made and
-/// published, and the store is closed.
+/// The reduced diagram of the store's functions. All parts are published already: the outputs are
+/// made of them and published, and the store is closed.
 fn finish(
     alloc: Global,
     store: Store,
@@ -51,8 +51,8 @@ fn finish(
     }
 }
 
-/// The session of each worker after it built its parts, in a thread of its own, by rising number of
-/// the worker: an error if it met a full store.
+/// Builds all parts by `count` workers, each in a thread of its own. Returns the session of each
+/// worker, by rising number of the worker, as an error if it met a full store.
 fn ends_of_workers<R: Threads + Sync, G: Gate>(
     crew: &Crew<'_, R, G>,
     alloc: Global,
@@ -86,8 +86,8 @@ fn ends_of_workers<R: Threads + Sync, G: Gate>(
     Ok(ended)
 }
 
-/// Builds all parts, by workers that each have a thread: a session that knows the parts, or one
-/// that knows a full store if a worker met it.
+/// Builds all parts by workers that each have a thread, and returns a session that knows the parts.
+/// If a worker met a full store, the error has a session that knows the store to be full.
 fn parts_by_workers<R: Threads + Sync, G: Gate>(
     crew: &Crew<'_, R, G>,
     alloc: Global,
@@ -116,7 +116,8 @@ fn parts_by_workers<R: Threads + Sync, G: Gate>(
     }
 }
 
-/// The reduced diagram of the store's functions, whose parts are built by workers.
+/// The reduced diagram of the store's functions: workers build the parts from the source, and the
+/// calling thread makes the outputs of them.
 fn build_in<R: Threads + Sync, G: Gate>(
     crew: &Crew<'_, R, G>,
     alloc: Global,
@@ -134,11 +135,10 @@ fn build_in<R: Threads + Sync, G: Gate>(
     finish(alloc, store, session, source)
 }
 
-/// The reduced diagram of the store's functions, from their truth tables. Worker i builds the
-/// pieces that aren't outputs and whose number leaves i-1 when divided by the number of workers,
-/// and calls the gate before it publishes each; the outputs are then made by the calling thread.
-/// The store is spent; a fresh one is never full. The time is that of a search in the store for
-/// each output and point.
+/// The reduced diagram of the store's functions, from their truth tables, in the time of a search
+/// in the store for each output and point. Worker i, counted from 1, builds the parts whose number
+/// leaves i - 1 when divided by `workers`, and calls the gate before it publishes each. The calling
+/// thread makes the outputs. A fresh store is never full.
 pub fn from_tables<R: Threads + Sync, G: Gate>(
     rt: &R,
     alloc: Global,
@@ -158,11 +158,10 @@ pub fn from_tables<R: Threads + Sync, G: Gate>(
     build_in(&crew, alloc, store, session, Source::Tables(tables))
 }
 
-/// The reduced diagram of the store's functions, from the terms of a cover. Worker i builds the
-/// pieces that aren't outputs and whose number leaves i-1 when divided by the number of workers,
-/// and calls the gate before it publishes each; the outputs are then made by the calling thread.
-/// The store is spent. Each term is made once for each of its outputs and joined to the others by
-/// `apply`.
+/// The reduced diagram of the store's functions, from the terms of a cover, each made once for each
+/// of its outputs and joined to the others by `apply`. Worker i, counted from 1, builds the parts
+/// whose number leaves i - 1 when divided by `workers`, and calls the gate before it publishes
+/// each. The calling thread makes the outputs.
 pub fn from_cover<R: Threads + Sync, G: Gate>(
     rt: &R,
     alloc: Global,
@@ -181,8 +180,8 @@ pub fn from_cover<R: Threads + Sync, G: Gate>(
     build_in(&crew, alloc, store, session, Source::Terms(cover.terms()))
 }
 
-/// A store of an order for the functions of truth tables, with restrictions as its pieces, and its
-/// first session.
+/// An empty store for the functions of truth tables under an order, and its first session. Its
+/// parts are outputs with the top variables fixed.
 pub fn tables_store(
     alloc: Global,
     tables: &Tables,
@@ -202,8 +201,8 @@ pub fn tables_store(
     )
 }
 
-/// A store of an order for the functions of a cover, with pieces of its terms, and its first
-/// session.
+/// An empty store for the functions of a cover under an order, and its first session. Its parts are
+/// disjunctions of terms. `tables` are the cover's truth tables.
 pub fn cover_store(
     alloc: Global,
     cover: &Cover,
@@ -243,8 +242,9 @@ pub fn build_tables<R: Threads + Sync, G: Gate>(
     }
 }
 
-/// The reduced diagram of a cover's functions under an order, built from its terms in the store
-/// handed in with its session or, if that is full, from its truth tables in a store of its own.
+/// The reduced diagram of a cover's functions under an order, built from the cover's terms in the
+/// store `begun` with its session or, if that gets full, from the truth tables in a store of its
+/// own. `tables` are the cover's truth tables.
 pub fn build_from<R: Threads + Sync, G: Gate>(
     crew: &Crew<'_, R, G>,
     alloc: Global,
@@ -273,15 +273,15 @@ pub fn build_from<R: Threads + Sync, G: Gate>(
     }
 }
 
-/// Whether a diagram is built faster from the truth tables of a cover than from its terms: it has
-/// more than one term for 64 points. Each term takes nodes of the store that the diagram has no use
-/// for, and covers with somewhat more terms fill it.
+/// Whether a diagram is built faster from the truth tables of a cover than from its terms: the
+/// cover has more than one term for 64 points. Each term takes nodes of the store that the diagram
+/// has no use for, and covers with somewhat more terms fill the store.
 fn has_many_terms(cover: &Cover) -> bool {
     cover.terms().len() > (1usize << cover.inputs()) / 64
 }
 
-/// The reduced diagram of a cover's functions under an order: built from its truth tables if it has
-/// many terms, else from its terms and, if they fill a store, from its truth tables.
+/// The reduced diagram of a cover's functions under an order: built from its truth tables `tables`
+/// if it has many terms, else from its terms and, if they fill a store, from its truth tables.
 pub fn build<R: Threads + Sync, G: Gate>(
     rt: &R,
     alloc: Global,

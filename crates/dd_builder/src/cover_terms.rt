@@ -15,7 +15,7 @@ use order_model::{Term, contains};
 use unique_table::{NodeId, Operation, Session, Store, StoreFull, TERM_SHARES};
 
 /// The id of the conjunction of the function of `id`, which lies below `level`, and a term's
-/// literal of the level's variable, if it has one.
+/// literal of the level's variable. It is `id` itself if the term has no such literal.
 fn literal_and(
     store: &Store,
     session: &mut Session,
@@ -55,8 +55,8 @@ fn term_id(store: &Store, session: &mut Session, term: Term) -> Result<NodeId, S
     Ok(id)
 }
 
-/// The id of the disjunction of the function of `id` and a term, if the term belongs to the output;
-/// else `id`.
+/// The id of the disjunction of the function of `id` and of a term, if the term belongs to output
+/// `output`; else `id`.
 fn or_term(
     store: &Store,
     session: &mut Session,
@@ -78,8 +78,8 @@ fn or_term(
     apply(store, session, Operation::Or, id, cube)
 }
 
-/// The id of the disjunction of those terms of an output whose number leaves `share` when divided
-/// by `TERM_SHARES`.
+/// The id of the disjunction of those terms of output `output` whose number leaves `share` when
+/// divided by `TERM_SHARES`.
 fn output_share(
     store: &Store,
     session: &mut Session,
@@ -104,8 +104,8 @@ fn output_share(
     Ok(id)
 }
 
-/// The id of a piece of terms: the disjunction of those terms of output `piece / TERM_SHARES` whose
-/// number leaves `piece % TERM_SHARES` when divided by `TERM_SHARES`.
+/// The id of part `piece` of the outputs by terms: the disjunction of those terms of output `piece
+/// / TERM_SHARES` whose number leaves `piece % TERM_SHARES` when divided by `TERM_SHARES`.
 pub(crate) fn terms_share(
     store: &Store,
     session: &mut Session,

@@ -8,7 +8,8 @@ ghost use Rattle.dd_builder.specs.Subfunctions.{SizesAreFew, SubfunctionsAreFew,
 use order_model::Order;
 use unique_table::Store;
 
-/// The numbers of a store's plan fit one another.
+/// A store's plan is sound: its numbers of places and pieces are as they should be, its order and
+/// its functions have the same variables, and its terms, if it has any, give its functions.
 pub(crate) fn stores_have_plans(store: &Store)
     ensures { IsPlan store.now.plan }
 {
@@ -22,7 +23,8 @@ pub(crate) fn orders_have_each_variable_once(order: &Order)
     let _variables = order.variables();
 }
 
-/// Nodes of subfunctions are no more than the order's size, and that is at most 131,310.
+/// Unequal nodes that denote subfunctions on their levels are no more than the order's size, which
+/// is at most 131,310.
 pub fn subfunctions_are_few()
     ensures few { SubfunctionsAreFew }
     ensures sizes { SizesAreFew }

@@ -10,7 +10,7 @@ ghost use Rattle.dd_builder.specs.Operating.{AreOperands, IsFrom, IsSettled, IsC
 use op_cache::{recall, remember};
 use unique_table::{NodeId, Operation, Session, Store, StoreFull};
 
-/// The other operand if one of them is `neutral`.
+/// The other operand if one of the two is `neutral`, else None.
 fn beside_neutral(neutral: NodeId, first: NodeId, second: NodeId) -> Option<NodeId>
     ensures { result ≡ (if first == neutral then Some second
         else if second == neutral then Some first else None) }
@@ -24,7 +24,7 @@ fn beside_neutral(neutral: NodeId, first: NodeId, second: NodeId) -> Option<Node
     }
 }
 
-/// The id of a conjunction, if an operand is a terminal or both operands are equal.
+/// The id of the conjunction of two operands, if one is a terminal or both are equal; else None.
 fn terminal_case_of_and(first: NodeId, second: NodeId) -> Option<NodeId>
     ensures { IsSettled Operation.And first second result }
 {
@@ -37,7 +37,7 @@ fn terminal_case_of_and(first: NodeId, second: NodeId) -> Option<NodeId>
     }
 }
 
-/// The id of a disjunction, if an operand is a terminal or both operands are equal.
+/// The id of the disjunction of two operands, if one is a terminal or both are equal; else None.
 fn terminal_case_of_or(first: NodeId, second: NodeId) -> Option<NodeId>
     ensures { IsSettled Operation.Or first second result }
 {
@@ -50,7 +50,8 @@ fn terminal_case_of_or(first: NodeId, second: NodeId) -> Option<NodeId>
     }
 }
 
-/// The id of an exclusive disjunction, if an operand is the terminal 0 or both operands are equal.
+/// The id of the exclusive disjunction of two operands, if one is the terminal 0 or both are equal;
+/// else None.
 fn terminal_case_of_xor(first: NodeId, second: NodeId) -> Option<NodeId>
     ensures { IsSettled Operation.Xor first second result }
 {
@@ -61,7 +62,8 @@ fn terminal_case_of_xor(first: NodeId, second: NodeId) -> Option<NodeId>
     }
 }
 
-/// The id of an operation, if it follows from the operands without taking a node apart.
+/// The id of the result of an operation on two ids. None if it doesn't follow without taking a node
+/// apart.
 fn terminal_case(operation: Operation, first: NodeId, second: NodeId) -> Option<NodeId>
     ensures { IsSettled operation first second result }
 {
@@ -72,7 +74,7 @@ fn terminal_case(operation: Operation, first: NodeId, second: NodeId) -> Option<
     }
 }
 
-/// The level of an id's node. For a terminal it is the number of levels.
+/// The level of the node with id `id`. For a terminal it is the number of levels.
 fn level_of(store: &Store, session: &mut Session, id: NodeId) -> u8
     requires session { session.old.store ≡ store.now }
     requires known { Knows session.old id }
@@ -88,7 +90,7 @@ fn level_of(store: &Store, session: &mut Session, id: NodeId) -> u8
     }
 }
 
-/// The higher level of two ids, not both of which are terminals.
+/// The level of the higher one of two nodes, given by their ids. Not both ids are terminals.
 fn top_level(store: &Store, session: &mut Session, first: NodeId, second: NodeId) -> u8
     requires session { session.old.store ≡ store.now }
     requires operands { AreOperands session.old first second }
@@ -102,8 +104,8 @@ fn top_level(store: &Store, session: &mut Session, first: NodeId, second: NodeId
     one.min(two)
 }
 
-/// The low and the high child of an id, seen as a node of `level`. An id whose node lies below this
-/// level is itself both children.
+/// The low and the high child of the node with id `id`, seen as one of `level`. If the node lies
+/// below this level, or is a terminal, both children are `id` itself.
 fn children(store: &Store, session: &mut Session, id: NodeId, level: u8) -> (NodeId, NodeId)
     requires session { session.old.store ≡ store.now }
     requires known { Knows session.old id }
@@ -118,16 +120,19 @@ fn children(store: &Store, session: &mut Session, id: NodeId, level: u8) -> (Nod
     }
 }
 
-/// Two ids, seen as nodes of the higher one of their levels: this level, and the low and the high
-/// child of each.
+/// Two ids, seen as nodes of the higher one of their levels.
 #[derive(Clone, Copy)]
 struct Cut {
+    /// The higher level.
     level: u8,
+    /// The low and the high child of the first id.
     first: (NodeId, NodeId),
+    /// The low and the high child of the second id.
     second: (NodeId, NodeId),
 }
 
-/// The children of two ids, not both of which are terminals, on the higher one of their levels.
+/// Two ids, not both of which are terminals, seen as nodes of the higher one of their levels: this
+/// level, and the children of each.
 fn take_apart(store: &Store, session: &mut Session, first: NodeId, second: NodeId) -> Cut
     requires session { session.old.store ≡ store.now }
     requires operands { AreOperands session.old first second }
@@ -149,7 +154,7 @@ fn take_apart(store: &Store, session: &mut Session, first: NodeId, second: NodeI
     }
 }
 
-/// The id of an operation on two ids, which lie at level `from` or below it.
+/// The id of the result of an operation on two ids, which lie at level `from` or below it.
 fn apply_from(
     store: &Store,
     session: &mut Session,
@@ -182,9 +187,9 @@ fn apply_from(
     Ok(id)
 }
 
-/// The id of an operation on the functions of two ids (Bryant 1986, apply). It takes no memory.
-/// Each pair of nodes is worked on once for as long as the cache keeps its result. The id lies no
-/// higher than the higher operand, so it may be a child wherever both of them may.
+/// The id of the result of an operation on the functions of two ids (Bryant 1986, apply). It takes
+/// no memory. Each pair of nodes is worked on once for as long as the cache keeps its result. The
+/// id lies no higher than the higher operand, so it may be a child wherever both of them may.
 pub fn apply(
     store: &Store,
     session: &mut Session,

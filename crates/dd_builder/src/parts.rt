@@ -12,14 +12,16 @@ use order_model::Term;
 use truth_table::Tables;
 use unique_table::{NodeId, Session, Store, StoreFull};
 
-/// What the functions are given by: truth tables or terms.
+/// What a store's functions are given by.
 #[derive(Clone, Copy)]
 pub(crate) enum Source<'a> {
+    /// The truth tables of all functions.
     Tables(&'a Tables),
+    /// The terms of a cover.
     Terms(&'a [Term]),
 }
 
-/// The id of the function of a part, made from the source.
+/// The id of the function of part `piece`, made from the source.
 pub(crate) fn part(
     store: &Store,
     session: &mut Session,

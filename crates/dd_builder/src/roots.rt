@@ -16,7 +16,7 @@ use crate::parts::Source;
 use crate::tables::top_variables;
 use unique_table::{NodeId, Operation, Session, Store, StoreFull, TERM_SHARES};
 
-/// The id of a part, which the session has seen published.
+/// The id of part `piece`, which the session has seen published.
 fn part_id(store: &Store, session: &mut Session, piece: usize) -> NodeId
     requires session { KnowsParts store.now session.old }
     requires piece { piece < store.now.plan.roots }
@@ -32,8 +32,8 @@ fn part_id(store: &Store, session: &mut Session, piece: usize) -> NodeId
     }
 }
 
-/// The id of an output with the variables above `level` fixed to the bits of `path`, made of the
-/// parts, in which the variables on top are fixed.
+/// The id of output `output` with the variables above `level` fixed: the variable of level i to bit
+/// i of `path`. It is made of the parts, in which the variables on top are fixed.
 fn of_restrictions(
     store: &Store,
     session: &mut Session,
@@ -64,8 +64,8 @@ fn of_restrictions(
     store.make(session, level, low, high)
 }
 
-/// The id of the disjunction of `count` parts of an output, from number `first` on: that of the
-/// first half of them and that of the second half.
+/// The id of the disjunction of `count` parts of output `output`, from its part `first` on: that of
+/// the first half of them and that of the second half.
 fn of_shares(
     store: &Store,
     session: &mut Session,
@@ -92,7 +92,7 @@ fn of_shares(
     apply(store, session, Operation::Or, lower, upper)
 }
 
-/// The id of an output, the disjunction of all its parts by terms.
+/// The id of output `output`, made as the disjunction of all its parts by terms.
 fn of_all_shares(store: &Store, session: &mut Session, output: u8) -> Result<NodeId, StoreFull>
     requires session { KnowsParts store.now session.old }
     requires kind { AreOfTerms store.now.plan.kind }
@@ -103,7 +103,7 @@ fn of_all_shares(store: &Store, session: &mut Session, output: u8) -> Result<Nod
     of_shares(store, session, output, 0, TERM_SHARES)
 }
 
-/// The id of an output, made of its parts.
+/// The id of output `output`, made of its parts, which the source gives.
 fn root(
     store: &Store,
     session: &mut Session,
@@ -123,7 +123,7 @@ fn root(
     }
 }
 
-/// Makes and publishes the outputs.
+/// Makes the outputs of their published parts, and publishes them.
 pub(crate) fn publish_roots(
     store: &Store,
     session: &mut Session,

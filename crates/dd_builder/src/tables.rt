@@ -14,8 +14,8 @@ use order_model::VarIx;
 use truth_table::Tables;
 use unique_table::{NodeId, Session, Store, StoreFull};
 
-/// The point at which, for each level, the variable of level i has bit i of `path`. Bit x of the
-/// point is the value of variable x.
+/// The point at which the variable of each level i has bit i of `path`. Bit x of the point is the
+/// value of variable x.
 fn point_of(order: &[VarIx], path: u32) -> u32
     requires order { IsOrder (length order.now) order.now }
     requires few { length order.now ≤ 16 }
@@ -28,16 +28,18 @@ fn point_of(order: &[VarIx], path: u32) -> u32
     point
 }
 
-/// The values of the variables above a level: bit i is that of the variable of level i. The point
-/// has them, and 0 for the variables below.
+/// Values for the variables above a level.
 #[derive(Clone, Copy, Debug)]
 struct Path {
+    /// The level.
     level: u8,
+    /// The values: bit i is that of the variable of level i.
     bits: u32,
+    /// The point with these values, and 0 for the variables below. Bit x is that of variable x.
     point: u32,
 }
 
-/// The id of an output with the variables above the path's level fixed to the path's bits.
+/// The id of output `output` with the variables above the path's level fixed to the path's values.
 fn output_below(
     store: &Store,
     session: &mut Session,
@@ -75,7 +77,7 @@ fn output_below(
     store.make(session, level, low, high)
 }
 
-/// How many variables on top of an order are fixed in pieces: two, or the only one.
+/// How many variables on top of an order are fixed in the parts: two, or the only one.
 pub(crate) fn top_variables(order: &[VarIx]) -> u8
     requires { 1 ≤ length order.now }
     ensures value { result ≡ length (top_variables order.now) }
@@ -84,8 +86,8 @@ pub(crate) fn top_variables(order: &[VarIx]) -> u8
     if order.len() == 1 { 1 } else { 2 }
 }
 
-/// The id of a piece of tables: an output with the variables on top fixed. The piece's number,
-/// divided by the number of their assignments, gives the output, and the remainder the values.
+/// The id of part `piece` of the outputs by truth tables: output `piece / a` with the variables on
+/// top fixed to the bits of `piece % a`, where a is the number of their assignments.
 pub(crate) fn restriction(
     store: &Store,
     session: &mut Session,

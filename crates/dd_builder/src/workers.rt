@@ -10,15 +10,18 @@ use order_model::Gate;
 use std::alloc::{AllocError, Global};
 use unique_table::{Session, Store};
 
-/// The job of one worker that builds parts: the worker's number, from 1, and its session.
+/// The job of one worker that builds parts.
 #[derive(Drop)]
 pub(crate) struct BuildJob {
+    /// The worker's number, counted from 1.
     pub(crate) worker: u8,
+    /// The worker's session.
     pub(crate) session: Session,
 }
 
-/// Builds and publishes the parts of one worker: those whose number leaves `worker - 1` when
-/// divided by `workers`. Returns the worker's session, as an error if it met a full store.
+/// Builds and publishes the parts of worker number `worker`: those whose number leaves `worker - 1`
+/// when divided by `workers`, which is how many workers there are. Calls the gate before each is
+/// published. Returns the worker's session, as an error if it met a full store.
 pub(crate) fn build_parts<G: Gate>(
     store: &Store,
     mut session: Session,
@@ -46,7 +49,7 @@ pub(crate) fn build_parts<G: Gate>(
     Ok(session)
 }
 
-/// The job of each worker, by rising number. The session is split among them.
+/// The jobs of `workers` workers, by rising number. The session is split among them.
 pub(crate) fn jobs(
     alloc: Global,
     store: &Store,
@@ -75,7 +78,7 @@ pub(crate) fn jobs(
     Ok(jobs)
 }
 
-/// The session of a worker that has ended, and whether it met a full store.
+/// The session of a worker that has ended, and whether the worker met a full store.
 fn session_at_end(end: Result<Session, Session>) -> (Session, bool)
     ensures { IsOpened end result.0 result.1 }
 {
@@ -85,7 +88,8 @@ fn session_at_end(end: Result<Session, Session>) -> (Session, bool)
     }
 }
 
-/// A session that knows what all workers know; an error if one of them met a full store.
+/// Joins the sessions of all workers when they have ended: a session that knows what all of them
+/// know, as an error if one of them met a full store.
 pub(crate) fn join_all(
     store: &Store,
     workers: u8,

@@ -1,8 +1,8 @@
-//! Sets with their least costs, as certificates list them.
+//! Sets with costs, as certificates list them.
 
 use crate::variables::Mask;
 
-/// A set with its least cost.
+/// A set that a certificate lists, with the cost that it states for the set.
 #[derive(Clone, Copy, Debug, PartialEq, Eq)]
 pub struct ListedCell {
     pub mask: Mask,

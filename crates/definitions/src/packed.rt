@@ -7,7 +7,7 @@ ghost use Rattle.definitions.specs.Problems.{IsClean, packed_bit, table_in, word
 
 use crate::variables::VarIx;
 
-/// How many words a truth table of n variables takes.
+/// How many words of 64 points the truth table of a function of n variables takes.
 pub fn words_per_table(n: u8) -> usize
     requires { n ≤ 16 }
     ensures value { result ≡ size_of n }
@@ -17,7 +17,8 @@ pub fn words_per_table(n: u8) -> usize
     ((1usize << n) + 63) / 64
 }
 
-/// The words of table `table`, where tables of `size` words stand one after the other.
+/// The words of table number `table`, counted from 0. `words` has tables of `size` words, one after
+/// the other.
 pub fn block(words: &[u64], size: usize, table: usize) -> &[u64]
     requires { table * size + size ≤ length words.now }
     ensures { result.now ≡ words_of size words.now table }
@@ -27,7 +28,7 @@ pub fn block(words: &[u64], size: usize, table: usize) -> &[u64]
     block
 }
 
-/// The value of a packed truth table at a point.
+/// The value of a packed truth table at a point. Bit x of `point` is the value of variable x.
 pub fn bit_of(words: &[u64], point: usize) -> bool
     requires { point / 64 < length words.now }
     ensures { result ≡ packed_bit words.now point }
@@ -51,8 +52,8 @@ pub fn lower_half(x: VarIx) -> u64
     }
 }
 
-/// Whether a word has different values at two points that differ in variable x alone, which is
-/// below 6.
+/// Whether a word has different values at some two of its points that differ in variable x alone. x
+/// is below 6.
 fn halves_differ(word: u64, x: VarIx) -> bool
     requires { x < 6 }
     ensures differ { IsTrue result →
@@ -64,8 +65,8 @@ fn halves_differ(word: u64, x: VarIx) -> bool
     ((word >> (1u32 << x)) ^ word) & lower_half(x) != 0
 }
 
-/// Whether some two words differ whose indexes differ in bit r alone: the points of the one have
-/// variable r + 6 at 0, those of the other at 1.
+/// Whether some two words of a packed truth table differ whose indexes differ in bit r alone. The
+/// function then depends on variable r + 6.
 fn rows_differ(words: &[u64], r: u8) -> bool
     requires few { length words.now ≤ 1024 }
     requires small { r < 10 }
@@ -85,7 +86,7 @@ fn rows_differ(words: &[u64], r: u8) -> bool
     false
 }
 
-/// Whether the function of a truth table of n variables depends on variable x.
+/// Whether the function of n variables whose packed truth table is `words` depends on variable x.
 pub fn depends_on(n: u8, words: &[u64], x: VarIx) -> bool
     requires few { n ≤ 16 }
     requires variable { x < n }

@@ -18,6 +18,7 @@ use std::marker::Model;
 pub struct Problem {
     inputs: u8,
     outputs: u8,
+    /// The packed truth tables, one after the other.
     words: Vec<u64>,
 }
 
@@ -48,7 +49,8 @@ impl Problem {
         })
     }
 
-    /// The problem whose truth tables stand one after the other in words of 64 points.
+    /// The problem of `inputs` variables and `outputs` functions whose packed truth tables stand
+    /// one after the other in `words`. Bits past a table's last point are 0.
     pub fn from_words(inputs: u8, outputs: u8, words: Vec<u64>) -> Problem
         requires { IsPacked inputs outputs words.items }
         ensures { result ≡ packed_tables inputs outputs words.items }
@@ -78,7 +80,7 @@ impl Problem {
         self.outputs
     }
 
-    /// The value of a function at a point. Bit x of `point` is the value of variable x.
+    /// The value of function `output` at a point. Bit x of `point` is the value of variable x.
     pub fn value(&self, output: u8, point: u32) -> bool
         requires output { output < outputs_of self.now }
         requires point { point < 2 ^ self.now.inputs }
@@ -87,7 +89,8 @@ impl Problem {
         bit_of(self.words(output), point as usize)
     }
 
-    /// Makes the value of a function at a point 1. Bit x of `point` is the value of variable x.
+    /// Sets the value of function `output` at a point to 1. Bit x of `point` is the value of
+    /// variable x.
     pub fn set(&mut self, output: u8, point: u32)
         requires output { output < outputs_of self.old }
         requires point { point < 2 ^ self.old.inputs }
@@ -99,7 +102,7 @@ impl Problem {
         self.words[place] |= 1 << (point % 64);
     }
 
-    /// The truth table of a function, packed in words of 64 points.
+    /// The truth table of function `output`, packed in words of 64 points.
     pub fn words(&self, output: u8) -> &[u64]
         requires { output < outputs_of self.now }
         ensures long { length result.now ≡ size_of self.now.inputs }
@@ -122,7 +125,7 @@ impl Problem {
         mask
     }
 
-    /// Whether some function depends on a variable.
+    /// Whether some function depends on variable x.
     fn has_dependence(&self, x: VarIx) -> bool
         requires { x < self.now.inputs }
         ensures { result ≡ list_any (λ f. depends self.now.inputs f x) (functions self.now) }
@@ -135,7 +138,7 @@ impl Problem {
         false
     }
 
-    /// The set of the variables on which a function depends.
+    /// The set of the variables on which function `output` depends.
     pub fn support(&self, output: u8) -> Mask
         requires { output < outputs_of self.now }
         ensures { result ≡ mask_of (filter

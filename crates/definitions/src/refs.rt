@@ -2,7 +2,7 @@
 
 use crate::variables::VarIx;
 
-/// A terminal, or the place of a node in its diagram's list.
+/// A child of a node or a root: a terminal, or the place of a node in its diagram's list.
 #[derive(Clone, Copy, Debug, PartialEq, Eq)]
 pub enum Ref {
     Terminal(bool),

@@ -4,8 +4,9 @@ ghost use Rattle.std.specs.Prelude.{◌≡◌, bit_and};
 
 use crate::variables::Mask;
 
-/// A product term: bit i of `care` stands for a literal of variable i, whose value is bit i of
-/// `value`; bit j of `outs` stands for output j, to whose ON-set the term belongs.
+/// A product term. Bit i of `care` is 1 if the term has a literal of variable i, and bit i of
+/// `value` is the literal's value. Bit j of `outs` is 1 if the term belongs to the ON-set of output
+/// j. `value` has no bit that `care` hasn't.
 #[derive(Clone, Copy, Debug, PartialEq, Eq)]
 pub struct Term {
     pub care: Mask,

@@ -11,10 +11,11 @@ pub type VarIx = u8;
 /// A set of variables: bit x stands for variable x.
 pub type Mask = u16;
 
-/// Widths over a set: at each member its width over the set without it, or 0.
+/// The widths of a set's members, as far as they are needed: entry x is the width of member x over
+/// the set without x.
 pub type WidthRow = [u32; 16];
 
-/// Whether a set has a variable.
+/// Whether variable x is in a set.
 #[inline(always)]
 pub fn contains(set: Mask, x: VarIx) -> bool
     requires { x < 16 }
@@ -40,7 +41,7 @@ impl Model for Workers {
 }
 
 impl Workers {
-    /// The number of workers, if it is from 1 to 64.
+    /// `count` workers. None if this is not from 1 to 64.
     pub fn new(count: u8) -> Option<Workers>
         ensures some { IsSome result ↔ ((1 ≤ count) × (count ≤ 64)) }
         ensures value { IfSome result (λ w. w ≡ count) }

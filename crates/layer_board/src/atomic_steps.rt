@@ -1,4 +1,4 @@
-//! The rule of a board's table, and the kinds of its steps.
+//! The invariant of a board's words, and the kinds of atomic steps on them.
 
 ghost use Rattle.layer_board.specs.Invariant.{Kept, first_view, one_left, claims, posts, reads};
 ghost use Rattle.layer_board.specs.Views.{fresh};
@@ -6,7 +6,7 @@ ghost use Rattle.layer_board.specs.Views.{fresh};
 use crate::views::{Brief, Knowledge};
 use atomic_table::{Play, Split, TableRule};
 
-/// What the words and the seats show is a right state of the machine.
+/// The invariant of a board's words and seats: they show a right state of the layer's machine.
 pub struct BoardRule;
 
 impl TableRule<(), Knowledge, Brief> for BoardRule {
@@ -15,7 +15,7 @@ impl TableRule<(), Knowledge, Brief> for BoardRule {
     ghost first = { first_view };
 }
 
-/// The step of a claim, at the counter: the seat gains the block whose place is the count that it
+/// The step of a claim, at the counter. The seat gains the block whose place is the count that it
 /// found, or learns that no block is left.
 pub(crate) struct Claims;
 
@@ -23,23 +23,23 @@ impl Play<(), Knowledge> for Claims {
     ghost then = { claims };
 }
 
-/// The step of a post, at the word of a cell: an empty word takes the cell, and the seat learns
-/// that it is filled. A word that is found filled stays, and the seat knew that it was.
+/// The step of a post, at the word of a cell. An empty word takes the cell, and the seat learns
+/// that it is filled. A filled word stays as it is, and the seat knew that it was filled.
 pub(crate) struct Posts;
 
 impl Play<(), Knowledge> for Posts {
     ghost then = { posts };
 }
 
-/// The step of a read, at the word of a cell: a filled word holds the right cell, and the seat
-/// learns that it is filled. A word that is found empty is none that it knew to be filled.
+/// The step of a read, at the word of a cell. A filled word has the right cell, and the seat learns
+/// that it is filled. An empty word is none that the seat knew to be filled.
 pub(crate) struct Reads;
 
 impl Play<(), Knowledge> for Reads {
     ghost then = { reads };
 }
 
-/// A seat of one worker is cut off.
+/// How the seat of one worker is split off the first seat of a new board.
 pub(crate) struct NewSeat;
 
 impl Split<Knowledge> for NewSeat {

@@ -31,10 +31,12 @@ pub enum PostRefused {
     Double,
 }
 
-/// The cells of a layer, which threads claim by blocks and fill.
+/// The cells of a layer. Threads claim the layer's blocks and fill the cells.
 #[derive(Drop)]
 pub struct Board {
+    /// The words that all seats share: the count of claims, and then one for each cell.
     pub(crate) table: Table<(), Knowledge, Brief, BoardRule, Global>,
+    /// The layer.
     pub(crate) layer: Layer,
 }
 
@@ -51,7 +53,8 @@ impl Model for Board {
 }
 
 impl Board {
-    /// A board with empty cells, and a seat for each worker.
+    /// A board for a layer, with empty cells, and a seat for each worker. It takes only cells that
+    /// the definition gives for the problem, the pairs and the limit.
     pub fn new(
         alloc: Global,
         problem: &Problem,
@@ -86,7 +89,7 @@ impl Board {
         Ok((board, seats))
     }
 
-    /// The seats of a new board for `count` workers, cut off the first seat one by one.
+    /// The seats of a new board for `count` workers, split off the first seat one by one.
     fn seats(
         &self,
         alloc: Global,
@@ -110,7 +113,7 @@ impl Board {
     }
 
     /// The next block that no worker has claimed, or None if there is none. A seat that got None
-    /// gets None ever after, and takes no step.
+    /// gets None ever after, and takes no step for it.
     pub fn claim(&self, seat: &mut BoardSeat) -> Option<Claim>
         requires { seat.old.board ≡ self.now }
         ensures board { seat.new.board ≡ self.now }
@@ -138,7 +141,7 @@ impl Board {
     }
 
     /// Fills the cell of a mask whose block the seat claimed. An error if the seat did not claim
-    /// it, or if the cell is filled.
+    /// the block, or if the cell is filled.
     pub fn post(&self, seat: &mut BoardSeat, cell: CellResult) -> Result<(), PostRefused>
         requires board { seat.old.board ≡ self.now }
         requires instance { cell.instance ≡ self.now.brief.instance }
@@ -165,7 +168,8 @@ impl Board {
         }
     }
 
-    /// The cell of a mask, if it is seen filled.
+    /// The cell of a mask. None if the layer doesn't have the mask, or if the seat sees the cell
+    /// empty.
     pub fn read(&self, seat: &mut BoardSeat, mask: Mask) -> Option<Cell>
         requires { seat.old.board ≡ self.now }
         ensures board { seat.new.board ≡ self.now }
@@ -185,7 +189,7 @@ impl Board {
         Some(cell_of_word(found))
     }
 
-    /// The board with its words as they are when its last seat ends.
+    /// Closes the board with its last seat: its words stay as they are then.
     pub fn into_closed(self, seat: BoardSeat) -> ClosedBoard
         requires { seat.board ≡ self }
         ensures brief { result.brief ≡ self.brief }
@@ -205,8 +209,8 @@ impl Board {
         }
     }
 
-    /// All cells in the layer's order. Else the closed board, and the least mask whose cell in it
-    /// is empty, or `OutOfMemory`.
+    /// The cells of all masks, in the layer's order. Else the closed board, and the least mask
+    /// whose cell is empty in it, or `OutOfMemory`.
     pub fn close(
         self,
         alloc: Global,

@@ -20,13 +20,17 @@ use subset_layers::{Cell, Layer};
 pub enum CloseError {
     /// The least mask whose cell is empty.
     Missing(Mask),
+    /// An allocation was refused.
     OutOfMemory,
 }
 
 /// A board that no seat shares any more: the words that it ended with.
 pub struct ClosedBoard {
+    /// The words that the board ended with.
     pub(crate) closed: Closed<(), Global>,
+    /// The layer.
     pub(crate) layer: Layer,
+    /// The board that was closed, which only contracts see.
     pub(crate) board: Snapshot<Board>,
 }
 
@@ -54,7 +58,8 @@ impl Drop for ClosedBoard {
 }
 
 impl ClosedBoard {
-    /// All cells in the layer's order. Else the least mask whose cell is empty, or `OutOfMemory`.
+    /// The cells of all masks, in the layer's order. Else the least mask whose cell is empty, or
+    /// `OutOfMemory`.
     pub fn cells(&self, alloc: Global) -> Result<Vec<Cell>, CloseError>
         ensures all { IfOk result (λ v. map (λ c. Some (pair_of c)) v.items ≡ self.now.cells) }
         ensures cells { IfOk result
@@ -76,7 +81,7 @@ impl ClosedBoard {
         Ok(cells)
     }
 
-    /// The cell of the mask at a place, if it is filled.
+    /// The cell of the mask at place `place` of the layer. None if the cell is empty.
     fn cell_at(&self, place: usize) -> Option<Cell>
         requires { place < length (masks_of self.now.brief.layer) }
         ensures some { IfSome result

@@ -10,11 +10,14 @@ use std::alloc::{AllocError, Global};
 use std::marker::Model;
 use subset_layers::Block;
 
-/// A worker's seat at a board, with a mark for each block that it claimed.
+/// A worker's seat at a board: its own view of the board.
 #[derive(Drop)]
 pub struct BoardSeat {
+    /// The seat at the board's words.
     pub(crate) seat: Seat<(), Knowledge>,
+    /// For each block, whether the worker claimed it.
     pub(crate) claims: Vec<bool>,
+    /// Whether the worker was told that no block is left.
     pub(crate) ended: bool,
 }
 
@@ -51,10 +54,12 @@ impl BoardSeat {
     }
 }
 
-/// A block that a worker claimed, and its place in the layer.
+/// A block that a worker claimed.
 #[derive(Drop)]
 pub struct Claim {
+    /// The place of the block in the layer.
     place: usize,
+    /// The block.
     block: Block,
 }
 
@@ -67,7 +72,7 @@ impl Model for Claim {
 }
 
 impl Claim {
-    /// The claim of the block at a place of the layer.
+    /// The claim of `block`, which stands at place `place` of the layer.
     pub(crate) fn new(place: usize, block: Block) -> Claim
         ensures { result ≡ record { place = place; block = block } }
     {
@@ -81,7 +86,7 @@ impl Claim {
         self.place
     }
 
-    /// The block.
+    /// The block that was claimed.
     pub fn block(&self) -> &Block
         ensures { result.now ≡ self.now.block }
     {

@@ -8,10 +8,15 @@ use subset_layers::Layer;
 /// What a board is for.
 #[derive(Drop)]
 pub struct Brief {
+    /// The functions.
     pub(crate) problem: Snapshot<Problem>,
+    /// The pairs that an order must keep.
     pub(crate) pairs: Snapshot<Pairs>,
+    /// What prunes the search.
     pub(crate) limit: Limit,
+    /// The layer whose sets have their cells on the board.
     pub(crate) layer: Snapshot<Layer>,
+    /// How many workers have a seat.
     pub(crate) workers: Workers,
 }
 

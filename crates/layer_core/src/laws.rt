@@ -7,8 +7,8 @@ ghost use Rattle.definitions.specs.declared.limits.LowerBound.{LowerBound};
 ghost use Rattle.layer_core.specs.Machine.{Layout, Event, opening, run};
 ghost use Rattle.layer_core.specs.Rights.{IsLayout, RightFor, ArePosted, IsFilled, claimants, all_cells};
 
-/// After any events from the opening the machine's state is right, if each posted cell is that of
-/// its mask.
+/// After any events from the opening on, the machine's state is right, if each posted cell is the
+/// one that the definition gives its mask.
 pub fn events_keep_it_right()
     ensures { (n : ℕ) (F : List Function) (P : List Pair) (r : LowerBound) (bound : ℕ)
         (l : Layout) (workers : ℕ)
@@ -17,8 +17,8 @@ pub fn events_keep_it_right()
         RightFor n F P r bound (run (opening l workers) events) }
 {}
 
-/// After any events each block below the counter, if it has a mask, is claimed by exactly one
-/// worker.
+/// After any events, each block that was handed out, which is one below the counter, is claimed by
+/// exactly one worker, if it has a mask.
 pub fn each_claim_is_one_workers()
     ensures { (n : ℕ) (F : List Function) (P : List Pair) (r : LowerBound) (bound : ℕ)
         (l : Layout) (workers : ℕ)
@@ -28,7 +28,7 @@ pub fn each_claim_is_one_workers()
         claimants (slice_index l.block_of p) (run (opening l workers) events).workers ≡ 1 }
 {}
 
-/// Once every mask is filled, the cells are the definition's.
+/// Once every mask's cell is filled, the cells are those of the definition.
 pub fn filled_cells_are_the_definitions()
     ensures { (n : ℕ) (F : List Function) (P : List Pair) (r : LowerBound) (bound : ℕ)
         (l : Layout) (workers : ℕ)

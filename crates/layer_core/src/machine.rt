@@ -14,12 +14,14 @@ use std::alloc::{AllocError, Global};
 use std::marker::Model;
 use subset_layers::{Cell, Layer};
 
-/// What a worker claimed, by block, and knows to be filled, by mask, and whether it was told that
-/// no block is left.
+/// What a worker did and knows.
 #[derive(Drop)]
 pub(crate) struct WorkerMarks {
+    /// For each block, whether the worker claimed it.
     pub(crate) claims: Vec<bool>,
+    /// For each mask of the layer, whether the worker knows its cell to be filled.
     pub(crate) known: Vec<bool>,
+    /// Whether the worker was told that no block is left.
     pub(crate) ended: bool,
 }
 
@@ -28,9 +30,13 @@ pub(crate) struct WorkerMarks {
 /// `minorder` runs boards.
 #[derive(Drop)]
 pub struct Core {
+    /// The layer.
     layer: Layer,
+    /// The place of the next block to be claimed. If the layer has none there, no block is left.
     counter: usize,
+    /// The cells of the layer's masks, `None` where a cell is empty.
     cells: Vec<Option<Cell>>,
+    /// What each worker did and knows: worker i, counted from 1, is at place i - 1.
     workers: Vec<WorkerMarks>,
 }
 
@@ -47,7 +53,7 @@ impl Model for Core {
 }
 
 impl Core {
-    /// Workers that made no step, at a layer whose cells are empty.
+    /// The machine at its opening: all cells of the layer are empty, and no worker made a step.
     pub fn new(alloc: Global, layer: &Layer, workers: Workers) -> Result<Core, AllocError>
         ensures opening { IfOk result (λ c. c ≡ opening (layout_of layer.now) workers) }
         ensures layout { IfOk result (λ c. IsLayout c.layout) }
@@ -63,7 +69,7 @@ impl Core {
         })
     }
 
-    /// Carries out a worker's step, and returns the machine's reply.
+    /// Carries out a worker's step, and returns the machine's reply to the worker.
     pub fn step(&mut self, event: Event) -> Reply
         requires { IsByWorker self.old event }
         ensures step { (reply_of result, self.new) ≡ step self.old (event_of event) }
@@ -78,7 +84,7 @@ impl Core {
         }
     }
 
-    /// The reply to the claim of the worker at place `worker`.
+    /// Claims the next block for the worker at place `worker`, and returns the reply.
     fn claim(&mut self, worker: usize) -> Reply
         requires { worker < length self.old.workers }
         ensures { (reply_of result, self.new) ≡ step self.old (Claim worker) }
@@ -97,7 +103,8 @@ impl Core {
         }
     }
 
-    /// The reply to a post of the worker at place `worker`, which fills the cell of a mask.
+    /// Fills the cell of a mask for the worker at place `worker`, if the worker claimed the mask's
+    /// block and the cell is empty, and returns the reply.
     fn post(&mut self, worker: usize, mask: Mask, cell: Cell) -> Reply
         requires { worker < length self.old.workers }
         ensures { (reply_of result, self.new) ≡ step self.old (Post worker mask (pair_of cell)) }
@@ -116,7 +123,7 @@ impl Core {
         Reply::Posted
     }
 
-    /// The reply to the worker at place `worker` that reads the cell of a mask.
+    /// Reads the cell of a mask for the worker at place `worker`, and returns the reply.
     fn read(&mut self, worker: usize, mask: Mask) -> Reply
         requires { worker < length self.old.workers }
         ensures { (reply_of result, self.new) ≡ step self.old (Read worker mask) }
@@ -143,7 +150,8 @@ fn empty_cells(alloc: Global, count: usize) -> Result<Vec<Option<Cell>>, AllocEr
     Ok(cells)
 }
 
-/// Marks of workers that made no step, at a layer of `blocks` blocks and `masks` masks.
+/// What workers did and knew before their first step, at a layer of `blocks` blocks and `masks`
+/// masks.
 fn blank_marks(
     alloc: Global,
     blocks: usize,

@@ -1,4 +1,4 @@
-//! The cell of a mask, of which the type keeps that it is the definition's.
+//! Cells that are known to be those of the definition.
 
 ghost use Rattle.std.specs.Prelude.{◌≡◌, ◌<◌, ◌^◌, ◌-◌};
 
@@ -7,7 +7,8 @@ use std::marker::Model;
 use std::snapshot::Snapshot;
 use subset_layers::Cell;
 
-/// A mask and its cell, for a problem, pairs and a limit that only contracts see.
+/// A mask with its cell, which is always the one that the definition gives for a problem, pairs and
+/// a limit. Only contracts see these three.
 #[derive(Drop)]
 pub struct CellResult {
     mask: Mask,
@@ -33,7 +34,8 @@ impl CellResult {
     ghost use Rattle.layer_core.specs.Instances.{cell_for, instance_of};
     ghost use Rattle.layer_core.specs.Pairing.{pair_of};
 
-    /// The cell of a mask.
+    /// A mask with its cell. `cell` must be the one that the definition gives for the problem, the
+    /// pairs and the limit.
     pub fn new(problem: &Problem, limit: Limit, mask: Mask, cell: Cell, pairs: &Pairs) -> CellResult
         requires bound { limit.bound < 2 ^ 32 - 1 }
         requires cell { pair_of cell ≡ cell_for (instance_of problem.now pairs.now limit) mask }
@@ -53,14 +55,14 @@ impl CellResult {
         }
     }
 
-    /// The mask.
+    /// The mask whose cell it is.
     pub fn mask(&self) -> Mask
         ensures { result ≡ self.now.mask }
     {
         self.mask
     }
 
-    /// Its cell.
+    /// The cell of the mask.
     pub fn cell(&self) -> Cell
         ensures value { pair_of result ≡ self.now.cell }
         ensures variable { self.now.cell.1 < 32 }

@@ -9,7 +9,8 @@ use std::process::ExitCode;
 use std::rt::Files;
 use std::thread::Threads;
 
-/// The exit status of the program with the words that it was given.
+/// The exit status of the program with the words that it was given; it is an error if these can't
+/// be read.
 fn minorder_status<R: Env + Files + AllocGlobal + Threads + Sync, W: CountedWrite, E: CountedWrite>(
     rt: &R,
     out: &mut W,
@@ -20,6 +21,7 @@ fn minorder_status<R: Env + Files + AllocGlobal + Threads + Sync, W: CountedWrit
     Ok(minorder(rt, &words, out, err))
 }
 
+/// Runs the program on the standard streams and ends with its exit status.
 fn main(rt: HostRuntime) -> ExitCode {
     let mut out = Counting::new(rt.stdout());
     let mut err = Counting::new(rt.stderr());

@@ -10,7 +10,7 @@ use crate::status::Refusal;
 use order_model::{Pairs, VarIx};
 use std::alloc::{AllocError, Global};
 
-/// A variable that has to stand above another one.
+/// A pair in C: the variable `above` has to stand above the variable `below`.
 #[repr(C)]
 #[derive(Clone, Copy, Debug)]
 pub(crate) struct AbovePair {
@@ -18,7 +18,7 @@ pub(crate) struct AbovePair {
     pub below: u8,
 }
 
-/// The pairs (above, below) of what a call is given.
+/// The pairs (above, below) that a call is given.
 fn numbers_of(alloc: Global, given: &[AbovePair]) -> Result<Vec<(VarIx, VarIx)>, AllocError>
     ensures { IfOk result (λ v. v.items ≡ pairs_given given.now) }
 {
@@ -30,7 +30,7 @@ fn numbers_of(alloc: Global, given: &[AbovePair]) -> Result<Vec<(VarIx, VarIx)>,
     Ok(pairs)
 }
 
-/// The pairs of n variables that a call is given, if some order keeps them.
+/// The pairs that a call is given. Refused if no order of n variables keeps them.
 pub(crate) fn kept_pairs(alloc: Global, given: &[AbovePair], n: u8) -> Result<Pairs, Refusal>
     requires some { 1 ≤ n }
     requires few { n ≤ 16 }

@@ -21,7 +21,7 @@ pub(crate) struct GivenTables<'a> {
 }
 
 impl<'a> GivenTables<'a> {
-    /// What a call is given as truth tables.
+    /// What a call is given as truth tables: words, and the numbers of inputs and outputs.
     pub(crate) fn of(words: &'a [u64], inputs: u32, outputs: u32) -> GivenTables<'a>
         ensures { result ≡ given words.entry inputs outputs }
     {
@@ -40,8 +40,8 @@ pub(crate) fn is_in_range(given: &GivenTables) -> bool
     (1..=16).contains(&given.inputs) && (1..=16).contains(&given.outputs)
 }
 
-/// Whether the numbers of inputs and outputs are from 1 to 16, and the words as many as their truth
-/// tables have.
+/// Whether the numbers of inputs and outputs are from 1 to 16, and there are as many words as their
+/// truth tables have.
 pub(crate) fn are_tables(given: &GivenTables) -> bool
     ensures { IsTrue result ↔ AreTables given.now }
 {
@@ -49,15 +49,16 @@ pub(crate) fn are_tables(given: &GivenTables) -> bool
         && given.words.len() == given.outputs as usize * words_per_table(given.inputs as u8)
 }
 
-/// Whether a call is given truth tables, and room for as many variables (`places`) and level counts
-/// (`counts`) as there are inputs.
+/// Whether a call is given truth tables, and its room for variables (`places`) and for level counts
+/// (`counts`) is one for each input.
 pub(crate) fn has_call_shape(given: &GivenTables, places: usize, counts: usize) -> bool
     ensures { IsTrue result ↔ HasCallShape given.now places counts }
 {
     places == given.inputs as usize && counts == given.inputs as usize && are_tables(given)
 }
 
-/// The truth tables that a call is given.
+/// The truth tables that a call is given. Refused if the numbers are out of range, or the words are
+/// not as many as truth tables have.
 pub(crate) fn tables_of(alloc: Global, given: &GivenTables) -> Result<Tables, Refusal>
     ensures there { OnOk result (AreTables given.now) }
     ensures tables { IfOk result (λ t. t ≡ tables_in given.now) }
@@ -72,8 +73,8 @@ pub(crate) fn tables_of(alloc: Global, given: &GivenTables) -> Result<Tables, Re
     }
 }
 
-/// The truth tables that a call is given, if it has room for as many variables (`places`) and level
-/// counts (`counts`) as there are inputs.
+/// The truth tables that a call is given. Refused if the call has none, or if the room for
+/// variables (`places`) or for level counts (`counts`) isn't one for each input.
 pub(crate) fn tables_for(
     alloc: Global,
     given: &GivenTables,
@@ -90,7 +91,8 @@ pub(crate) fn tables_for(
     tables_of(alloc, given)
 }
 
-/// The order that a call is given as a list of variables, top first.
+/// The order that a call is given as a list of variables, top first. Refused if the list doesn't
+/// have each variable once.
 fn order_of(alloc: Global, variables: &[u8]) -> Result<Order, Refusal>
     requires some { 1 ≤ length variables.now }
     requires few { length variables.now ≤ 16 }
@@ -114,8 +116,9 @@ pub(crate) struct Arguments {
     pub(crate) order: Order,
 }
 
-/// The truth tables and the order that a call is given, if it has room for as many level counts
-/// (`counts`) as there are inputs.
+/// The truth tables and the order that a call is given. Refused if the call has no truth tables, if
+/// `variables` is no order of the inputs, or if `counts`, the room for level counts, isn't one for
+/// each input.
 pub(crate) fn arguments_of(
     alloc: Global,
     given: &GivenTables,

@@ -35,7 +35,8 @@ fn solution(alloc: Global, tables: &Tables, pairs: Pairs) -> Result<Solution, Al
     Ok(solution)
 }
 
-/// The certificate of the first order of the fewest nodes among those that keep the pairs.
+/// The text of the certificate of the first order of the fewest nodes among those that keep the
+/// pairs.
 fn text_of(alloc: Global, tables: &Tables, pairs: Pairs) -> Result<String, AllocError>
     requires { pairs.inputs ≡ tables.now.inputs }
     ensures { IfOk result
@@ -52,7 +53,8 @@ fn text_of(alloc: Global, tables: &Tables, pairs: Pairs) -> Result<String, Alloc
     Ok(text)
 }
 
-/// The certificate for the truth tables and the pairs that a call is given.
+/// The text of the certificate for the truth tables and the pairs that a call is given. Refused if
+/// the call has no truth tables, or if no order keeps the pairs.
 fn certificate(alloc: Global, given: &GivenTables, above: &[AbovePair]) -> Result<String, Refusal>
     ensures shape { OnOk result (AreTables given.now) }
     ensures kept { OnOk result (CanBeKept given.now.inputs (pairs_given above.now)) }
@@ -66,9 +68,10 @@ fn certificate(alloc: Global, given: &GivenTables, above: &[AbovePair]) -> Resul
     Ok(text)
 }
 
-/// Writes the certificate of the first order of the fewest nodes among those that keep some pairs,
-/// the text that `minorder --cert` writes, and its length. If it is longer than its place only the
-/// length is written; a call that is refused otherwise writes nothing.
+/// Writes the certificate of the first order of the fewest nodes among those that keep the pairs
+/// `above` to `text`, as `minorder --cert` writes it, and its length to `size`. If `text` is too
+/// short only the length is written; a call that is refused otherwise writes nothing. Returns a
+/// status.
 #[unsafe(no_mangle)]
 pub extern "C" fn minorder_certify_with_pairs(
     alloc: Global,

@@ -26,7 +26,7 @@ pub(crate) struct DiagramNode {
     pub high: u32,
 }
 
-/// The nodes and the roots of a diagram in C.
+/// A diagram in C: its nodes, and the number of each function's root.
 #[derive(Drop)]
 struct DiagramForC {
     nodes: Vec<DiagramNode>,
@@ -45,7 +45,7 @@ fn number_of(r: Ref) -> u32
     }
 }
 
-/// The nodes of a diagram, as C has them.
+/// The nodes of a diagram, in C.
 fn nodes_of(alloc: Global, diagram: &Diagram) -> Result<Vec<DiagramNode>, AllocError>
     requires { length diagram.now.graph.nodes ≤ 2 ^ 20 }
     ensures { IfOk result (λ v. map node_for v.items ≡ diagram.now.graph.nodes) }
@@ -80,8 +80,8 @@ fn roots_of(alloc: Global, diagram: &Diagram) -> Result<Vec<u32>, AllocError>
     Ok(made)
 }
 
-/// The reduced diagram, as C has it, of what a call is given, if it has room for as many roots
-/// (`roots`) as there are outputs.
+/// The reduced diagram, in C, of the truth tables that a call is given, under `order`. Refused if
+/// `order` is no order of the inputs, or if `roots`, the room for roots, isn't one for each output.
 fn diagram_of(
     alloc: Global,
     given: &GivenTables,
@@ -108,9 +108,9 @@ fn diagram_of(
     })
 }
 
-/// Writes the nodes of the reduced diagram of some functions under an order, level by level from
-/// below, the root of each function, and the number of nodes. If there are more nodes than places
-/// only the number is written; a call that is refused otherwise writes nothing.
+/// Writes the nodes of the reduced diagram under `order` to `nodes`, level by level from below,
+/// each function's root to `roots` and the number of nodes to `count`. If `nodes` is too short only
+/// the number is written; a call that is refused otherwise writes nothing. Returns a status.
 #[unsafe(no_mangle)]
 pub extern "C" fn minorder_diagram_with_lengths(
     alloc: Global,

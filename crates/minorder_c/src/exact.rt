@@ -17,8 +17,8 @@ use small_search::{SmallSearch, Workspace, are_few, write_optimum};
 use std::alloc::{AllocError, Global};
 use truth_table::Tables;
 
-/// The first order of the fewest nodes among those that keep the pairs. The size of a sifted order
-/// bounds the search.
+/// The first order of the fewest nodes among those that keep the pairs, from a search by layers.
+/// The size of a sifted order bounds the search.
 fn searched(alloc: Global, given: &GivenTables, pairs: Pairs) -> Result<SizedOrder, AllocError>
     requires tables { AreTables given.now }
     requires pairs { pairs.inputs ≡ given.now.inputs }
@@ -30,8 +30,9 @@ fn searched(alloc: Global, given: &GivenTables, pairs: Pairs) -> Result<SizedOrd
     find_optimum_alone(alloc, tables.problem(), bound)
 }
 
-/// Writes the first order of the fewest nodes among those that keep the pairs, and its level
-/// counts, and returns its size. Without memory nothing is written.
+/// Writes the first order of the fewest nodes among those that keep the pairs to `order` and its
+/// level counts to `levels`, and returns its size. `workspace` is memory for small problems.
+/// Without memory nothing is written.
 pub(crate) fn optimum(
     alloc: Global,
     given: &GivenTables,
@@ -60,7 +61,9 @@ pub(crate) fn optimum(
     Ok(best.total)
 }
 
-/// Writes the first order of the fewest nodes and its level counts, and returns its size.
+/// Writes the first order of the fewest nodes to `order` and its level counts to `levels`, and
+/// returns its size. Refused if the call has no truth tables, or if `order` or `levels` doesn't
+/// have a place for each input.
 fn exact(
     alloc: Global,
     given: &GivenTables,
@@ -83,8 +86,9 @@ fn exact(
     Ok(total)
 }
 
-/// Writes the first order of the fewest nodes among those that keep some pairs, and its level
-/// counts, and returns its size.
+/// Writes the first order of the fewest nodes among those that keep the pairs `above` to `order`
+/// and its level counts to `levels`, and returns its size. Refused if the call has no truth tables,
+/// if no order keeps the pairs, or if `order` or `levels` doesn't have a place for each input.
 fn exact_above(
     alloc: Global,
     given: &GivenTables,
@@ -112,8 +116,8 @@ fn exact_above(
     Ok(total)
 }
 
-/// Writes the first order of the fewest nodes of some functions, its level counts and its size. A
-/// call that is refused writes nothing.
+/// Writes the first order of the fewest nodes to `order`, its level counts to `levels` and its size
+/// to `total`. A call that is refused writes nothing. Returns a status.
 #[unsafe(no_mangle)]
 pub extern "C" fn minorder_exact_with_lengths(
     alloc: Global,
@@ -142,9 +146,9 @@ pub extern "C" fn minorder_exact_with_lengths(
     }
 }
 
-/// Writes the first order of the fewest nodes among those that keep some pairs, its level counts
-/// and its size. Pairs that no order keeps, or of other variables, are refused; a call that is
-/// refused writes nothing.
+/// Writes the first order of the fewest nodes among those that keep the pairs `above` to `order`,
+/// its level counts to `levels` and its size to `total`. Pairs that no order keeps, or of other
+/// variables, are refused; a call that is refused writes nothing. Returns a status.
 #[unsafe(no_mangle)]
 pub extern "C" fn minorder_exact_above_with_lengths(
     alloc: Global,

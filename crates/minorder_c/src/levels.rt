@@ -10,7 +10,8 @@ use crate::arguments::{GivenTables, arguments_of};
 use crate::status::Refusal;
 use std::alloc::Global;
 
-/// The level counts under an order that a call is given, if it has room for as many (`counts`).
+/// The level counts under `order` of the truth tables that a call is given. Refused if `order` is
+/// no order of the inputs, or if `counts`, the room for level counts, isn't one for each input.
 fn level_counts_of(
     alloc: Global,
     given: &GivenTables,
@@ -31,8 +32,8 @@ fn level_counts_of(
     Ok(levels)
 }
 
-/// Writes the level counts of some functions under an order, top first. A call that is refused
-/// writes nothing.
+/// Writes the level counts under `order` to `levels`, top first. A call that is refused writes
+/// nothing. Returns a status.
 #[unsafe(no_mangle)]
 pub extern "C" fn minorder_levels_with_lengths(
     alloc: Global,

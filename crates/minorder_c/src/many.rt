@@ -13,7 +13,7 @@ use order_model::packed::{block, words_per_table};
 use small_search::Workspace;
 use std::alloc::{AllocError, Global};
 
-/// The answers of many problems, one behind the other.
+/// The answers for many problems, one behind the other: orders, level counts and sizes.
 #[derive(Drop)]
 struct Answers {
     orders: Vec<u8>,
@@ -21,7 +21,7 @@ struct Answers {
     totals: Vec<u32>,
 }
 
-/// Whether a length is `many * size`.
+/// Whether `length` is `many * size`.
 fn is_length(length: usize, many: usize, size: usize) -> bool
     ensures { IsTrue result ↔ (length ≡ many * size) }
 {
@@ -31,8 +31,8 @@ fn is_length(length: usize, many: usize, size: usize) -> bool
     }
 }
 
-/// Whether a call is given the truth tables of `many` problems, and room for their variables
-/// (`places`) and level counts (`counts`).
+/// Whether a call is given the truth tables of `many` problems, and its room for variables
+/// (`places`) and for level counts (`counts`) is one for each input of each problem.
 fn is_shape(given: &GivenTables, places: usize, counts: usize, many: usize) -> bool
     ensures { IsTrue result ↔ HasManyShape given.now places counts many }
 {
@@ -45,7 +45,8 @@ fn is_shape(given: &GivenTables, places: usize, counts: usize, many: usize) -> b
         && is_length(counts, many, given.inputs as usize)
 }
 
-/// Appends the answers of one problem.
+/// Appends the first order of the fewest nodes of one problem, its level counts and its size to
+/// `answers`. `workspace` is memory for small problems.
 fn put(
     alloc: Global,
     given: &GivenTables,
@@ -72,7 +73,7 @@ fn put(
 }
 
 /// The first order of the fewest nodes of each of `many` problems, with its level counts and its
-/// size. The words are their truth tables, one problem after the other.
+/// size. The words of `given` are their truth tables, one problem after the other.
 fn optima_of(alloc: Global, given: &GivenTables, many: usize) -> Result<Answers, AllocError>
     requires { HasManyShape given.now (many * given.now.inputs) (many * given.now.inputs) many }
     ensures optima { IfOk result
@@ -101,9 +102,10 @@ fn optima_of(alloc: Global, given: &GivenTables, many: usize) -> Result<Answers,
     Ok(answers)
 }
 
-/// Writes the first order of the fewest nodes of each of many problems, its level counts and its
-/// size. The words of the problems stand one behind the other, and so do their answers. A call that
-/// is refused writes nothing.
+/// Writes for each of many problems the first order of the fewest nodes to `orders`, its level
+/// counts to `levels` and its size to `totals`, which has a place for each problem. The truth
+/// tables stand one problem behind the other, and so do the answers. A call that is refused writes
+/// nothing. Returns a status.
 #[unsafe(no_mangle)]
 pub extern "C" fn minorder_exact_many_with_lengths(
     alloc: Global,

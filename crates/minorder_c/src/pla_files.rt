@@ -19,7 +19,7 @@ use truth_table::cover_words;
 /// The status of a text that is no PLA file.
 const BAD_PLA: u32 = 9;
 
-/// The number of the fault of a text that is too long.
+/// The number in C of the fault of a text that is too long.
 const TOO_LONG: u32 = 15;
 
 /// How many places there are for names of inputs, and for those of outputs.
@@ -34,7 +34,7 @@ pub(crate) struct PlaFault {
     pub kind: u32,
 }
 
-/// Why a text isn't read.
+/// Why a text isn't read: the fault by which it is no PLA file, or a lack of memory.
 #[derive(Clone, Copy)]
 enum Unread {
     Fault(PlaFault),
@@ -52,7 +52,8 @@ impl From<AllocError> for Unread {
     }
 }
 
-/// What a PLA file says, for C.
+/// What a PLA file states, in C: the numbers of inputs and outputs, where their names stand in the
+/// text, and the truth tables.
 #[derive(Drop)]
 struct PlaForC {
     inputs: u32,
@@ -84,7 +85,7 @@ fn kind_of(fault: LineFault) -> u32
     }
 }
 
-/// The cover that a text states, or why it isn't read.
+/// The cover that a text states, or why the text isn't read.
 fn cover_of(alloc: Global, text: &[u8]) -> Result<Cover, Unread>
     ensures within { OnOk result (length text.now ≤ longest) }
     ensures read { IfOk result (λ cover. Reads text.now cover) }
@@ -106,7 +107,8 @@ fn cover_of(alloc: Global, text: &[u8]) -> Result<Cover, Unread>
     }
 }
 
-/// The places of the names of a text that states `cover`, filled up to 16 places.
+/// Where in a text the names of the inputs, or of the outputs, stand; `names` says which. The list
+/// is filled up to 16 places. `cover` is what the text states.
 fn names_of(
     alloc: Global,
     text: &[u8],
@@ -129,7 +131,7 @@ fn names_of(
     Ok(places)
 }
 
-/// The numbers, names and truth tables that a PLA text states.
+/// The numbers, names and truth tables that a text states, or why the text isn't read.
 fn pla_of(alloc: Global, text: &[u8]) -> Result<PlaForC, Unread>
     ensures read { IfOk result (λ p. IsReadWith text.now p.inputs p.outputs p.input_names.items
         p.output_names.items (λ Is. Is p.words.items)) }
@@ -151,9 +153,9 @@ fn pla_of(alloc: Global, text: &[u8]) -> Result<PlaForC, Unread>
     })
 }
 
-/// Reads the text of a PLA file, and writes its numbers of inputs and outputs, parts of the text
-/// that spell its names, and the truth tables of its functions. If these take more words than there
-/// is room for, all else is written; of a text that is no PLA file only its first fault is written.
+/// Reads the text of a PLA file, and writes its numbers of inputs and outputs, where their names
+/// stand in the text, and the truth tables. If `tables` is too short for these, all else is
+/// written; of a text that is no PLA file only its first fault is written. Returns a status.
 #[unsafe(no_mangle)]
 pub extern "C" fn minorder_read_pla_with_lengths(
     alloc: Global,

@@ -5,7 +5,7 @@ ghost use Rattle.std.specs.Prelude.{◌≡◌, ◌≤◌, ◌++◌, drop, length
 /// The status of a call that has more to write than there is room for.
 pub(crate) const SHORT_ROOM: u32 = 7;
 
-/// Writes items at the front of a buffer.
+/// Copies `items` to the front of `buffer`; the rest of the buffer stays.
 pub(crate) fn put_front<T: Copy>(buffer: &mut [T], items: &[T])
     requires { length items.now ≤ length buffer.old }
     ensures { buffer.new ≡ items.now ++ drop (length items.now) buffer.old }

@@ -14,7 +14,7 @@ use order_model::{Pairs, SizedOrder};
 use sifting::Sifted;
 use std::alloc::{AllocError, Global};
 
-/// The level counts of a sifted order, one for each level.
+/// The level counts of a sifted order, top first.
 fn levels_of(alloc: Global, sifted: &Sifted) -> Result<Vec<u32>, AllocError>
     ensures long { IfOk result (λ v. length v.items ≡ length sifted.now.order) }
     ensures counts { IfOk result
@@ -26,8 +26,8 @@ fn levels_of(alloc: Global, sifted: &Sifted) -> Result<Vec<u32>, AllocError>
     counts[..sifted.order().len()].to_vec(alloc)
 }
 
-/// The order that one pass of sifting makes of one that a call is given, if it has room for as many
-/// level counts (`counts`).
+/// The order after one pass of sifting from `order`. Refused if `order` is no order of the inputs,
+/// or if `counts`, the caller's room for level counts, isn't one for each input.
 fn sifted_order(
     alloc: Global,
     given: &GivenTables,
@@ -53,8 +53,8 @@ fn sifted_order(
     })
 }
 
-/// Writes the order that one pass of sifting makes of `order` in its place, and its level counts
-/// and its size. A call that is refused writes nothing.
+/// Replaces `order` by the order after one pass of sifting from it, and writes its level counts to
+/// `levels` and its size to `total`. A call that is refused writes nothing. Returns a status.
 #[unsafe(no_mangle)]
 pub extern "C" fn minorder_sift_with_lengths(
     alloc: Global,

@@ -11,7 +11,8 @@ use sifting::{Manager, Sifted};
 use std::alloc::{AllocError, Global};
 use truth_table::{Tables, reduced_diagram};
 
-/// The order that one pass of sifting makes of `start`, which keeps the pairs.
+/// The order after one pass of sifting from `start`, among those that keep the pairs. `start` keeps
+/// them.
 pub(crate) fn sifted_from(
     alloc: Global,
     tables: &Tables,
@@ -34,8 +35,8 @@ pub(crate) fn sifted_from(
     Ok(sifted)
 }
 
-/// An order that keeps the pairs, whose size bounds the search: sifting starts from the first of
-/// the orders that keep them.
+/// An order that keeps the pairs, and whose size bounds the search. It is found by sifting from the
+/// first of the orders that keep them.
 pub(crate) fn bound_of(alloc: Global, tables: &Tables, pairs: Pairs) -> Result<Sifted, AllocError>
     requires { pairs.inputs ≡ tables.now.inputs }
     ensures problem { IfOk result (λ s. s.problem ≡ tables.now) }

@@ -12,7 +12,7 @@ use crate::verdicts::{ReturnedVerdict, judgement_on, verdict_for_c};
 use order_model::VarIx;
 use std::alloc::Global;
 
-/// Writes the first pairs to `place`, as many as it has room for.
+/// Writes the first of the pairs to `place`, as many as it has room for.
 fn put_pairs(place: &mut [AbovePair], pairs: &[(VarIx, VarIx)])
     ensures { AreFront pairs.now place.old place.new }
 {
@@ -22,8 +22,9 @@ fn put_pairs(place: &mut [AbovePair], pairs: &[(VarIx, VarIx)])
     }
 }
 
-/// Writes the verdict on a certificate for some functions, the certificate's total, its first pairs
-/// and how many it has. A call that is refused writes nothing.
+/// Writes the verdict on a certificate for some functions to `verdict`, the certificate's total to
+/// `total`, how many pairs it has to `count`, and as many of these as fit to `pairs`. A call that
+/// is refused writes nothing. Returns a status.
 #[unsafe(no_mangle)]
 pub extern "C" fn minorder_check_total_with_pairs(
     alloc: Global,

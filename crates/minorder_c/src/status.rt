@@ -9,7 +9,7 @@ use std::alloc::AllocError;
 /// Why a call is refused.
 #[derive(Clone, Copy, Debug, PartialEq, Eq)]
 pub(crate) enum Refusal {
-    /// The number of inputs or of outputs, or a length, isn't what it may be.
+    /// A number of inputs or outputs is out of range, or a length doesn't fit.
     Shape,
     /// A text is no certificate.
     Certificate,
@@ -22,7 +22,7 @@ pub(crate) enum Refusal {
 }
 
 impl Refusal {
-    /// The status in C.
+    /// The number that a refused call returns.
     pub fn status(self) -> u32
         ensures { result ≡ status_of self }
     {

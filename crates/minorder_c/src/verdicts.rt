@@ -12,7 +12,8 @@ use cert_check::{Reason, Verdict, check_alone};
 use certificate::{CertFault, Certificate};
 use std::alloc::Global;
 
-/// A verdict in C: 0 is valid, and an edge has the mask of its set and its variable.
+/// A verdict in C: `reason` is 0 if the certificate is good, else the number of the first reason
+/// why not. That of an edge has the mask of the edge's set and its variable; else both are 0.
 #[repr(C)]
 #[derive(Clone, Copy, Debug)]
 pub(crate) struct ReturnedVerdict {
@@ -21,7 +22,7 @@ pub(crate) struct ReturnedVerdict {
     pub variable: u32,
 }
 
-/// The verdict in C that has a reason and no edge.
+/// The verdict in C with this reason, which is not that of an edge.
 fn plain(reason: u32) -> ReturnedVerdict
     ensures { result ≡ record { reason = reason; mask = 0; variable = 0 } }
 {
@@ -32,7 +33,7 @@ fn plain(reason: u32) -> ReturnedVerdict
     }
 }
 
-/// A verdict as C has it.
+/// The verdict in C for a verdict of the checker.
 pub(crate) fn verdict_for_c(verdict: Verdict) -> ReturnedVerdict
     ensures { result ≡ returned_verdict verdict }
 {
@@ -53,7 +54,7 @@ pub(crate) fn verdict_for_c(verdict: Verdict) -> ReturnedVerdict
     }
 }
 
-/// The certificate that a text spells.
+/// The certificate that a text is. Refused if it is none.
 fn certificate_of(alloc: Global, text: &[u8]) -> Result<Certificate, Refusal>
     ensures spelled { IfOk result (λ cert. text.now ≡ spelling cert) }
     ensures refused { IfErr result (RefusesText (Unit {0}) text.now) }
@@ -73,7 +74,8 @@ pub(crate) struct Judgement {
     pub(crate) verdict: Verdict,
 }
 
-/// The certificate that a text spells, and the verdict on it.
+/// The certificate that a text is, and the verdict on it for the truth tables that a call is given.
+/// Refused if the call has no truth tables, or if the text is no certificate.
 pub(crate) fn judgement_on(
     alloc: Global,
     given: &GivenTables,
@@ -94,7 +96,8 @@ pub(crate) fn judgement_on(
     }
 }
 
-/// The verdict on a certificate for some functions. A call that is refused writes nothing.
+/// Writes the verdict on a certificate for some functions to `verdict`. A call that is refused
+/// writes nothing. Returns a status.
 #[unsafe(no_mangle)]
 pub extern "C" fn minorder_check(
     alloc: Global,

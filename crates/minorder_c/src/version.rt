@@ -2,7 +2,7 @@
 
 ghost use Rattle.std.specs.Prelude.{◌≡◌};
 
-/// 10,000 times the first number of the version, 100 times the second, and the third.
+/// The version as one number: 10,000 times its first number, 100 times the second, and the third.
 #[unsafe(no_mangle)]
 pub extern "C" fn minorder_version() -> u32
     ensures { result ≡ 10000 }

@@ -6,14 +6,14 @@ ghost use Rattle.definitions.specs.Orders.{IsOrder};
 ghost use Rattle.node_words.specs.Nodes.{AreNodeWords, AreUnequal, Grows};
 ghost use Rattle.node_words.specs.Meaning.{Denotes};
 
-/// Ids that denote one function are one id.
+/// Two ids that denote the same function are equal.
 pub fn equal_functions_have_equal_ids()
     ensures { (order ws : List ℕ) → IsOrder (length order) order → AreNodeWords (length order) ws →
         AreUnequal ws → (a b : ℕ) (f : Function) → Denotes order ws a f →
         Denotes order ws b f → a ≡ b }
 {}
 
-/// What an id denotes stays as more places are filled.
+/// An id still denotes the same function when more places of the store are filled.
 pub fn growth_keeps_functions()
     ensures { (order ws later : List ℕ) → AreNodeWords (length order) ws → Grows ws later →
         (id : ℕ) (f : Function) → Denotes order ws id f → Denotes order later id f }

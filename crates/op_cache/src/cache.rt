@@ -6,7 +6,7 @@ ghost use Rattle.unique_table.specs.Sessions.{Knows, Means, MakesStep, LiesNoHig
 use node_words::start;
 use unique_table::{NodeId, Operation, Session, Store};
 
-/// The cache place, below `places`, for the result of an operation on two ids.
+/// The place in a cache of `places` places for the result of an operation on two ids.
 fn place_of(places: usize, operation: Operation, first: NodeId, second: NodeId) -> usize
     requires some { 0 < places }
     requires few { places < 2 ^ 32 }
@@ -23,7 +23,8 @@ fn place_of(places: usize, operation: Operation, first: NodeId, second: NodeId) 
     )
 }
 
-/// The id of the result of an operation on two ids, if the cache holds it. It takes one step.
+/// The id of the result of an operation on the functions of `first` and `second`. None if the cache
+/// doesn't hold it. It takes one step.
 pub fn recall(
     store: &Store,
     session: &mut Session,
@@ -42,8 +43,8 @@ pub fn recall(
     store.entry(session, place, operation, first, second)
 }
 
-/// Stores the id of the result of an operation on two ids in the cache, over what its place held.
-/// It takes one step.
+/// Stores `id`, the result of an operation on the functions of `first` and `second`, in the cache,
+/// over what its place held. It takes one step.
 pub fn remember(
     store: &Store,
     session: &mut Session,

@@ -4,12 +4,14 @@ ghost use Rattle.std.specs.Prelude.{◌≡◌};
 
 use definitions::Workers;
 
-/// The workers of a run: who starts their threads, how many they are, and what each of them calls
-/// between the claim of an item and its result.
+/// The workers of a run.
 #[derive(Drop)]
 pub struct Crew<'a, R, G> {
+    /// The runtime that starts their threads.
     pub rt: &'a R,
+    /// How many they are.
     pub workers: Workers,
+    /// What each worker calls between the claim of an item and its result.
     pub gate: &'a G,
 }
 

@@ -11,7 +11,8 @@ use crate::orders::Order;
 use definitions::{Node, Ref, VarIx};
 use std::marker::Model;
 
-/// The child of `node` that a point takes. Bit x of `point` is the value of variable x.
+/// The child of `node` on the path of a point: the high one if the node's variable is 1 there, else
+/// the low one. Bit x of `point` is the value of variable x, and `variables` is their number.
 fn child(variables: u8, node: Node, point: u32) -> Ref
     requires variables { variables ≤ 16 }
     requires node { node.variable < variables }
@@ -24,8 +25,8 @@ fn child(variables: u8, node: Node, point: u32) -> Ref
     }
 }
 
-/// The value that the diagram under `root` has at a point. Bit x of `point` is the value of
-/// variable x.
+/// The value at a point of the function with root `root`, in a diagram of `variables` variables.
+/// Bit x of `point` is the value of variable x.
 pub fn eval(variables: u8, nodes: &[Node], root: Ref, point: u32) -> bool
     requires variables { variables ≤ 16 }
     requires nodes { AreNodes variables nodes.now }
@@ -55,8 +56,8 @@ fn counts_by_variable(nodes: &[Node]) -> [u32; 16]
     counts
 }
 
-/// Node counts by level, from those by variable: entry i is the count of the variable at place i of
-/// `order`. The entries past its length are 0.
+/// Node counts by level, from `counts` by variable: entry i is the count of the variable at place i
+/// of `order`. The entries past its length are 0.
 fn in_order(order: &[VarIx], counts: [u32; 16]) -> [u32; 16]
     requires few { length order.now ≤ 16 }
     requires variables { All (λ x. x < 16) order.now }
@@ -72,7 +73,7 @@ fn in_order(order: &[VarIx], counts: [u32; 16]) -> [u32; 16]
 }
 
 /// A diagram with one root per function, and the order of its variables. Its size is the number of
-/// its nodes, used or not.
+/// its nodes, whether a root reaches them or not.
 #[derive(Debug, Drop)]
 pub struct Diagram {
     order: Order,
@@ -97,7 +98,8 @@ impl Model for Diagram {
 }
 
 impl Diagram {
-    /// The diagram with the given order, nodes and roots. Each node comes after its children.
+    /// The diagram with this order, these nodes, each after its children, and one root per
+    /// function.
     pub fn new(order: Order, nodes: Vec<Node>, roots: Vec<Ref>) -> Diagram
         requires few { length nodes.items < 2 ^ 32 }
         requires diagram { IsDiagramUnder order nodes.items roots.items }
@@ -143,7 +145,7 @@ impl Diagram {
         self.nodes.len()
     }
 
-    /// The value of an output at a point. Bit x of `point` is the value of variable x.
+    /// The value of function `output` at a point. Bit x of `point` is the value of variable x.
     pub fn eval(&self, output: usize, point: u32) -> bool
         requires { output < length self.now.graph.roots }
         ensures { result ≡ root_value self.now.graph output
@@ -162,7 +164,7 @@ impl Diagram {
         in_order(self.order.variables(), counts_by_variable(&self.nodes))
     }
 
-    /// The order, the nodes and the roots.
+    /// Takes the diagram apart: its order, its nodes and its roots.
     pub fn into_parts(self) -> (Order, Vec<Node>, Vec<Ref>)
         ensures order { result.0 ≡ self.order }
         ensures nodes { result.1.items ≡ self.graph.nodes }

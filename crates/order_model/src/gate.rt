@@ -1,9 +1,11 @@
 //! What a caller does between a worker's claim and its result.
 
-/// Called by workers between the claim of an item and its result. Workers are numbered from 1.
-/// `minorder` passes `NoGate`; other gates are for callers who hold workers there, as tests do.
+/// What each worker calls between the claim of an item and its result. `minorder` passes `NoGate`,
+/// which does nothing; other gates are for callers who hold workers there, as tests do.
 pub trait Gate: Sync {
-    /// The worker with this number has claimed the item and not yet handed in its result.
+    /// Called by worker number `worker`, counted from 1, after it claimed `item` and before it
+    /// hands in the result. The item is the mask of a set in a search, and the number of a part in
+    /// building a diagram.
     fn between(&self, worker: u8, item: u32);
 }
 

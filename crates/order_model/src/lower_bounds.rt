@@ -16,11 +16,13 @@ use std::marker::Model;
 #[derive(Drop)]
 pub struct LowerBounds<'a> {
     problem: &'a Problem,
+    /// The rule that gives them.
     lower_bound: LowerBound,
+    /// The set of the variables on which some function depends.
     essential: Mask,
-    /// How many functions depend on each variable.
+    /// Entry x: how many functions depend on variable x.
     dependents: [u32; 16],
-    /// For each variable the set of those on which a function depends that doesn't depend on it.
+    /// Entry x: the set of the variables on which some function depends that doesn't depend on x.
     others: [Mask; 16],
 }
 
@@ -34,7 +36,8 @@ impl<'a> Model for LowerBounds<'a> {
     ghost invariant = { λ r. HoldsLowerBounds r.problem.now r.essential r.dependents r.others };
 }
 
-/// The support of each function: the set of the variables on which it depends.
+/// The support of each function: the set of the variables on which it depends. The entries past the
+/// last function are empty.
 fn supports(problem: &Problem) -> [Mask; 16]
     ensures { take (outputs_of problem.now) result ≡ map (support problem.now.inputs)
         (functions problem.now) }
@@ -46,7 +49,7 @@ fn supports(problem: &Problem) -> [Mask; 16]
     found
 }
 
-/// How many of the sets have variable x.
+/// How many of the sets contain variable x.
 fn count_with(sets: &[Mask], x: VarIx) -> u32
     requires few { length sets.now ≤ 16 }
     requires variable { x < 16 }
@@ -61,7 +64,7 @@ fn count_with(sets: &[Mask], x: VarIx) -> u32
     count
 }
 
-/// The union of the sets that do not have variable x.
+/// The union of the sets that do not contain variable x.
 fn union_without(sets: &[Mask], x: VarIx) -> Mask
     requires { x < 16 }
     ensures { result ≡ fold bit_or 0 (filter (λ s. not (bit_at s x == 1)) sets.now) }
@@ -91,7 +94,8 @@ impl<'a> LowerBounds<'a> {
     ghost use Rattle.definitions.specs.LowerBounds.{AreMembersWidths};
     ghost use Rattle.definitions.specs.declared.limits.LowerBound.TheVariants.{Widths};
 
-    /// Lower bounds on the nodes above the sets of a problem's variables, by one of the two rules.
+    /// The lower bounds on the nodes above the sets of a problem's variables, by the rule
+    /// `lower_bound`.
     pub fn new(problem: &'a Problem, lower_bound: LowerBound) -> LowerBounds<'a>
         ensures { result ≡ lower_bounds_with problem.now lower_bound }
     {
@@ -119,15 +123,15 @@ impl<'a> LowerBounds<'a> {
         self.essential
     }
 
-    /// The rule of the bounds.
+    /// The rule that gives the bounds.
     pub fn lower_bound(&self) -> LowerBound
         ensures { result ≡ self.now.lower_bound }
     {
         self.lower_bound
     }
 
-    /// The lower bound on the nodes above the set `mask`. By widths it needs the widths of all
-    /// members; by variables it reads none.
+    /// The lower bound on the nodes above the set `mask`. By widths, `widths` must have the widths
+    /// of all members; by variables, it is not read.
     pub fn above(&self, mask: Mask, widths: &WidthRow) -> u64
         requires { mask < 2 ^ self.now.problem.inputs }
         ensures few { result < 2 ^ 33 }
@@ -143,8 +147,8 @@ impl<'a> LowerBounds<'a> {
         }
     }
 
-    /// The largest number of nodes above a set that the width of one of its members requires, or
-    /// `least` if that is larger.
+    /// The largest number of nodes above the set `mask` that the width of one of its members
+    /// requires, or `least` if that is larger. `widths` has the widths of all members.
     fn most_asked(&self, mask: Mask, widths: &WidthRow, least: u64) -> u64
         requires { least < 2 ^ 33 }
         ensures few { result < 2 ^ 33 }
@@ -162,9 +166,9 @@ impl<'a> LowerBounds<'a> {
         most
     }
 
-    /// The number of nodes above a set that the width of its member x requires: `width - d + e`,
-    /// where d functions depend on x, and e is the number of variables outside the set on which
-    /// some function depends that does not depend on x.
+    /// The number of nodes above the set `mask` that the width of its member x requires: `max(0,
+    /// width - d) + e`, where d functions depend on x, and e is the number of variables outside the
+    /// set on which some function depends that does not depend on x.
     fn nodes_for_width(&self, mask: Mask, x: VarIx, width: u32) -> u64
         requires { x < self.now.problem.inputs }
         ensures few { result < 2 ^ 33 }

@@ -48,7 +48,7 @@ fn has_repeat(variables: &[VarIx]) -> bool
     false
 }
 
-/// The place of a variable that stands in a list.
+/// The place of variable x in a list that has it, counted from 0.
 fn place_in_list(variables: &[VarIx], x: VarIx) -> usize
     requires distinct { IsDistinct nat_eq variables.now }
     requires there { IsTrue (has variables.now x) }
@@ -64,7 +64,8 @@ fn place_in_list(variables: &[VarIx], x: VarIx) -> usize
 }
 
 impl Order {
-    /// The order of a list, top first. `OutOfRange` is decided first.
+    /// The order with these variables, top first, or why the list is no order: `OutOfRange` is
+    /// reported before `NotEach`.
     pub fn try_from_slice(alloc: Global, variables: &[VarIx]) -> Result<Order, BadOrder>
         ensures accepted { OnOk result (Accepts variables.now) }
         ensures value { IfOk result (λ order. order ≡ variables.now) }
@@ -82,7 +83,7 @@ impl Order {
         }
     }
 
-    /// The order of a list that has each variable once, top first.
+    /// The order with these variables, top first. The list has each variable below its length once.
     pub fn from_variables(variables: Vec<VarIx>) -> Order
         requires { Accepts variables.items }
         ensures { result ≡ variables.items }
@@ -121,7 +122,7 @@ impl Order {
         &self.variables
     }
 
-    /// The place of a variable, counted from the top.
+    /// The place of variable x, counted from 0 at the top.
     pub fn place_of(&self, x: VarIx) -> usize
         requires { x < length self.now }
         ensures place { result ≡ place_in self.now x }
@@ -130,7 +131,7 @@ impl Order {
         place_in_list(&self.variables, x)
     }
 
-    /// Swaps the variables of a level and of the next one.
+    /// Swaps the variables of `level`, counted from 0 at the top, and of the level below it.
     pub fn swap(&mut self, level: usize)
         requires { level + 1 < length self.old }
         ensures { self.new ≡ swap self.old level (level + 1) }

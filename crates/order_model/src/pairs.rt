@@ -12,8 +12,8 @@ use definitions::{Mask, PairsFault, VarIx, contains};
 use std::alloc::{AllocError, Global};
 use std::marker::Model;
 
-/// Pairs (a, b) of variables, of each of which an order must have a above b. They lead from no
-/// variable back to itself.
+/// Pairs (a, b) of variables. An order keeps them if a stands above b for each pair. They lead from
+/// no variable back to itself, so that some order keeps them.
 #[derive(Debug, Drop)]
 pub struct Pairs {
     inputs: u8,
@@ -31,7 +31,8 @@ impl Model for Pairs {
     ghost invariant = { λ p. HoldsKept p.inputs p.below };
 }
 
-/// The variable that a word spells: a decimal from 0 to 15 without leading zeros.
+/// The variable that a word states: a decimal from 0 to 15 without leading zeros. None for any
+/// other word.
 fn number(word: &[u8]) -> Option<VarIx>
     ensures { result ≡ variable_of word.now }
 {
@@ -42,7 +43,7 @@ fn number(word: &[u8]) -> Option<VarIx>
     }
 }
 
-/// The index of the first comma.
+/// The index of the first comma of a text. None if it has no comma.
 fn comma_place(part: &[u8]) -> Option<usize>
     ensures first { result ≡ position (λ byte. byte == 44) part.now }
     ensures within { IfSome result (λ place. place < length part.now) }
@@ -50,7 +51,8 @@ fn comma_place(part: &[u8]) -> Option<usize>
     part.iter().position(|byte| *byte == b',')
 }
 
-/// The pair (above, below) that a text such as `2,0` spells.
+/// The pair (a, b), of which a must stand above b, that a text such as `2,0` states. None if the
+/// text is not of this form.
 fn pair(part: &[u8]) -> Option<(VarIx, VarIx)>
     ensures { result ≡ pair_of part.now }
 {
@@ -60,8 +62,8 @@ fn pair(part: &[u8]) -> Option<(VarIx, VarIx)>
     Some((above, below))
 }
 
-/// The pairs that a text such as `2,0:1,0` lists, as masks: bit b of mask a stands for the pair (a,
-/// b).
+/// The pairs that a text such as `2,0:1,0` lists, as masks: bit b of entry a stands for the pair
+/// (a, b). None if a part between colons is no pair.
 fn listed_masks(text: &[u8]) -> Option<[Mask; 16]>
     ensures { AreMasksOf (listed text.now) result }
 {
@@ -101,8 +103,8 @@ fn join_through(reached: &mut [Mask; 16], k: VarIx)
     }
 }
 
-/// The smallest variable from which pairs lead back to itself. Bit b of `below[a]` stands for the
-/// pair (a, b).
+/// The smallest variable from which pairs lead back to itself, None if there is none. Bit b of
+/// `below[a]` stands for the pair (a, b).
 fn least_on_cycle(below: &[Mask; 16]) -> Option<VarIx>
     ensures found { IfSome result (λ v. IsPairCycle (pairs_in 16 below.now) v) }
     ensures none { IfNone result (HasNoCycle (pairs_in 16 below.now)) }
@@ -119,7 +121,8 @@ fn least_on_cycle(below: &[Mask; 16]) -> Option<VarIx>
     None
 }
 
-/// The pairs as masks: bit b of mask a stands for the pair (a, b). None if a number is 16 or more.
+/// The pairs as masks: bit b of entry a stands for the pair (a, b). None if a variable is 16 or
+/// more.
 fn masks_of(pairs: &[(VarIx, VarIx)]) -> Option<[Mask; 16]>
     ensures some { IfSome result (λ below. AreMasksOf (Some pairs.now) (Some below)) }
     ensures none { IfNone result (AreBelow 16 pairs.now → ⊥) }
@@ -135,8 +138,8 @@ fn masks_of(pairs: &[(VarIx, VarIx)]) -> Option<[Mask; 16]>
     Some(below)
 }
 
-/// The pairs of n variables that masks stand for, or their first fault: a variable that is not
-/// below n, else a cycle.
+/// The pairs of n variables, bit b of `below[a]` standing for (a, b), or why they are refused: some
+/// variable isn't below n, or else pairs lead from a variable back to itself.
 fn of_masks(below: [Mask; 16], n: u8) -> Result<Pairs, PairsFault>
     requires some { 1 ≤ n }
     requires few { n ≤ 16 }
@@ -152,7 +155,7 @@ fn of_masks(below: [Mask; 16], n: u8) -> Result<Pairs, PairsFault>
 }
 
 impl Pairs {
-    /// No pairs of n variables.
+    /// An empty list of pairs of n variables.
     pub fn none(n: u8) -> Pairs
         requires some { 1 ≤ n }
         requires few { n ≤ 16 }
@@ -165,8 +168,8 @@ impl Pairs {
         }
     }
 
-    /// The pairs of n variables that a text lists, as `2,0:1,0`, in decimals from 0 to 15 without
-    /// leading zeros. A pair that is listed again counts once.
+    /// The pairs of n variables that a text such as `2,0:1,0` lists, in decimals from 0 to 15
+    /// without leading zeros, or why they are refused. A pair that is listed twice counts once.
     pub fn parse(text: &[u8], n: u8) -> Result<Pairs, PairsFault>
         requires some { 1 ≤ n }
         requires few { n ≤ 16 }
@@ -178,8 +181,8 @@ impl Pairs {
         of_masks(below, n)
     }
 
-    /// The pairs (a, b) of n variables, in any order. A pair that is listed again counts once. None
-    /// is a `BadPair`.
+    /// The pairs (a, b) of n variables that a list has, in any arrangement, or why they are
+    /// refused, which is never `BadPair`. A pair that is listed twice counts once.
     pub fn of(pairs: &[(VarIx, VarIx)], n: u8) -> Result<Pairs, PairsFault>
         requires some { 1 ≤ n }
         requires few { n ≤ 16 }
@@ -191,7 +194,7 @@ impl Pairs {
         of_masks(below, n)
     }
 
-    /// How many variables there are: 1 to 16.
+    /// The number of variables, 1 to 16.
     pub fn inputs(&self) -> u8
         ensures value { result ≡ self.now.inputs }
         ensures kept { CanBeKept self.now.inputs self.now.pairs }
@@ -212,7 +215,7 @@ impl Pairs {
         count
     }
 
-    /// The variables that must stand below a, as a mask.
+    /// The set of the variables b for which (a, b) is a pair, each of which must stand below a.
     pub fn below(&self, a: VarIx) -> Mask
         requires { a < self.now.inputs }
         ensures pairs { (b : ℕ) → (bit_at result b ≡ 1) ↔ IsTrue (has_pair self.now.pairs a b) }
@@ -221,7 +224,7 @@ impl Pairs {
         self.below[a as usize]
     }
 
-    /// The pairs, by rising a and then b.
+    /// The pairs (a, b), by rising a and then rising b.
     pub fn to_vec(&self, alloc: Global) -> Result<Vec<(VarIx, VarIx)>, AllocError>
         ensures { IfOk result (λ pairs. pairs.items ≡ self.now.pairs) }
     {
@@ -237,7 +240,7 @@ impl Pairs {
         Ok(pairs)
     }
 
-    /// Whether an order keeps the pairs.
+    /// Whether an order keeps the pairs: a stands above b for each pair (a, b).
     pub fn keeps(&self, order: &Order) -> bool
         requires { length order.now ≡ self.now.inputs }
         ensures { result ≡ keeps self.now.pairs order.now }
@@ -264,8 +267,8 @@ impl Pairs {
         true
     }
 
-    /// The smallest variable that may stand on top of a lawful set, which is not empty: the set
-    /// stays lawful without it.
+    /// The smallest variable that may stand on top of a lawful set: the smallest member without
+    /// which the set stays lawful. The set isn't empty.
     fn smallest_top(&self, set: Mask) -> VarIx
         requires some { 0 < set }
         requires within { set < 2 ^ self.now.inputs }

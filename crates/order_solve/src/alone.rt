@@ -1,4 +1,4 @@
-//! The layers by one thread.
+//! The layers of all sets, one after another, by the calling thread.
 
 ghost use Rattle.std.specs.Prelude.{◌≡◌, length, IfOk};
 ghost use Rattle.subset_layers.specs.Layers.{masks_of};
@@ -12,7 +12,7 @@ use solutions::{Instance, first_layer, place_cells};
 use std::alloc::{AllocError, Global};
 use subset_layers::{Cell, Costs, Layer};
 
-/// The cells of a layer in its order.
+/// The cells of a layer's sets, in the layer's order.
 pub(crate) fn cells_alone(
     alloc: Global,
     context: &LayerContext<'_>,
@@ -36,7 +36,7 @@ pub(crate) fn cells_alone(
     Ok(cells)
 }
 
-/// The layer after those that are done.
+/// The cells of the layer after those in `done`, with widths from `source`.
 fn next_layer_alone(
     alloc: Global,
     instance: &Instance<'_>,
@@ -54,7 +54,8 @@ fn next_layer_alone(
     Ok(Costs::of(layer, cells))
 }
 
-/// The layers of all sets, from what was prepared.
+/// The layers of all sets. Rows of widths that were prepared are used, and others are found ahead
+/// from layer to layer.
 fn layers_from(
     alloc: Global,
     instance: &Instance<'_>,
@@ -76,7 +77,7 @@ fn layers_from(
     Ok(layers)
 }
 
-/// The layers of all sets.
+/// The layers of all sets of a problem instance.
 pub(crate) fn layers_alone(alloc: Global, instance: &Instance<'_>) -> Result<Vec<Costs>, AllocError>
     ensures { IfOk result (λ v. AreAllLayers instance.now v.items) }
 {

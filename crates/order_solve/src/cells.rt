@@ -14,7 +14,9 @@ use solutions::needs_of_block;
 use std::alloc::{AllocError, Global};
 use subset_layers::{Block, Cell, least_cell};
 
-/// The widths that are wanted of a block's sets. The tally rises by their number.
+/// For each set of the block, the widths of its members in `needed`, and 0 elsewhere. They come
+/// from the context's source if it has one, else from a walk. The tally rises by the number of
+/// widths.
 fn widths_of(
     alloc: Global,
     block: &Block,
@@ -36,7 +38,7 @@ fn widths_of(
     source.block_rows(alloc, block, needed, tally)
 }
 
-/// The cells of a block's sets, in their order, from the rows of their widths.
+/// The cells of a block's sets, in the block's order. `rows` has a row of widths for each set.
 fn cells_by_rows(
     alloc: Global,
     block: &Block,
@@ -64,8 +66,8 @@ fn cells_by_rows(
     Ok(cells)
 }
 
-/// The cells of a block's sets, in their order. The tally rises by the number of widths that they
-/// take.
+/// The cells of a block's sets, in the block's order. The tally rises by the number of widths that
+/// they take.
 pub(crate) fn cells_of_block(
     alloc: Global,
     block: &Block,

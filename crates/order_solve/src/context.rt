@@ -7,8 +7,8 @@ use solutions::Instance;
 use std::marker::Model;
 use subset_layers::{Costs, Layer};
 
-/// What the workers of a layer read: what its cells are for, the costs of the layer before, and,
-/// if several layers are done, where the widths of blocks come from.
+/// What the workers of a layer read: the problem instance, the layer, the costs of the layer
+/// before, and the source of widths. Without a source each block has a walk of its own.
 #[derive(Drop)]
 pub struct LayerContext<'a> {
     pub(crate) instance: &'a Instance<'a>,
@@ -32,7 +32,8 @@ impl<'a> Model for LayerContext<'a> {
 impl<'a> LayerContext<'a> {
     ghost use Rattle.order_solve.specs.LayerContexts.{context_with, IsContext};
 
-    /// The context of a layer: the costs are those of the layer before, for the instance.
+    /// The context of a layer without a source of widths. `before` has the costs of the layer
+    /// before.
     pub fn new(instance: &'a Instance<'a>, layer: &'a Layer, before: &'a Costs) -> LayerContext<'a>
         requires { IsContext (context_with instance.now layer.now before.now) }
         ensures { result ≡ context_with instance.now layer.now before.now }
@@ -45,7 +46,7 @@ impl<'a> LayerContext<'a> {
         }
     }
 
-    /// This context with a source of widths.
+    /// This context, with widths from `source`.
     pub(crate) fn with_source(self, source: &'a WidthSource<'a>) -> LayerContext<'a>
         requires { source.now ≡ self.instance.problem }
         ensures { result ≡ self.entry }

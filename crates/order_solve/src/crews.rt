@@ -1,4 +1,4 @@
-//! The cells of a layer by workers.
+//! The cells of a layer, by several workers.
 
 ghost use Rattle.std.specs.Prelude.{◌≡◌, ◌≤◌, All, IfOk, vec_len};
 ghost use Rattle.std.specs.Thread.{IsSync};
@@ -16,14 +16,14 @@ use std::thread;
 use std::thread::Threads;
 use subset_layers::Cell;
 
-/// A worker's number, from 1, and its seat.
+/// What a worker's thread is given: the worker's number, counted from 1, and its seat.
 #[derive(Drop)]
 struct Job {
     worker: u8,
     seat: BoardSeat,
 }
 
-/// Numbers the seats of a board.
+/// One job for each seat of the board: the seat, and its worker's number, counted from 1.
 fn number_seats(alloc: Global, board: &Board, seats: Vec<BoardSeat>) -> Result<Vec<Job>, AllocError>
     requires few { vec_len seats ≤ 64 }
     requires seats { All (λ s. s.board ≡ board.now) seats.items }
@@ -39,7 +39,7 @@ fn number_seats(alloc: Global, board: &Board, seats: Vec<BoardSeat>) -> Result<V
     Ok(jobs)
 }
 
-/// A seat of the workers, if none of them ran out of memory.
+/// One of the workers' seats; an error if some worker ran out of memory.
 fn gather(
     board: &Board,
     ended: Vec<Result<WorkerResult, AllocError>>,
@@ -56,8 +56,8 @@ fn gather(
     Ok(seat)
 }
 
-/// Posts the cells of a layer by workers, each on a thread of its own, and returns a seat of
-/// theirs.
+/// Lets the workers post the cells of a layer to the board, each on a thread of its own. Returns
+/// one of their seats; an error if some worker ran out of memory.
 fn post_by_workers<R: Threads + Sync, G: Gate>(
     crew: &Crew<'_, R, G>,
     alloc: Global,
@@ -90,8 +90,8 @@ fn post_by_workers<R: Threads + Sync, G: Gate>(
     gather(board, ended)
 }
 
-/// The cells of a layer in its order, by workers. If some cell is missing although none of them ran
-/// out of memory, the calling thread does the layer over alone, with widths from the same source.
+/// The cells of a layer's sets in the layer's order, by workers. If a cell is missing although no
+/// worker ran out of memory, the calling thread computes the whole layer anew.
 pub(crate) fn cells_of_layer<R: Threads + Sync, G: Gate>(
     crew: &Crew<'_, R, G>,
     alloc: Global,

@@ -13,7 +13,7 @@ use std::alloc::{AllocError, Global};
 use std::thread::Threads;
 use subset_layers::{Costs, Layer};
 
-/// The layer after those that are done.
+/// The cells of the layer after those in `done`, by workers, with widths from `source`.
 fn next_layer<R: Threads + Sync, G: Gate>(
     crew: &Crew<'_, R, G>,
     alloc: Global,
@@ -32,7 +32,8 @@ fn next_layer<R: Threads + Sync, G: Gate>(
     Ok(Costs::of(layer, cells))
 }
 
-/// The layers of all sets.
+/// The layers of all sets, by workers. Rows of widths that were prepared are used, and others are
+/// found ahead from layer to layer.
 pub(crate) fn layers_of<R: Threads + Sync, G: Gate>(
     crew: &Crew<'_, R, G>,
     alloc: Global,

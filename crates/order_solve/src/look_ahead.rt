@@ -1,4 +1,4 @@
-//! Which rows of widths are found before a layer asks for them.
+//! Which rows of widths are found before the cells of a layer need them.
 
 ghost use Rattle.std.specs.Prelude.{◌≡◌};
 ghost use Rattle.subset_layers.specs.Layers.{layer_of};
@@ -10,14 +10,14 @@ use solutions::{Instance, likely_end, needs_of_block};
 use std::alloc::{AllocError, Global};
 use subset_layers::{Block, Costs, Layer};
 
-/// Requests for rows, and the size of the largest sets that have some.
+/// Which rows are to be found, and the size of the largest sets of which rows are to be found.
 #[derive(Drop)]
 pub(crate) struct LookAhead {
     pub(crate) requests: Requests,
     pub(crate) end: u8,
 }
 
-/// Whether all widths were found of the images of a block's sets, as far as these are lawful.
+/// Whether of each lawful set of the block all widths were found ahead, in the row of its image.
 fn is_found(
     context: &LayerContext<'_>,
     prepared: &Preparation<'_>,
@@ -36,7 +36,8 @@ fn is_found(
     true
 }
 
-/// Adds what serves for the cells of a block's sets and wasn't found yet.
+/// Adds to `requests` the widths that the cells of the block's sets take, at their images. Sets
+/// whose image has its whole row already add nothing.
 fn add_needs(
     alloc: Global,
     context: &LayerContext<'_>,
@@ -58,8 +59,8 @@ fn add_needs(
     Ok(())
 }
 
-/// Requests for all that serves for the cells of those blocks of the next layer of which not all
-/// was found yet.
+/// Requests for the widths that the cells of the layer after those in `done` take. Blocks of which
+/// all rows were found ahead request nothing.
 fn requests_of_layer(
     alloc: Global,
     instance: &Instance<'_>,
@@ -83,9 +84,9 @@ fn requests_of_layer(
     Ok(requests)
 }
 
-/// What rows are to be found before the next layer, if not all that serve for its cells were:
-/// these, and with the same low bytes those of larger sets up to the size to which nearly whole
-/// layers are likely to be wanted.
+/// Which rows are to be found before the layer after those in `done`; nothing if its cells need
+/// none. The same low bytes get rows of larger sets, too, up to a size at which nearly whole layers
+/// are likely to be needed.
 pub(crate) fn look_ahead(
     alloc: Global,
     instance: &Instance<'_>,

@@ -9,7 +9,8 @@ use std::alloc::{AllocError, Global};
 use std::thread::Threads;
 use symmetries::Renaming;
 
-/// The pairs that a search with such a lower bound is likely to keep where some are asked for.
+/// The pairs that a search with this lower bound is likely to keep if those in `asked` are
+/// required.
 fn likely_pairs(
     alloc: Global,
     problem: &Problem,
@@ -24,10 +25,9 @@ fn likely_pairs(
     }
 }
 
-/// What a search for the first order of the fewest nodes among those that keep the pairs begins
-/// with: found by the workers while another thread sifts, say. The bound is the size of any diagram
-/// of the functions; from it is guessed how many layers hardly a set is clipped of. No rows are
-/// found if the search keeps pairs of symmetric variables, since few sets are then left, nor by one
+/// What a search begins with. `limit.bound` is the size of any diagram of the functions; from it is
+/// estimated how many layers have almost no pruned set, and their rows are found. None are found if
+/// the search keeps pairs of symmetric variables, because few sets are left then, and none with one
 /// worker.
 pub fn prepare<'a, R: Threads + Sync>(
     rt: &R,

@@ -1,4 +1,4 @@
-//! The solver.
+//! The solver: the first order of the fewest nodes, by workers or by the calling thread.
 
 ghost use Rattle.std.specs.Prelude.{◌≡◌, IfOk};
 ghost use Rattle.definitions.specs.Problems.{functions};
@@ -17,8 +17,8 @@ use solutions::{AllCells, Instance, Solution, optimum_of, pairs_to_keep, solutio
 use std::alloc::{AllocError, Global};
 use std::thread::Threads;
 
-/// The instance of a search: the size of a sifted order is the bound. Each order that keeps the
-/// sifted one's pairs can be sorted into one that keeps these.
+/// The problem instance of a search that keeps `pairs`. Its bound is the size of the sifted order.
+/// An order that keeps the pairs of the sifted one can be changed into one that keeps `pairs`.
 fn instance_of<'a>(
     problem: &'a Problem,
     sifted: &'a Sifted,
@@ -44,10 +44,9 @@ fn instance_of<'a>(
     Instance::new(problem, pairs, limit)
 }
 
-/// The first order of the fewest nodes among those that keep the pairs of a sifted order of the
-/// same functions. The size of that order bounds the search, which uses the lower bound by widths
-/// and begins with what was prepared. The gate is called by the workers for each set but the empty
-/// one.
+/// The first order of the fewest nodes among those that keep the pairs of `sifted`. The size of the
+/// sifted order bounds the search, which uses the lower bound by widths and begins with what was
+/// prepared. Workers call the gate for each set but the empty one.
 ///
 /// The only error is that memory is wanting; no layer is then done over.
 pub fn find_optimum<R: Threads + Sync, G: Gate>(
@@ -69,7 +68,8 @@ pub fn find_optimum<R: Threads + Sync, G: Gate>(
     optimum_of(alloc, &cells)
 }
 
-/// The order of `find_optimum`, by the calling thread alone.
+/// The first order of the fewest nodes among those that keep the pairs of `sifted`, by the calling
+/// thread alone. The size of the sifted order bounds the search.
 pub fn find_optimum_alone(
     alloc: Global,
     problem: &Problem,
@@ -84,8 +84,9 @@ pub fn find_optimum_alone(
     optimum_of(alloc, &cells)
 }
 
-/// The order of `find_optimum`, with what its certificate lists. For that the search counts on one
-/// node above a set for each essential variable outside, and no more.
+/// The first order of the fewest nodes among those that keep the pairs of `sifted`, and what its
+/// certificate lists. The lower bound is the one by variables: one node above a set for each
+/// essential variable outside. Workers call the gate for each set but the empty one.
 pub fn solve<R: Threads + Sync, G: Gate>(
     rt: &R,
     alloc: Global,
@@ -107,7 +108,8 @@ pub fn solve<R: Threads + Sync, G: Gate>(
     solution_of(alloc, &cells)
 }
 
-/// The solution of `solve`, by the calling thread alone.
+/// The first order of the fewest nodes among those that keep the pairs of `sifted`, and what its
+/// certificate lists, by the calling thread alone.
 pub fn solve_alone(alloc: Global, problem: &Problem, sifted: Sifted) -> Result<Solution, AllocError>
     requires { sifted.problem ≡ problem.now }
     ensures solution { IfOk result (IsSolution problem.now sifted.pairs) }

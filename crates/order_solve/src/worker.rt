@@ -18,15 +18,14 @@ use order_model::{Gate, Mask};
 use std::alloc::{AllocError, Global};
 use subset_layers::{Block, Cell};
 
-/// What a worker hands back: its seat, and how many widths its cells took.
+/// What a worker hands back: its seat, and a tally of the widths that its cells took.
 #[derive(Drop)]
 pub struct WorkerResult {
     pub seat: BoardSeat,
     pub tally: Tally,
 }
 
-/// A worker at a board: what it is lent, its number, and what it calls between a claim and its
-/// post.
+/// A worker at a board. Its number is counted from 1; it calls the gate before each post.
 #[derive(Drop)]
 struct Worker<'a, G> {
     board: &'a Board,
@@ -36,6 +35,7 @@ struct Worker<'a, G> {
 }
 
 impl<'a, G: Gate> Worker<'a, G> {
+    /// The worker with this number at `board`, for the layer of `context`.
     fn new(
         board: &'a Board,
         context: &'a LayerContext<'a>,
@@ -56,7 +56,7 @@ impl<'a, G: Gate> Worker<'a, G> {
     }
 }
 
-/// Posts the cell of a set. The gate is called before.
+/// Calls the gate, then posts the cell of the set `mask` to the board.
 fn post_cell<G: Gate>(worker: &Worker<'_, G>, seat: &mut BoardSeat, mask: Mask, cell: Cell)
     requires seat { seat.old.board ≡ worker.now.board.now }
     requires instance { worker.now.board.now.brief.instance ≡ worker.now.context.now.instance }
@@ -69,7 +69,7 @@ fn post_cell<G: Gate>(worker: &Worker<'_, G>, seat: &mut BoardSeat, mask: Mask, 
     let _ = worker.board.post(seat, context.instance.result(mask, cell));
 }
 
-/// Posts the cells of a block's sets.
+/// Posts the cells of a block's sets to the board. `cells` has them in the block's order.
 fn post_block<G: Gate>(worker: &Worker<'_, G>, seat: &mut BoardSeat, block: &Block, cells: &[Cell])
     requires seat { seat.old.board ≡ worker.now.board.now }
     requires instance { worker.now.board.now.brief.instance ≡ worker.now.context.now.instance }
@@ -83,8 +83,8 @@ fn post_block<G: Gate>(worker: &Worker<'_, G>, seat: &mut BoardSeat, block: &Blo
     }
 }
 
-/// Claims blocks until there is no more, and posts the cell of each of their sets. The gate is
-/// called for each set between the claim of its block and its post. Workers are numbered from 1.
+/// Claims blocks of the board until none is left, and posts the cell of each of their sets. The
+/// gate is called before each post. `worker` is the worker's number, counted from 1.
 ///
 /// If memory is refused the seat is lost, and what was posted stays.
 pub fn work_layer<G: Gate>(

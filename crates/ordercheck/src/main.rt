@@ -10,7 +10,8 @@ use std::process::ExitCode;
 use std::rt::Files;
 use std::thread::Threads;
 
-/// The exit status of the program with the words that it was given.
+/// The exit status of the program with the words that it was given; it is an error if these can't
+/// be read.
 fn ordercheck_status<
     R: Env + Files + AllocGlobal + Threads + Sync,
     W: CountedWrite,
@@ -21,6 +22,7 @@ fn ordercheck_status<
     Ok(ordercheck(rt, &words, out, err))
 }
 
+/// Runs the program on the standard streams and ends with its exit status.
 fn main(rt: HostRuntime) -> ExitCode {
     let mut out = Counting::new(rt.stdout());
     let mut err = Counting::new(rt.stderr());

@@ -11,20 +11,21 @@ use itoa::Buffer;
 use order_model::PairsFault;
 use pla_reader::LineFault as FileFault;
 
-/// The programs, whose names begin their messages.
+/// The programs. Each message begins with the name of its program.
 #[derive(Clone, Copy, Debug, PartialEq, Eq)]
 pub enum Program {
     Minorder,
     Ordercheck,
 }
 
-/// The longest line has a program's name, the words of a certificate's line, a number and a kind.
+/// Room in bytes for the longest line: a program's name, the words `certificate line`, a number and
+/// the name of a fault.
 const LONGEST_LINE: usize = 64;
 
 /// A line that is being made.
 type Text = ArrayString<LONGEST_LINE>;
 
-/// The program's name.
+/// The name of a program, as its messages have it.
 fn program_text(program: Program) -> &'static str
     ensures name { result.now ≡ program_name program }
     ensures short { length result.now ≤ 10 }
@@ -35,7 +36,7 @@ fn program_text(program: Program) -> &'static str
     }
 }
 
-/// The name of a fault of a line of the PLA file.
+/// The name of a fault in a line of the PLA file.
 fn file_text(fault: FileFault) -> &'static str
     ensures kind { result.now ≡ file_kind fault }
     ensures short { length result.now ≤ 16 }
@@ -58,7 +59,7 @@ fn file_text(fault: FileFault) -> &'static str
     }
 }
 
-/// The name of a fault of a line of a certificate.
+/// The name of a fault in a line of a certificate.
 fn certificate_text(fault: CertificateFault) -> &'static str
     ensures kind { result.now ≡ certificate_kind fault }
     ensures short { length result.now ≤ 12 }
@@ -72,7 +73,7 @@ fn certificate_text(fault: CertificateFault) -> &'static str
     }
 }
 
-/// Appends a label and a number.
+/// Appends `label` and a number.
 fn push_number(text: &mut Text, label: &str, number: usize)
     requires { array_string_len text.old + length label.now ≤ 32 }
     ensures words { text.new.bytes ≡ text.old.bytes ++ label.now ++ decimal number }
@@ -84,7 +85,7 @@ fn push_number(text: &mut Text, label: &str, number: usize)
     text.push_str(digits.format(number));
 }
 
-/// Appends the name of a fault of a list of pairs.
+/// Appends the name of a fault in pairs, with the variable if they lead from one back to itself.
 fn push_pairs(text: &mut Text, fault: PairsFault)
     requires { array_string_len text.old ≤ 12 }
     ensures words { text.new.bytes ≡ text.old.bytes ++ pairs_kind fault }
@@ -97,7 +98,7 @@ fn push_pairs(text: &mut Text, fault: PairsFault)
     }
 }
 
-/// Appends the words that name a fault.
+/// Appends the words that name a fault, with the number of the faulty line if there is one.
 fn push_fault(text: &mut Text, fault: Fault)
     requires { array_string_len text.old ≤ 12 }
     ensures words { text.new.bytes ≡ text.old.bytes ++ fault_words fault }
@@ -123,7 +124,8 @@ fn push_fault(text: &mut Text, fault: Fault)
     }
 }
 
-/// The line that a program writes when a run is refused: the program's name and the fault.
+/// The line that a program writes when a run is refused: the program's name and the words that name
+/// the fault.
 #[tactic(auto, unfolding(crate::specs::Messages::fault_line))]
 pub(crate) fn fault_line(program: Program, fault: Fault) -> Text
     ensures { result.bytes ≡ line_of program fault }

@@ -12,10 +12,10 @@ use std::env;
 use std::env::Env;
 use std::io::ErrorKind;
 
-/// The status of words that are no text.
+/// The exit status if a word after the program's name is no text.
 const WORDS_STATUS: u8 = 2;
 
-/// The status of a program that is out of memory.
+/// The exit status of a program that is out of memory.
 const MEMORY_STATUS: u8 = 4;
 
 /// The words after a program's name, or its exit status if they can't be had: 2 if one is no text,
@@ -31,7 +31,7 @@ pub fn words_of_program<R: Env + AllocGlobal>(rt: &R) -> Result<Vec<String>, u8>
     }
 }
 
-/// The words as texts, or the exit status 4 out of memory.
+/// The words as string slices, or the exit status 4 if memory runs out.
 pub fn texts_of<'a>(alloc: Global, words: &'a [String]) -> Result<Vec<&'a str>, u8> {
     let texts = words.iter().map(|word: &String| word.as_str());
     match texts.collect::<Vec<&str>>(alloc) {
@@ -40,8 +40,8 @@ pub fn texts_of<'a>(alloc: Global, words: &'a [String]) -> Result<Vec<&'a str>, 
     }
 }
 
-/// Writes the line that names a fault. It takes no memory, and a failure of the writer has no
-/// effect.
+/// Writes the line that names a fault to `err`. It takes no memory, and a failure of the writer has
+/// no effect.
 pub fn write_fault<E: CountedWrite>(err: &mut E, program: Program, fault: Fault)
     ensures { Receives (line_of program fault) (writer (E.contents err.old) (E.failures err.old))
         (writer (E.contents err.new) (E.failures err.new)) }
@@ -50,8 +50,8 @@ pub fn write_fault<E: CountedWrite>(err: &mut E, program: Program, fault: Fault)
     let _ = write_whole(err, line.as_str().as_bytes());
 }
 
-/// Writes help to `out`, or why words are refused to `err`. A failure of the writers has no effect.
-/// Returns the exit status.
+/// Writes help to `out`, or to `err` why the words after the program's name are refused. A failure
+/// of a writer has no effect. Returns the exit status.
 pub fn write_usage<W: CountedWrite, E: CountedWrite>(
     alloc: Global,
     program: Program,

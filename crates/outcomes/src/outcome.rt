@@ -31,10 +31,11 @@ pub enum Fault {
 /// How a run ends.
 #[derive(Clone, Copy, Debug, PartialEq, Eq)]
 pub enum Outcome {
-    /// All texts are written; of a check, that the certificate is valid.
+    /// The run is done, and all its texts are written. If it was a check, the certificate is valid.
     Done,
     /// The certificate is not valid, and the reason is written.
     Invalid,
+    /// The run was refused, for this reason.
     Refused(Fault),
 }
 
@@ -56,7 +57,7 @@ impl Outcome {
         }
     }
 
-    /// Why the run was refused.
+    /// Why the run was refused. None if it wasn't.
     pub fn fault(self) -> Option<Fault>
         ensures refused { IfSome result (λ fault. self ≡ Outcome.Refused fault) }
         ensures done { IfNone result ((self ≡ Outcome.Done) ⊎ (self ≡ Outcome.Invalid)) }

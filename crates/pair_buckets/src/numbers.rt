@@ -29,7 +29,7 @@ impl Numbered {
     }
 }
 
-/// The place of the entry of pair `j` at which variable x is 0. The set has no variable below x.
+/// The index of the entry of pair j where variable x is 0. The set has no variable below x.
 #[inline(always)]
 fn low_place(x: VarIx, j: usize) -> usize
     requires variable { x < 16 }
@@ -40,7 +40,8 @@ fn low_place(x: VarIx, j: usize) -> usize
     2 * j - (j & below)
 }
 
-/// Pair `j`: the entry at which variable x is 0, and that at which it is 1.
+/// Pair j: the entry where variable x is 0, and the one where it is 1. They stand 2^x apart,
+/// because the set has no variable below x.
 #[inline(always)]
 pub fn pair_at(numbers: &[u32], x: VarIx, j: usize) -> (u32, u32)
     requires paired { IsPaired numbers.now x }
@@ -65,8 +66,8 @@ fn buckets_for(pairs: usize, classes: usize) -> usize
     most.next_power_of_two()
 }
 
-/// What a lower class is multiplied by for its bucket: the number of classes if there is then a
-/// bucket for each pair of classes, else `SPREAD`.
+/// By what a pair's lower class is multiplied for its bucket: by the number of classes if there is
+/// then a bucket for each pair of classes, else by `SPREAD`.
 fn factor_for(buckets: usize, classes: usize) -> u32
     requires { classes ≤ 2 ^ 20 }
 {
@@ -77,7 +78,8 @@ fn factor_for(buckets: usize, classes: usize) -> u32
     }
 }
 
-/// Writes the joined mask of each distinct pair to `joined`. `masks` has those of the classes.
+/// Writes to `joined`, for each distinct pair of classes, the mask of the function that is the
+/// first where x is 0 and the second where x is 1. `masks` has those of the classes.
 fn fill_masks(
     pairs: &PairNumbers,
     x: VarIx,
@@ -99,7 +101,7 @@ fn fill_masks(
     Ok(())
 }
 
-/// Whether no two entries have one class: entry i has class i.
+/// Whether the numbers are 0, 1, 2 and so on: no two entries then have one class.
 pub fn are_own(numbers: &[u32]) -> bool
     ensures { IsTrue result → AreOwn numbers.now }
 {
@@ -111,8 +113,9 @@ pub fn are_own(numbers: &[u32]) -> bool
     true
 }
 
-/// Numbers the pairs of a table in which no two entries have one class, so that no two pairs are
-/// equal: pair j has the number j. The numbers and their masks are written to `to`.
+/// Writes the numbers of a table's pairs and their masks to `to`. No two entries have one class, so
+/// no two pairs are equal, and pair j has the number j. The pairs differ in x, and `masks` has
+/// those of the classes.
 fn number_distinct_pairs(
     numbers: &[u32],
     x: VarIx,
@@ -135,8 +138,9 @@ fn number_distinct_pairs(
     Ok(())
 }
 
-/// Numbers the pairs of a table by first occurrence. The numbers and the mask of each are written
-/// to `to`, over what it has. `seen` is working memory.
+/// Writes the number of each pair of a table, by first occurrence, and the mask of each number to
+/// `to`, over what it has. The pairs differ in x, and `masks` has those of the classes. `seen` is
+/// working memory.
 pub fn number_pairs(
     numbers: &[u32],
     x: VarIx,
@@ -166,7 +170,8 @@ pub fn number_pairs(
     Ok(())
 }
 
-/// The number of each pair of a table by first occurrence, and the mask of each number.
+/// The number of each pair of a table by first occurrence, and the mask of each number. The pairs
+/// differ in x, below which the set has no variable, and `masks` has those of the classes.
 pub fn numbered_pairs(
     alloc: Global,
     numbers: &[u32],

@@ -1,4 +1,4 @@
-//! Numbers of pairs by first occurrence.
+//! Numbers of pairs by first occurrence, kept in chained buckets.
 
 ghost use Rattle.std.specs.Prelude.{◌≡◌, ◌≢◌, ℕ, ◌<◌, ◌^◌, ◌++◌, ◌∷◌, [], get_or, length, if◌then◌else◌, IfOk, IfSome, IfNone, OnOk, OnErr};
 ghost use Rattle.std.specs.List.{list_any, position_or_len};
@@ -15,10 +15,11 @@ pub(crate) struct Link {
     pub(crate) before: u32,
 }
 
-/// Pairs in the order in which they were put in, each once. The pairs of a bucket are chained, the
-/// last one first.
+/// Distinct pairs in the order in which they were put in; a pair's place is its number. The pairs
+/// of a bucket are chained, the last one first.
 #[derive(Drop)]
 pub struct PairNumbers {
+    /// By what a pair's lower class is multiplied for its bucket.
     factor: u32,
     links: Vec<Link>,
     // one more than the number of the last pair of each bucket, or 0
@@ -49,8 +50,8 @@ fn bucket(factor: u32, buckets: usize, pair: (u32, u32)) -> usize
     key as usize & (buckets - 1)
 }
 
-/// The number of a pair, if it was put in. The pairs of bucket `home` are compared from the last
-/// one back.
+/// The number of a pair, if it was put in. The pairs of bucket `home`, which is its bucket, are
+/// compared from the last one back.
 #[inline(always)]
 fn find(factor: u32, links: &[Link], last: &[u32], home: usize, pair: (u32, u32)) -> Option<u32>
     requires chained { AreChainedPairs factor (pairs_of links.now) (befores_of links.now) last.now }
@@ -73,7 +74,7 @@ fn find(factor: u32, links: &[Link], last: &[u32], home: usize, pair: (u32, u32)
 }
 
 impl PairNumbers {
-    /// No pairs.
+    /// An empty list of pairs.
     pub fn new(alloc: Global) -> Result<PairNumbers, AllocError>
         ensures { IfOk result (λ s. s ≡ []) }
     {
@@ -85,7 +86,8 @@ impl PairNumbers {
         })
     }
 
-    /// Takes out all pairs. The next ones get `buckets` buckets, and room for as many pairs.
+    /// Takes out all pairs, and makes `buckets` buckets and room for as many pairs. `factor` is by
+    /// what a pair's lower class is multiplied for its bucket.
     pub fn restart(&mut self, factor: u32, buckets: usize) -> Result<(), AllocError>
         requires { 0 < buckets }
         ensures { self.new ≡ [] }
@@ -97,7 +99,8 @@ impl PairNumbers {
         self.links.reserve(buckets)
     }
 
-    /// The number of a pair, which is put in if it is new.
+    /// The number of a pair by first occurrence. A new pair is put in. If memory is refused nothing
+    /// changes.
     #[inline(always)]
     pub fn insert(&mut self, pair: (u32, u32)) -> Result<u32, AllocError>
         requires { length self.old < 2 ^ 20 }
@@ -125,7 +128,7 @@ impl PairNumbers {
         self.links.len()
     }
 
-    /// The pair with a number.
+    /// The pair that has the number `number`.
     #[inline(always)]
     pub fn pair(&self, number: usize) -> (u32, u32)
         requires { number < length self.now }

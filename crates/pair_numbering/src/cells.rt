@@ -11,15 +11,16 @@ use definitions::Mask;
 use std::alloc::{AllocError, Global};
 use subfunction_classes::join_mask;
 
-/// A cell of 16 bits is 0 or one more than a number, so there are no more numbers than these.
+/// The most numbers that are given: a cell of 16 bits is 0 or one more than a number.
 const MOST_NUMBERS: usize = 65_535;
 
-/// If more than one of this many pairs was new so far a branch on it would often be mispredicted.
+/// If more than one in so many pairs was new so far, a branch on it would often be mispredicted.
 const MANY_NEW: usize = 4;
 
-/// Numbers the pairs of a block, and returns how many numbers there are then; `from` is how many
-/// there were before. If `EVENLY` is true the mask of each pair is written, without a branch on
-/// whether the pair is new.
+/// Writes the numbers of a block's pairs to `out` and to the pairs' cells, and the masks of new
+/// numbers to `joined`. `from` is how many numbers there were before; returns how many there are
+/// then. If `EVENLY` is true a mask is written for each pair, without a branch on whether it is
+/// new.
 #[inline(always)]
 fn number_block<const EVENLY: bool>(
     pairs: &MaskedPairs<'_>,
@@ -58,8 +59,6 @@ fn number_block<const EVENLY: bool>(
     count
 }
 
-/// Writes the numbers of the pairs and their masks. The answer is how many masks there are; nothing
-/// if these may be too many for cells of 16 bits.
 // Its loops need all registers, so it isn't inlined.
 /// Writes the number of each pair to `out`, and the mask of each number to `joined`. Returns how
 /// many numbers there are, or None if they may be too many for cells of 16 bits.
@@ -92,8 +91,9 @@ fn number_blocks(
     Some(count)
 }
 
-/// The number of each pair by first occurrence, and the mask of each number. A cell is 0, or one
-/// more than the number of its pair. None if there may be more numbers than a cell can have.
+/// The number of each pair by first occurrence, and the mask of each number. `cells` has a 0 for
+/// each two classes; a pair's cell becomes one more than its number. None if there may be more
+/// numbers than a cell can have.
 pub(crate) fn number_pairs_by_cells(
     alloc: Global,
     pairs: &MaskedPairs<'_>,

@@ -61,7 +61,7 @@ fn chain(entries: &EntryPairs<'_>, heads: &mut [u32], next: &mut [u32])
     }
 }
 
-/// The numbers of the pairs by first occurrence, and the pair of each number. `first[j]` is the
+/// The number of each pair by first occurrence, and the pair of each number. `first[j]` is the
 /// first pair that is equal to pair j.
 pub(crate) fn number_firsts(
     alloc: Global,
@@ -128,7 +128,8 @@ fn walk_chain(
     }
 }
 
-/// Writes to `first`, for each pair, the first pair that is equal to it, chain by chain.
+/// Writes to `first`, for each pair, the first pair that is equal to it, chain by chain. `stamps`,
+/// all 0 before, and `marks` are working memory.
 #[inline(always)]
 fn first_occurrences(
     chains: &Chains<'_, '_>,

@@ -1,4 +1,4 @@
-//! Pairs of entries where they stand: in a table, or in the strips of pairs of strips.
+//! Pairs of a table's entries, wherever they stand: in a row, or in pairs of strips.
 
 ghost use Rattle.std.specs.Prelude.{◌≡◌, ℕ, ◌+◌, ◌*◌, ◌/◌, ◌^◌, ◌<◌, ◌≤◌, length, slice_index, get_or, IfSome};
 ghost use Rattle.subfunction_classes.specs.Places as places;
@@ -8,12 +8,14 @@ ghost use Rattle.pair_numbering.specs.Strips.{strips_at};
 
 use std::marker::Model;
 
-/// The pairs of a table's entries that differ in one variable. The table stands in a row, or its
-/// blocks are strips: the one at which the variable is 0 and the one at which it is 1, by name.
+/// The pairs of a class table's entries that differ in one variable alone. The table stands in a
+/// row, or in strips: then `names` has for each block of pairs the two strips where the variable is
+/// 0 and where it is 1, by number.
 #[derive(Drop)]
 pub struct EntryPairs<'a> {
     numbers: &'a [u32],
     names: Option<&'a [(u32, u32)]>,
+    /// A block has 2^rank pairs.
     rank: u32,
 }
 
@@ -38,8 +40,8 @@ pub(crate) struct BlockHalves<'a> {
     pub(crate) high: &'a [u32],
 }
 
-/// The two strips of a block of pairs: the entries at which the variable is 0, and those at which
-/// it is 1. They stand side by side in a table, or have the names that `names` lists.
+/// The numbers of the two strips of a block of pairs: where the variable is 0, and where it is 1.
+/// Without `names` they stand side by side.
 #[inline(always)]
 fn strips_of(names: Option<&[(u32, u32)]>, block: usize) -> (usize, usize)
     requires named { IfSome names (λ r. block < length r.now) }
@@ -55,7 +57,7 @@ fn strips_of(names: Option<&[(u32, u32)]>, block: usize) -> (usize, usize)
     }
 }
 
-/// The strip with number `name` of a row of strips of 2 ^ rank entries.
+/// Strip number `name` of `numbers`, in which strips of 2^rank entries stand one behind the other.
 #[inline(always)]
 fn strip_at(numbers: &[u32], rank: u32, name: usize) -> &[u32]
     requires rank { rank < 16 }
@@ -70,7 +72,8 @@ fn strip_at(numbers: &[u32], rank: u32, name: usize) -> &[u32]
 }
 
 impl<'a> EntryPairs<'a> {
-    /// The pairs of a table by a variable that has `rank` variables outside the set below it.
+    /// The pairs of a table by a variable above `rank` of those outside the set: entries 2^rank
+    /// apart are a pair.
     #[inline(always)]
     pub fn of_table(numbers: &'a [u32], rank: u32) -> EntryPairs<'a>
         requires { IsPaired numbers.now rank }
@@ -84,7 +87,8 @@ impl<'a> EntryPairs<'a> {
         }
     }
 
-    /// The pairs of strips of 2 ^ bits entries, which `names` lists by number, entry by entry.
+    /// The pairs of the entries of two strips each: `names` has the numbers of the two, and
+    /// `numbers` the strips, of 2^bits entries each.
     #[inline(always)]
     pub(crate) fn of_strips(
         names: &'a [(u32, u32)],
@@ -105,7 +109,7 @@ impl<'a> EntryPairs<'a> {
         }
     }
 
-    /// The rank: a block has 2 ^ rank pairs.
+    /// The rank r: a block has 2^r pairs.
     #[inline(always)]
     pub(crate) fn rank(&self) -> u32
         ensures rank { result ≡ self.now.rank }
@@ -126,7 +130,7 @@ impl<'a> EntryPairs<'a> {
         }
     }
 
-    /// The two halves of a block: 2 ^ rank pairs.
+    /// The entries of a block of 2^rank pairs, by its number.
     #[inline(always)]
     pub(crate) fn block(&self, block: usize) -> BlockHalves<'a>
         requires { block < length self.now.numbers / 2 / 2 ^ self.now.rank }
@@ -144,7 +148,7 @@ impl<'a> EntryPairs<'a> {
         }
     }
 
-    /// Pair `j`: the entry at which the variable is 0, and that at which it is 1.
+    /// Pair j: the entry where the variable is 0, and the one where it is 1.
     #[inline(always)]
     pub fn pair(&self, j: usize) -> (u32, u32)
         requires { j < length self.now.numbers / 2 }

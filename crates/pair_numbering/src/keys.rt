@@ -1,5 +1,6 @@
-//! Numbers that tell pairs apart, in any order. Joined keys cost less than numbers by first
-//! occurrence, and are taken as long as there are few.
+//! Numbers of pairs that are equal for equal pairs alone, in any order. The joined number of a
+//! pair, its low entry and a base times its high one, costs less than a number by first occurrence.
+//! It is taken as long as there are few.
 
 ghost use Rattle.std.specs.Prelude.{◌≡◌, ℕ, ◌+◌, ◌*◌, ◌/◌, ◌^◌, ◌<◌, ◌≤◌, map, length, IfOk, IsTrue};
 ghost use Rattle.std.specs.List.{range_with_len};
@@ -14,11 +15,11 @@ use definitions::{Mask, VarIx};
 use std::alloc::{AllocError, Global};
 use subfunction_classes::join_mask;
 
-/// Pairs of more keys than these are numbered by first occurrence.
+/// Pairs of more classes than these are numbered by first occurrence.
 const MOST_JOINED: usize = 16;
 
-/// Numbers that tell pairs apart, and the mask of each. If `all_used` is true each mask is that of
-/// a number that occurs.
+/// A number for each pair, equal for equal pairs alone, and the mask of each number. If `all_used`
+/// is true, each mask is that of a number that occurs.
 #[derive(Drop)]
 pub struct PairKeys {
     pub numbers: Vec<u32>,
@@ -26,7 +27,8 @@ pub struct PairKeys {
     pub all_used: bool,
 }
 
-/// Writes the key of each pair of keys below `base`, low + base * high, block by block.
+/// Writes the joined number of each pair, low + base * high, to `joined`, block by block. All
+/// entries are below `base`.
 #[inline(always)]
 fn join_blocks(entries: &EntryPairs<'_>, rank: u32, base: u32, joined: &mut [u32])
     requires rank { rank ≡ entries.now.rank }
@@ -45,8 +47,8 @@ fn join_blocks(entries: &EntryPairs<'_>, rank: u32, base: u32, joined: &mut [u32
     }
 }
 
-/// The key of each pair of keys below `base`, low + base * high. The small ranks, which are
-/// frequent, have a loop each.
+/// The joined number of each pair, low + base * high. All entries are below `base`. The small
+/// ranks, which are frequent, have a loop each.
 fn join_keys(alloc: Global, entries: &EntryPairs<'_>, base: u32) -> Result<Vec<u32>, AllocError>
     requires below { AllBelow entries.now.numbers base }
     requires base { base ≤ 256 }
@@ -64,7 +66,8 @@ fn join_keys(alloc: Global, entries: &EntryPairs<'_>, base: u32) -> Result<Vec<u
     Ok(joined)
 }
 
-/// The mask of each key low + base * high, where `masks` has those of the keys below `base`.
+/// The mask of each joined number low + base * high, where base is the number of `masks`. These are
+/// the masks of the classes, whose pairs differ in x.
 fn join_key_masks(alloc: Global, masks: &[Mask], x: VarIx) -> Result<Vec<Mask>, AllocError>
     requires variable { x < 16 }
     requires few { length masks.now ≤ 256 }
@@ -82,8 +85,8 @@ fn join_key_masks(alloc: Global, masks: &[Mask], x: VarIx) -> Result<Vec<Mask>, 
     Ok(joined)
 }
 
-/// Keys that are equal exactly for equal pairs, and the mask of each key: joined keys if these are
-/// few, and no more than the entries, else numbers by first occurrence.
+/// A number for each pair, equal for equal pairs alone, and the mask of each number. They are
+/// joined numbers if these are few, and no more than the entries, else numbers by first occurrence.
 pub fn label_pairs(alloc: Global, pairs: &MaskedPairs<'_>) -> Result<PairKeys, AllocError>
     ensures tells { IfOk result
         (λ v. TellsPairs pairs.now.masks.now pairs.now.x

@@ -1,6 +1,6 @@
 //! Numbers of the pairs of a class table's entries that differ in one variable: equal pairs, and no
-//! others, have one number. With them comes the mask of each number, what the functions of its pair
-//! depend on.
+//! others, have one number. With them comes the mask of each number: the variables that the
+//! functions of its pair depend on.
 #![tactic(auto)]
 
 mod cells;

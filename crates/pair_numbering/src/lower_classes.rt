@@ -19,8 +19,7 @@ pub(crate) struct CountedPairs<'e> {
     ghost lone: { AreLone (places.pairs entries.now.numbers (2 ^ entries.now.rank)) counts.now },
 }
 
-/// Adds the pairs of a block to the counts of pairs with each lower class: 0, 1, or 2 for two or
-/// more.
+/// Counts the pairs of a block at their lower classes in `counts`: 0, 1, or 2 for two or more.
 #[inline(always)]
 fn count_block(entries: &EntryPairs<'_>, block: usize, counts: &mut [u8])
     requires few { length entries.now.numbers ≤ 2 ^ 20 }
@@ -38,8 +37,9 @@ fn count_block(entries: &EntryPairs<'_>, block: usize, counts: &mut [u8])
     }
 }
 
-/// How many pairs have each lower class: 0, 1, or 2 for two or more. If there are no more classes
-/// than pairs, few have only one pair, so they aren't counted, and all counts are 0.
+/// For each of the `classes` classes how many pairs have it as their lower class: 0, 1, or 2 for
+/// two or more. If there are no more classes than pairs, few have only one pair, so they aren't
+/// counted, and all counts are 0.
 pub(crate) fn count_lowers(
     alloc: Global,
     entries: &EntryPairs<'_>,

@@ -25,7 +25,8 @@ pub struct MaskedPairs<'e> {
 }
 
 impl<'e> MaskedPairs<'e> {
-    /// The pairs of a table by a variable that has `rank` variables outside the set below it.
+    /// The pairs of a table by the variable x, which is above `rank` of the variables outside the
+    /// set: entries 2^rank apart are a pair. `masks` has the mask of each class.
     #[inline(always)]
     pub fn of_table(numbers: &'e [u32], rank: u32, x: VarIx, masks: &'e [Mask]) -> MaskedPairs<'e>
         requires table { IsPairTable numbers.now rank (length masks.now) }
@@ -43,7 +44,9 @@ impl<'e> MaskedPairs<'e> {
         }
     }
 
-    /// The pairs of strips of 2 ^ bits entries, which `names` lists by number.
+    /// The pairs of the entries of two strips each, which differ in x: `names` has the numbers of
+    /// the two, and `numbers` the strips, of 2^bits entries each. `masks` has the mask of each
+    /// class.
     #[inline(always)]
     pub fn of_strips(
         names: &'e [(u32, u32)],
@@ -68,7 +71,7 @@ impl<'e> MaskedPairs<'e> {
         }
     }
 
-    /// The rank: a block has 2 ^ rank pairs.
+    /// The rank r: a block has 2^r pairs.
     #[inline(always)]
     pub fn rank(&self) -> u32
         ensures rank { result ≡ self.now.entries.rank }
@@ -79,7 +82,8 @@ impl<'e> MaskedPairs<'e> {
     }
 }
 
-/// The joined mask of each pair of classes. `masks` has those of the classes.
+/// For each pair of classes the mask of the function that is the first where x is 0 and the second
+/// where x is 1. `masks` has those of the classes.
 pub fn join_masks(
     alloc: Global,
     pairs: &[(u32, u32)],

@@ -16,7 +16,8 @@ use std::alloc::{AllocError, Global};
 /// Pairs are numbered by cells if there are no more cells than this for each pair.
 const MOST_CELLS_PER_PAIR: usize = 16;
 
-/// The number of each pair, and the mask of each number.
+/// The number of each pair, and the mask of each number: the variables that its functions depend
+/// on.
 #[derive(Drop)]
 pub struct MaskedNumbers {
     pub numbers: Vec<u32>,

@@ -33,8 +33,9 @@ fn home(homes: usize, pair: (u32, u32)) -> usize
     ((high * homes as u64) >> 32) as usize
 }
 
-/// The first slot from `home` on that has the pair or is free. `keys` has the pair of each of the
-/// `count` numbers, and after these the pair that is searched for.
+/// The first of the `TRIES` slots from `home` on that has the pair or is free; nothing if there is
+/// none. `keys` has the pair of each of the `count` numbers, and after these the pair that is
+/// searched for.
 #[inline(always)]
 fn find_slot(
     slots: &[u16],
@@ -56,8 +57,9 @@ fn find_slot(
     None
 }
 
-/// Numbers the pairs of a block, and returns how many numbers there are then; `count` is how many
-/// there were before. None if a pair finds no slot.
+/// Writes the numbers of a block's pairs to `out`, and new pairs to `keys` and their numbers to
+/// `slots`. `count` is how many numbers there were before; returns how many there are then, or None
+/// if a pair finds no slot.
 #[inline(always)]
 fn number_block(
     pairs: &CountedPairs<'_>,

@@ -3,10 +3,11 @@
 use std::alloc::AllocError;
 use thiserror::Error;
 
-/// What is wrong with a line.
+/// What is wrong with a line of a PLA description.
 #[derive(Clone, Copy, Debug, PartialEq, Eq, Error)]
 pub enum LineFault {
-    /// A term, or names, before their counts; or no counts at the end of the description.
+    /// A term or names stand before the numbers of inputs and outputs that they need, or the
+    /// description ends without these numbers.
     #[error("MissingHead")]
     MissingHead,
     /// A directive that may stand once comes again.
@@ -18,10 +19,10 @@ pub enum LineFault {
     /// The number of outputs isn't 1 to 16.
     #[error("OutputCount")]
     OutputCount,
-    /// Not just one number of one to nine decimal digits.
+    /// A directive that takes one number of one to nine decimal digits has something else.
     #[error("BadNumber")]
     BadNumber,
-    /// Not as many names as inputs or outputs.
+    /// There are not as many names as inputs or outputs.
     #[error("NameCount")]
     NameCount,
     /// A name with a byte outside 33 to 126.
@@ -30,10 +31,10 @@ pub enum LineFault {
     /// A directive that isn't known.
     #[error("UnknownDirective")]
     UnknownDirective,
-    /// A logical type other than f and fd, or one after a term.
+    /// A logical type other than f and fd, or one that stands after a term.
     #[error("UnsupportedType")]
     UnsupportedType,
-    /// An output `-` or `2` that isn't under `.type f`.
+    /// An output position `-` or `2` in a description without `.type f`.
     #[error("DontCare")]
     DontCare,
     /// An input position that is none of `0`, `1`, `-` and `2`.
@@ -57,7 +58,7 @@ pub enum PlaError {
     /// line 0.
     #[error("line {0}: {1}")]
     Line(usize, LineFault),
-    /// More than 16,777,216 bytes.
+    /// The input has more than 16,777,216 bytes.
     #[error("TooLong")]
     TooLong,
     /// A call of the reader failed.

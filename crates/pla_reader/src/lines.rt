@@ -14,7 +14,7 @@ fn len_until(text: &[u8], byte: u8) -> usize
     memchr(byte, text).unwrap_or(text.len())
 }
 
-/// Whether a byte is a blank.
+/// Whether a byte is a blank: a space, a tab or a carriage return.
 pub(crate) fn is_blank_byte(b: u8) -> bool
     ensures { result ≡ is_blank b }
 {
@@ -36,7 +36,7 @@ fn word_len(text: &[u8]) -> usize
     memchr3(b' ', b'\t', b'\r', text).unwrap_or(text.len())
 }
 
-/// The first line of a text that has a byte, and the text after the line's line feed.
+/// The first line of a text that isn't empty, without its line feed, and the text after it.
 #[tactic(auto, using(crate::proofs::TextLemmas::first_line_lem))]
 pub(crate) fn first_line(text: &[u8]) -> (&[u8], &[u8])
     requires { 0 < length text.now }
@@ -51,7 +51,7 @@ pub(crate) fn first_line(text: &[u8]) -> (&[u8], &[u8])
     }
 }
 
-/// A line without its comment, which begins with `#`.
+/// A line without its comment, which begins with the first `#`.
 pub(crate) fn content(line: &[u8]) -> &[u8]
     ensures value { result.now ≡ content_of line.now }
     ensures front { (comment : List ℕ) × (line.now ≡ result.now ++ comment) }
@@ -60,7 +60,7 @@ pub(crate) fn content(line: &[u8]) -> &[u8]
     front
 }
 
-/// The first word of a text, and the text after it.
+/// The first word of a text, and the text after it. None if the text has no word.
 #[tactic(auto, using(crate::proofs::TextLemmas::words_blank, crate::proofs::TextLemmas::words_word, crate::proofs::TextLemmas::words_none))]
 pub(crate) fn next_word(text: &[u8]) -> Option<(&[u8], &[u8])>
     ensures none { IfNone result (words text.now ≡ []) }
@@ -80,7 +80,7 @@ pub(crate) fn next_word(text: &[u8]) -> Option<(&[u8], &[u8])>
     None
 }
 
-/// The word of a text that has exactly one.
+/// The word of a text that has exactly one. None for any other text.
 pub(crate) fn only_word(text: &[u8]) -> Option<&[u8]>
     ensures some { IfSome result (λ word. one_word (words text.now) ≡ Some word.now) }
     ensures none { IfNone result (one_word (words text.now) ≡ None) }
@@ -105,7 +105,7 @@ pub(crate) fn count_words(text: &[u8]) -> usize
     count
 }
 
-/// Whether each word of a text may be a name.
+/// Whether each word of a text may be a name: all its bytes are from 33 to 126.
 pub(crate) fn has_names(text: &[u8]) -> bool
     ensures { result ≡ list_all is_name (words text.now) }
 {
@@ -119,7 +119,7 @@ pub(crate) fn has_names(text: &[u8]) -> bool
     true
 }
 
-/// Whether a word may be a name.
+/// Whether a word may be a name: all its bytes are from 33 to 126.
 fn is_graphic(word: &[u8]) -> bool
     ensures { result ≡ is_name word.now }
 {

@@ -10,7 +10,7 @@ use crate::lines::next_word;
 use std::alloc::{AllocError, Global};
 use std::str;
 
-/// The name that a word spells.
+/// A word as a string. The word may be a name: all its bytes are from 33 to 126.
 fn name(alloc: Global, word: &[u8]) -> Result<String, AllocError>
     requires { is_name word.now ≡ true }
     ensures { IfOk result (λ name. string_bytes name ≡ word.now) }
@@ -21,7 +21,7 @@ fn name(alloc: Global, word: &[u8]) -> Result<String, AllocError>
     }
 }
 
-/// The names that the words of a text spell.
+/// The words of a text as strings. Each may be a name: all its bytes are from 33 to 126.
 pub(crate) fn names(alloc: Global, text: &[u8]) -> Result<Vec<String>, AllocError>
     requires { list_all is_name (words text.now) ≡ true }
     ensures { IfOk result (λ names. map string_bytes names.items ≡ words text.now) }

@@ -20,14 +20,14 @@ pub struct TextPlace {
     pub length: usize,
 }
 
-/// The names of the inputs, or of the outputs.
+/// Which names are meant: those of the inputs or those of the outputs.
 #[derive(Clone, Copy, Debug, PartialEq, Eq)]
 pub enum Names {
     Inputs,
     Outputs,
 }
 
-/// Whether a statement lists the names of the inputs, or of the outputs.
+/// Whether a statement lists the names that are meant, of the inputs or of the outputs.
 fn gives(statement: &Statement<'_>, names: Names) -> bool
     ensures { result ≡ is_some (naming_by names (line_of statement.now)) }
 {
@@ -37,7 +37,7 @@ fn gives(statement: &Statement<'_>, names: Names) -> bool
     }
 }
 
-/// The places of the words of `text` in a longer text, where it begins at byte `start`.
+/// The places of the words of `text` in a longer text, where `text` begins at byte `start`.
 fn word_places(alloc: Global, text: &[u8], start: usize) -> Result<Vec<TextPlace>, AllocError>
     requires { start + length text.now < 2 ^ 64 }
     ensures spell { IfOk result (λ v. (front back : List ℕ) → length front ≡ start →
@@ -57,7 +57,7 @@ fn word_places(alloc: Global, text: &[u8], start: usize) -> Result<Vec<TextPlace
 }
 
 /// The places of the names that a line lists, in a longer text, where the line begins at byte
-/// `start`.
+/// `start`. The first word of the line is the directive.
 fn given_places(alloc: Global, line: &[u8], start: usize) -> Result<Vec<TextPlace>, AllocError>
     requires { start + length line.now < 2 ^ 64 }
     ensures given { IfOk result (λ v. (front back : List ℕ) (names : Names) → length front ≡ start →
@@ -71,8 +71,8 @@ fn given_places(alloc: Global, line: &[u8], start: usize) -> Result<Vec<TextPlac
     }
 }
 
-/// The places in `bytes` of the names of the inputs, or of the outputs, that a description lists.
-/// None are listed if it has default names.
+/// The places in the description `bytes` of the names that it lists for its inputs, or for its
+/// outputs, as `names` says. Empty if it lists none.
 pub fn name_places(alloc: Global, bytes: &[u8], names: Names) -> Result<Vec<TextPlace>, AllocError>
     ensures { IfOk result (λ v. AreNamesAt names bytes.now v.items) }
 {

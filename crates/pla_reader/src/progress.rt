@@ -21,14 +21,14 @@ use crate::terms::row;
 use order_model::{Term, decimal_number};
 use std::alloc::{AllocError, Global};
 
-/// The logical type of a description.
+/// The logical type of a description, f or fd.
 #[derive(Clone, Copy)]
 pub(crate) enum LogicalType {
     F,
     Fd,
 }
 
-/// Why a line was not taken.
+/// Why a line was not taken: an allocation was refused, or the line has a fault.
 #[derive(Clone, Copy)]
 pub(crate) enum LineError {
     Memory,
@@ -57,8 +57,9 @@ impl From<AllocError> for LineError {
     }
 }
 
-/// The number of inputs or outputs that a directive states, 1 to 16. `known` is the number that an
-/// earlier directive stated, and `outside` the fault of a number that is not 1 to 16.
+/// The number of inputs or outputs, 1 to 16, that the text after a directive states. `known` is the
+/// number that an earlier directive stated, and `outside` the fault of a number that is not 1 to
+/// 16.
 fn count(known: Option<u8>, text: &[u8], outside: LineFault) -> Result<u8, LineFault>
     ensures { MatchResult result
         (λ d. (head_fault (is_some known) (words text.now) outside ≡ None)
@@ -88,8 +89,8 @@ fn is_number_alone(text: &[u8]) -> bool
     }
 }
 
-/// Nothing if a directive may list these names, else their fault. `count` is the stated number of
-/// inputs or outputs, and `repeated` says whether names were listed before.
+/// Accepts the names that the text after a directive lists, or returns their fault. `count` is the
+/// stated number of inputs or outputs, and `repeated` says whether names were listed before.
 fn check_names(count: Option<u8>, repeated: bool, text: &[u8]) -> Result<(), LineFault>
     ensures { MatchResult result
         (λ done. (naming_fault (is_some count) repeated (unwrap_or count 0) (words text.now) ≡ None)
@@ -111,8 +112,8 @@ fn check_names(count: Option<u8>, repeated: bool, text: &[u8]) -> Result<(), Lin
     }
 }
 
-/// The logical type that a directive states. `repeated` says whether one was stated before, and
-/// `late` whether a term came before.
+/// The logical type that the text after a directive states. `repeated` says whether one was stated
+/// before, and `late` whether a term came before.
 fn logical_type(repeated: bool, late: bool, text: &[u8]) -> Result<LogicalType, LineFault>
     ensures { MatchResult result
         (λ kind. (type_fault repeated late (words text.now) ≡ None)
@@ -146,7 +147,7 @@ fn given_or_default_names(
     }
 }
 
-/// What the lines read so far state.
+/// What the lines read so far state, with `None` for what none of them stated.
 #[derive(Drop)]
 pub(crate) struct Progress {
     inputs: Option<u8>,
@@ -158,7 +159,7 @@ pub(crate) struct Progress {
 }
 
 impl Progress {
-    /// What no lines state.
+    /// What is known before the first line.
     pub(crate) fn new(alloc: Global) -> Progress
         ensures { state_of result ≡ start }
     {
@@ -172,21 +173,21 @@ impl Progress {
         }
     }
 
-    /// Whether an output may be `-`, which has no meaning.
+    /// Whether an output position of a term may be `-`, which has no meaning: only under `.type f`.
     fn takes_dont_cares(&self) -> bool
         ensures { result ≡ is_f self.now.logical_type }
     {
         matches!(self.logical_type, Some(LogicalType::F))
     }
 
-    /// Whether a term came.
+    /// Whether a term was read.
     fn has_terms(&self) -> bool
         ensures { result ≡ is_filled self.now.terms.items }
     {
         !self.terms.is_empty()
     }
 
-    /// Takes the text that states the number of inputs.
+    /// Takes the number of inputs from the text after its directive, or returns the fault.
     fn take_inputs(&mut self, text: &[u8]) -> Result<(), LineError>
         ensures { Takes self.old (Inputs (words text.now)) self.new result }
     {
@@ -194,7 +195,7 @@ impl Progress {
         Ok(())
     }
 
-    /// Takes the text that states the number of outputs.
+    /// Takes the number of outputs from the text after its directive, or returns the fault.
     fn take_outputs(&mut self, text: &[u8]) -> Result<(), LineError>
         ensures { Takes self.old (Outputs (words text.now)) self.new result }
     {
@@ -202,7 +203,7 @@ impl Progress {
         Ok(())
     }
 
-    /// Takes the text that states the names of the inputs.
+    /// Takes the names of the inputs from the text after their directive, or returns the fault.
     fn take_input_names(&mut self, alloc: Global, text: &[u8]) -> Result<(), LineError>
         ensures { Takes self.old (InputNames (words text.now)) self.new result }
     {
@@ -211,7 +212,7 @@ impl Progress {
         Ok(())
     }
 
-    /// Takes the text that states the names of the outputs.
+    /// Takes the names of the outputs from the text after their directive, or returns the fault.
     fn take_output_names(&mut self, alloc: Global, text: &[u8]) -> Result<(), LineError>
         ensures { Takes self.old (OutputNames (words text.now)) self.new result }
     {
@@ -220,7 +221,7 @@ impl Progress {
         Ok(())
     }
 
-    /// Takes the text that states the logical type.
+    /// Takes the logical type from the text after its directive, or returns the fault.
     fn take_type(&mut self, text: &[u8]) -> Result<(), LineError>
         ensures { Takes self.old (TypeLine (words text.now)) self.new result }
     {
@@ -229,7 +230,7 @@ impl Progress {
         Ok(())
     }
 
-    /// Takes the text that states a term.
+    /// Takes a term from its text, or returns the fault.
     fn take_row(&mut self, text: &[u8]) -> Result<(), LineError>
         requires { IsSoundState (state_of self.old) }
         ensures { Takes self.old (Row (positions text.now)) self.new result }
@@ -244,7 +245,7 @@ impl Progress {
         }
     }
 
-    /// Takes the statement of the next line, or returns its fault.
+    /// Takes what the next line states, or returns the fault of the line.
     pub(crate) fn take(&mut self, alloc: Global, statement: Statement) -> Result<(), LineError>
         requires { IsSoundState (state_of self.old) }
         ensures { Takes self.old (line_of statement.entry) self.new result }
@@ -268,8 +269,8 @@ impl Progress {
         }
     }
 
-    /// The cover that the lines state, if they have both numbers. Line `number` ends the
-    /// description.
+    /// The cover that the lines state. If none states the number of inputs, or of outputs, the
+    /// fault is `MissingHead` of line `number`, which ends the description.
     pub(crate) fn finish(self, alloc: Global, number: usize) -> Result<Cover, PlaError>
         requires { IsSoundState (state_of self) }
         ensures ok { IfOk result (IsCoverOf (state_of self)) }

@@ -16,7 +16,7 @@ use std::alloc::Global;
 /// The most bytes that an input may have: 16 MiB.
 pub const MOST_BYTES: usize = 16_777_216;
 
-/// The cover of the bytes of an input, or its first fault.
+/// The cover that the bytes of an input describe, or their first fault.
 pub fn read_bytes(alloc: Global, bytes: &[u8]) -> Result<Cover, PlaError>
     ensures { Answers bytes.now result }
 {
@@ -40,7 +40,8 @@ pub fn read_bytes(alloc: Global, bytes: &[u8]) -> Result<Cover, PlaError>
     progress.finish(alloc, number)
 }
 
-/// Reads a PLA description (espresso(5), logical types f and fd) to its end, and gives its cover.
+/// Reads a PLA description (espresso(5), logical types f and fd) to its end, and returns its cover,
+/// or why there is none.
 ///
 /// Nothing is decided before the last byte was read; time and memory are linear in the bytes.
 pub fn read_cover<R: CountedRead>(alloc: Global, reader: &mut R) -> Result<Cover, PlaError>

@@ -1,4 +1,4 @@
-//! What lines say.
+//! What a line states.
 
 ghost use Rattle.std.specs.Prelude.{◌≡◌, ◌==◌, slice_index};
 ghost use Rattle.pla_reader.specs.Text.{words};
@@ -8,18 +8,28 @@ ghost use Rattle.pla_reader.specs.Statements.{line_of};
 
 use crate::lines::{content, next_word};
 
-/// The statement of a line, with the text after its directive, or that of its term.
+/// What a line states: a directive with the text after it, or a term with its text.
 #[derive(Drop)]
 pub(crate) enum Statement<'a> {
+    /// The line has no word.
     Empty,
+    /// `.i`, the number of inputs.
     Inputs(&'a [u8]),
+    /// `.o`, the number of outputs.
     Outputs(&'a [u8]),
+    /// `.ilb`, the names of the inputs.
     InputNames(&'a [u8]),
+    /// `.ob`, the names of the outputs.
     OutputNames(&'a [u8]),
+    /// `.p`, the number of terms.
     Products(&'a [u8]),
+    /// `.type`, the logical type.
     Type(&'a [u8]),
+    /// `.e` or `.end`, the end of the description.
     End,
+    /// Any other directive.
     Unknown,
+    /// A term.
     Row(&'a [u8]),
 }
 
@@ -30,7 +40,7 @@ pub(crate) fn is_same(a: &[u8], b: &[u8]) -> bool
     a == b
 }
 
-/// Whether a word begins with a point.
+/// Whether a word begins with a point, as directives do.
 fn is_directive(word: &[u8]) -> bool
     ensures { result ≡ (slice_index word.now 0 == 46) }
 {
@@ -40,7 +50,7 @@ fn is_directive(word: &[u8]) -> bool
     }
 }
 
-/// The statement of a directive, with the text after it.
+/// The statement of the directive `word`, with the text `given` after it.
 #[tactic(auto, unfolding(crate::specs::Lines::directive))]
 fn directive<'a>(word: &[u8], given: &'a [u8]) -> Statement<'a>
     ensures { line_of result ≡ directive_of word.now (words given.now) }
@@ -64,7 +74,7 @@ fn directive<'a>(word: &[u8], given: &'a [u8]) -> Statement<'a>
     }
 }
 
-/// The statement of a line.
+/// The statement of a line, without its comment.
 #[tactic(auto, unfolding(crate::specs::Lines::line_said, crate::specs::Lines::meaning))]
 pub(crate) fn statement_of(line: &[u8]) -> Statement<'_>
     ensures { line_of result ≡ line_said line.now }
@@ -81,7 +91,7 @@ pub(crate) fn statement_of(line: &[u8]) -> Statement<'_>
 }
 
 impl Statement<'_> {
-    /// Whether a line ends the description.
+    /// Whether the statement is the end of the description.
     pub(crate) fn is_end(&self) -> bool
         ensures { result ≡ ends (line_of self.now) }
     {

@@ -12,7 +12,7 @@ use crate::errors::LineFault;
 use crate::lines::is_separator;
 use order_model::{Mask, Term};
 
-/// The masks of a term while it is read.
+/// The masks of a term, as `Term` has them, while the term is read.
 #[derive(Clone, Copy)]
 pub(crate) struct Masks {
     care: Mask,
@@ -20,7 +20,8 @@ pub(crate) struct Masks {
     outs: Mask,
 }
 
-/// The masks of a term after its input position `at`, which has byte `b`.
+/// The masks of a term once its input position `at`, which has byte `b`, is read, or the fault of
+/// this byte. `masks` are those before.
 fn with_input(masks: Masks, at: u8, b: u8) -> Result<Masks, LineFault>
     requires small { at < 16 }
     requires fresh { bit_at masks.value at ≡ 0 }
@@ -42,7 +43,8 @@ fn with_input(masks: Masks, at: u8, b: u8) -> Result<Masks, LineFault>
     Ok(new)
 }
 
-/// The masks of a term after its output position `at`, which has byte `b`.
+/// The masks of a term once its output position `at`, which has byte `b`, is read, or the fault of
+/// this byte. `masks` are those before. `takes_dont_cares` says whether `-` and `2` are allowed.
 fn with_output(masks: Masks, at: u8, b: u8, takes_dont_cares: bool) -> Result<Masks, LineFault>
     requires small { at < 16 }
     requires none { bit_at masks.outs at ≡ 0 }
@@ -65,6 +67,7 @@ fn with_output(masks: Masks, at: u8, b: u8, takes_dont_cares: bool) -> Result<Ma
 }
 
 /// The term of n inputs and m outputs that a line states, or the line's first fault from the left.
+/// `takes_dont_cares` says whether output positions `-` and `2` are allowed.
 pub(crate) fn row(n: u8, m: u8, takes_dont_cares: bool, line: &[u8]) -> Result<Term, LineFault>
     requires inputs { n ≤ 16 }
     requires outputs { m ≤ 16 }

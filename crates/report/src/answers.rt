@@ -19,7 +19,7 @@ use std::alloc::{AllocError, Global};
 use std::thread::Threads;
 use truth_table::Tables;
 
-/// The pairs that an order has to keep, as the plan lists them. They are of n variables.
+/// The pairs, of n variables, that an order has to keep: those that the plan lists, or none.
 pub(crate) fn pairs_of<'a>(plan: &RunPlan<'a>, n: u8) -> Result<Pairs, PairsFault>
     requires some { 1 ≤ n }
     requires few { n ≤ 16 }
@@ -52,7 +52,7 @@ fn report_of(alloc: Global, instance: &SearchInput<'_>, found: &Found) -> Result
     Ok(text)
 }
 
-/// The text of the best order's certificate, if its cells were listed.
+/// The text of the certificate of the best order; nothing if no cells were listed for one.
 fn certificate_of(
     alloc: Global,
     problem: &Problem,
@@ -72,7 +72,8 @@ fn certificate_of(
     Ok(Some(text))
 }
 
-/// The report on a cover, and the certificate if `certify` is true.
+/// The report on the first order of the fewest nodes that keeps the pairs, and its certificate if
+/// `certify` is true.
 pub(crate) fn answer_texts<R: Threads + Sync>(
     rt: &R,
     alloc: Global,

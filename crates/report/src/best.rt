@@ -17,7 +17,7 @@ pub(crate) struct Best {
 }
 
 impl Best {
-    /// The order and the cells of a solution.
+    /// The order of a solution, with the cells that its certificate lists.
     fn of(solution: Solution) -> Best
         ensures optimum { result.optimum ≡ solution.optimum }
         ensures cells { result.cells ≡ Some solution.cells }
@@ -29,8 +29,9 @@ impl Best {
     }
 }
 
-/// The first order of the fewest nodes among those that keep the pairs of a sifted order, and the
-/// cells that its certificate lists if one is to be written. Without it fewer sets are searched.
+/// The first order of the fewest nodes among those that keep the pairs of `bound`, a sifted order,
+/// and if `certify` is true the cells that its certificate lists. Without them fewer sets are
+/// searched.
 pub(crate) fn best_order<R: Threads + Sync>(
     rt: &R,
     alloc: Global,
@@ -53,8 +54,8 @@ pub(crate) fn best_order<R: Threads + Sync>(
     })
 }
 
-/// The first order of the fewest nodes among those that keep the pairs, and the cells that its
-/// certificate lists if one is to be written. It is for problems whose truth tables are small.
+/// The first order of the fewest nodes among those that keep the pairs, and if `certify` is true
+/// the cells that its certificate lists. It is for problems whose truth tables are small.
 pub(crate) fn small_best(
     alloc: Global,
     problem: &Problem,

@@ -17,7 +17,7 @@ use std::alloc::{AllocError, Global};
 use std::thread::Threads;
 use truth_table::reduced_diagram;
 
-/// The level counts of a diagram, one for each level.
+/// The level counts of a diagram, top first.
 fn levels_of(alloc: Global, diagram: &Diagram) -> Result<Vec<u32>, AllocError>
     requires { length diagram.now.order ≤ 16 }
     ensures long { IfOk result (λ v. length v.items ≡ length diagram.now.order) }
@@ -30,8 +30,8 @@ fn levels_of(alloc: Global, diagram: &Diagram) -> Result<Vec<u32>, AllocError>
     counts[..diagram.order().len()].to_vec(alloc)
 }
 
-/// The reduced diagram of the cover's functions under an order. From small truth tables it is made
-/// directly, else in a store.
+/// The reduced diagram of the cover's functions under `order`. It is made directly from small truth
+/// tables, else in a store.
 fn diagram_under<R: Threads + Sync>(
     rt: &R,
     alloc: Global,
@@ -71,8 +71,8 @@ pub(crate) fn starting_diagram<R: Threads + Sync>(
     Ok(diagram)
 }
 
-/// The level counts under the file order. `starting` is the diagram under the starting order, which
-/// has them if that is the file order; else a diagram is built under the file order.
+/// The level counts under the file order. `starting` is the diagram under the starting order: it
+/// has them if that is the file order, else another diagram is built.
 pub(crate) fn file_order_levels_of<R: Threads + Sync>(
     rt: &R,
     alloc: Global,

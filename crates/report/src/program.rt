@@ -15,8 +15,8 @@ use std::fs;
 use std::rt::Files;
 use std::thread::Threads;
 
-/// Opens the PLA file, creates the certificate's file, and carries out the plan. With `--count` no
-/// certificate is made.
+/// Opens the PLA file, creates the certificate's file if one is wanted, and carries out the plan.
+/// With `--count` no certificate is made.
 fn run_on_files<'a, R: Files + AllocGlobal + Threads + Sync, W: CountedWrite>(
     rt: &R,
     line: &Line<'a>,
@@ -42,8 +42,8 @@ fn run_on_files<'a, R: Files + AllocGlobal + Threads + Sync, W: CountedWrite>(
     run(rt, rt.alloc(), &line.plan, &mut file, out, &mut cert)
 }
 
-/// The program: the words are those after its name, the report goes to `out`, messages to `err`.
-/// Returns the exit status.
+/// The program minorder. `words` are those after its name; the report goes to `out`, messages to
+/// `err`. Returns the exit status.
 ///
 /// The words are `[--workers W] [--cert OUT] [--count] [--above LIST] FILE`. FILE is opened, then
 /// OUT is made, empty, and then FILE is read; if a run is refused OUT stays as it was made.

@@ -13,8 +13,8 @@ use report_texts::{RunTexts, counts_of, write_texts};
 use std::alloc::Global;
 use std::thread::Threads;
 
-/// The texts that the plan asks for: the counts, or the report with the certificate if `certify` is
-/// true.
+/// The texts that the plan asks for: the counts, or the report on the best order, with the
+/// certificate if `certify` is true.
 fn planned_texts<'a, R: Threads + Sync>(
     rt: &R,
     alloc: Global,
@@ -45,9 +45,9 @@ fn planned_texts<'a, R: Threads + Sync>(
     }
 }
 
-/// Reads a PLA file and writes the texts that the plan wants: with `count`, the level counts and
-/// the size under the file order, else the first order of the fewest nodes that keeps the pairs,
-/// beside the sifted one, and its certificate if this has a writer.
+/// Reads a PLA file and writes the texts that the plan asks for. With `count` these are the level
+/// counts and the size under the file order, else the first order of the fewest nodes that keeps
+/// the pairs, beside the sifted one, and its certificate if `cert` is a writer.
 ///
 /// The file is read to its end before anything is decided, and both texts are made whole before the
 /// first byte is written. The certificate goes out first. A count leaves the certificate's writer

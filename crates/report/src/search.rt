@@ -19,7 +19,8 @@ use std::alloc::{AllocError, Global};
 use std::thread;
 use std::thread::Threads;
 
-/// The order of one pass of sifting with its size, and the order whose size bounds the search.
+/// What sifting found: the order after one pass with its size, and in `bound` the order whose size
+/// bounds the search.
 #[derive(Drop)]
 pub(crate) struct Sifting {
     pub(crate) sifted: Order,
@@ -27,8 +28,8 @@ pub(crate) struct Sifting {
     pub(crate) bound: Sifted,
 }
 
-/// The order of one pass of sifting, and the order whose size bounds the search, which sifting goes
-/// on to from there.
+/// What sifting finds by the workers from the diagram of `manager`: the order after one pass, and
+/// from there the order whose size bounds the search.
 fn sift<R: Threads + Sync>(
     rt: &R,
     alloc: Global,
@@ -48,7 +49,7 @@ fn sift<R: Threads + Sync>(
     })
 }
 
-/// The manager, to be sifted, of the diagram under the starting order.
+/// The manager of the diagram under the starting order, ready to be sifted.
 fn manager_of(
     alloc: Global,
     instance: &SearchInput<'_>,
@@ -63,8 +64,8 @@ fn manager_of(
     Ok(manager)
 }
 
-/// Prepares the search with `size`, that of the starting order, as the bound: it is called before
-/// sifting has found one.
+/// What the search begins with. `size` is that of the starting order and serves as the bound,
+/// because sifting has found none yet.
 fn prepare_below<'a, R: Threads + Sync>(
     rt: &R,
     alloc: Global,
@@ -88,8 +89,8 @@ fn prepare_below<'a, R: Threads + Sync>(
     Ok(prepared)
 }
 
-/// Sifts and prepares the search, at the same time, or one after the other if that keeps one worker
-/// busy.
+/// What sifting finds, and what the search begins with. Both are done at the same time, or one
+/// after the other if only one worker would be busy.
 fn sift_and_prepare<'a, R: Threads + Sync>(
     rt: &R,
     alloc: Global,
@@ -109,7 +110,7 @@ fn sift_and_prepare<'a, R: Threads + Sync>(
         let sifting = sift(rt, alloc, manager, workers)?;
         return Ok((sifting, prepared));
     }
-    // `join` tells nothing of a closure that owns one value and borrows another
+    // `join` ensures nothing of a closure that owns one value and borrows another
     let sifting = move || -> Result<Sifting, AllocError>
         requires { IsSync R.row }
         ensures { IfOk result (IsSiftingOf manager) }
@@ -136,8 +137,8 @@ fn file_size_of<R: Threads + Sync>(
     Ok(total(&levels))
 }
 
-/// The result of a search: the best order, the sifted order with its size, and the size under the
-/// file order.
+/// The result of a search: the best order, the order after one pass of sifting with its size, and
+/// the size under the file order.
 #[derive(Drop)]
 pub(crate) struct Found {
     pub best: Best,
@@ -146,7 +147,8 @@ pub(crate) struct Found {
     pub file_size: u64,
 }
 
-/// The result of a search of small truth tables, by the calling thread alone.
+/// The result of a search of small truth tables, by the calling thread alone. `file_size` is the
+/// size under the file order.
 fn search_small(
     alloc: Global,
     instance: &SearchInput<'_>,
@@ -172,8 +174,8 @@ fn search_small(
     })
 }
 
-/// Searches for the first order of the fewest nodes among those that keep the pairs, with the
-/// entries of its certificate if these are wanted.
+/// The result of a search for the first order of the fewest nodes among those that keep the pairs,
+/// with the cells of its certificate if these are wanted.
 pub(crate) fn search<R: Threads + Sync>(
     rt: &R,
     alloc: Global,

@@ -8,7 +8,7 @@ use pla_reader::Cover;
 use truth_table::Tables;
 
 /// What a run searches: a cover with its truth tables, the pairs that the order has to keep,
-/// whether the entries of a certificate are wanted, and the number of workers.
+/// whether a certificate is wanted, and the workers.
 #[derive(Drop)]
 pub(crate) struct SearchInput<'a> {
     pub cover: &'a Cover,
@@ -24,7 +24,7 @@ pub(crate) struct SearchInput<'a> {
 const ENTRIES_WORTH_THREADS: usize = 1 << 14;
 
 impl SearchInput<'_> {
-    /// The workers that are kept busy before the search: one by small truth tables.
+    /// The workers that are kept busy before the search: all, or one if the truth tables are small.
     pub(crate) fn busy_workers(&self) -> Workers {
         let problem = self.tables.problem();
         let entries = usize::from(problem.outputs()) << problem.inputs();

@@ -1,4 +1,4 @@
-//! The text of a count.
+//! The report of `--count`.
 
 ghost use Rattle.std.specs.Prelude.{◌≡◌, ◌≤◌, IfOk, length, string_bytes};
 ghost use Rattle.report_texts.specs.Texts.{count_text as text_of, file_order_levels};
@@ -11,7 +11,8 @@ use std::alloc::{AllocError, Global};
 use std::thread::Threads;
 use truth_table::Tables;
 
-/// The level counts of a cover under the file order, top first, directly from the truth tables.
+/// The level counts of a cover's functions under the file order, top first, directly from the truth
+/// tables.
 fn file_order_counts<R: Threads + Sync>(
     rt: &R,
     alloc: Global,
@@ -27,7 +28,8 @@ fn file_order_counts<R: Threads + Sync>(
     Ok(counts)
 }
 
-/// The level counts and the size of a cover under the file order, as text.
+/// The report of `--count`: the level counts and the number of nodes of the cover's diagram under
+/// the file order.
 pub fn counts_of<R: Threads + Sync>(
     rt: &R,
     alloc: Global,

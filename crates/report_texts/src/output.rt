@@ -8,14 +8,17 @@ ghost use Rattle.report_texts.specs.Runs.{GetsText, Sends, failures_in, held, pa
 use counted_io::{CountedWrite, Refused, write_whole};
 use outcomes::{Fault, Outcome};
 
-/// The texts that a run writes of a cover: its report, and its certificate if one is wanted.
+/// The texts that a run writes for a cover.
 #[derive(Drop)]
 pub struct RunTexts {
+    /// The report.
     pub report: String,
+    /// The text of the certificate, if one is wanted.
     pub certificate: Option<String>,
 }
 
-/// Writes the text of a certificate, if there is one and it has a writer.
+/// Writes the text of a certificate to the writer `cert`. Nothing is written if there is no text or
+/// no writer.
 fn write_certificate<C: CountedWrite>(
     cert: &mut Option<C>,
     text: &Option<String>,
@@ -38,7 +41,8 @@ fn write_certificate<C: CountedWrite>(
     }
 }
 
-/// Writes the texts of a run: first the certificate, if it has a writer, and then the report.
+/// Writes the texts of a run: first the certificate to `cert`, if there are a certificate and a
+/// writer for it, and then the report to `out`. After a failure nothing more is written.
 pub fn write_texts<W: CountedWrite, C: CountedWrite>(
     texts: &RunTexts,
     out: &mut W,

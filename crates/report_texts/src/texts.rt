@@ -10,7 +10,7 @@ use order_model::{VarIx, total};
 use std::alloc::{AllocError, Global};
 use std::fmt::Write;
 
-/// The longest text but for names: 48 numbers of at most 10 digits and the labels.
+/// Room in bytes for a report or a count without its names: at most 51 numbers and the fixed words.
 const LONGEST: usize = 1024;
 
 /// Appends numbers, each after a space.
@@ -36,7 +36,7 @@ fn push_numbers(text: &mut String, numbers: &[u32]) -> Result<(), AllocError>
     Ok(())
 }
 
-/// Appends variables, each after a space.
+/// Appends the numbers of variables, each after a space.
 fn push_spaced_variables(text: &mut String, variables: &[VarIx]) -> Result<(), AllocError>
     ensures { OnOk result
         (string_bytes text.new ≡ string_bytes text.old ++ each_spaced variables.now) }
@@ -47,7 +47,7 @@ fn push_spaced_variables(text: &mut String, variables: &[VarIx]) -> Result<(), A
     Ok(())
 }
 
-/// Appends variables with one space between each two.
+/// Appends the numbers of variables with one space between each two.
 fn push_variables(text: &mut String, variables: &[VarIx]) -> Result<(), AllocError>
     ensures { OnOk result (string_bytes text.new ≡ string_bytes text.old ++ spaced variables.now) }
 {
@@ -59,7 +59,7 @@ fn push_variables(text: &mut String, variables: &[VarIx]) -> Result<(), AllocErr
     Ok(())
 }
 
-/// Appends the name of a variable: entry x of `names` is that of variable x.
+/// Appends the name of a variable. Entry x of `names` is the name of variable x.
 fn push_name(text: &mut String, names: &[String], variable: VarIx) -> Result<(), AllocError>
     requires { variable < length names.now }
     ensures { OnOk result
@@ -70,7 +70,8 @@ fn push_name(text: &mut String, names: &[String], variable: VarIx) -> Result<(),
     Ok(())
 }
 
-/// Appends the names of variables, each after a space.
+/// Appends the names of variables, each after a space. Entry x of `names` is the name of variable
+/// x.
 fn push_spaced_names(
     text: &mut String,
     names: &[String],
@@ -88,7 +89,8 @@ fn push_spaced_names(
     Ok(())
 }
 
-/// Appends the names of variables with one space between each two.
+/// Appends the names of variables with one space between each two. Entry x of `names` is the name
+/// of variable x.
 fn push_names(text: &mut String, names: &[String], variables: &[VarIx]) -> Result<(), AllocError>
     requires { All (λ x. x < length names.now) variables.now }
     ensures { OnOk result
@@ -103,7 +105,8 @@ fn push_names(text: &mut String, names: &[String], variables: &[VarIx]) -> Resul
     Ok(())
 }
 
-/// Appends the two lines of an order: its variables, and their names.
+/// Appends the two lines of an order: the numbers of its variables, and their names. Entry x of
+/// `names` is the name of variable x.
 fn push_order(text: &mut String, names: &[String], order: &[VarIx]) -> Result<(), AllocError>
     requires { All (λ x. x < length names.now) order.now }
     ensures { OnOk result
@@ -118,7 +121,7 @@ fn push_order(text: &mut String, names: &[String], order: &[VarIx]) -> Result<()
     Ok(())
 }
 
-/// Appends the two lines of level counts: the counts, top first, and their sum.
+/// Appends two lines: the level counts, top first, and their sum.
 fn push_counts(text: &mut String, levels: &[u32]) -> Result<(), AllocError>
     requires { length levels.now ≤ 16 }
     ensures { OnOk result
@@ -134,15 +137,22 @@ fn push_counts(text: &mut String, levels: &[u32]) -> Result<(), AllocError>
 /// What the seven lines of a report state.
 #[derive(Drop)]
 pub struct Report<'a> {
+    /// The names of the inputs: entry x is that of variable x.
     pub names: &'a [String],
+    /// The order that the run found, top first.
     pub order: &'a [VarIx],
+    /// Its level counts, top first.
     pub levels: &'a [u32],
+    /// The sifted order, top first.
     pub sifted: &'a [VarIx],
+    /// The number of nodes under the sifted order.
     pub sifted_size: u32,
+    /// The number of nodes under the file order.
     pub file_size: u64,
 }
 
-/// Appends three lines: the sifted order, its size, and the size under the file order.
+/// Appends three lines: the sifted order, the number of nodes under it, and that under the file
+/// order.
 fn push_sizes(text: &mut String, report: &Report<'_>) -> Result<(), AllocError>
     ensures { OnOk result
         (string_bytes text.new ≡ string_bytes text.old
@@ -163,7 +173,7 @@ fn push_sizes(text: &mut String, report: &Report<'_>) -> Result<(), AllocError>
     Ok(())
 }
 
-/// The two lines of a count: the level counts, top first, and their sum.
+/// The two lines of the report of `--count`: the level counts, top first, and their sum.
 pub(crate) fn count_text(alloc: Global, levels: &[u32]) -> Result<String, AllocError>
     requires { length levels.now ≤ 16 }
     ensures { IfOk result (λ text. string_bytes text ≡ counts_lines levels.now) }
@@ -182,7 +192,7 @@ fn names_room(names: &[String]) -> usize {
     room
 }
 
-/// The seven lines of a report, whose storage is reserved before its first byte is made.
+/// The seven lines of a report. Their storage is reserved before the first byte is made.
 pub fn report_text(alloc: Global, report: &Report<'_>) -> Result<String, AllocError>
     requires order { All (λ x. x < length report.now.names.now) report.now.order.now }
     requires levels { length report.now.levels.now ≤ 16 }

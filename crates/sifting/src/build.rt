@@ -38,7 +38,7 @@ fn reference(code: usize) -> Ref
     }
 }
 
-/// The refs that numbers stand for.
+/// The refs that numbers stand for: 0 and 1 are the terminals, k + 2 is the node at place k.
 fn references(alloc: Global, codes: &[usize]) -> Result<Vec<Ref>, AllocError>
     ensures { IfOk result (λ v. v.items ≡ map ref_named codes.now) }
 {
@@ -49,8 +49,8 @@ fn references(alloc: Global, codes: &[usize]) -> Result<Vec<Ref>, AllocError>
     Ok(refs)
 }
 
-/// What a ref leads to if `variable` is 0, and if it is 1: the children of a node of this variable,
-/// else the ref itself.
+/// The children of a ref, seen as a node of `variable`: the low one and the high one if it is such
+/// a node, else the ref itself twice.
 fn halves(nodes: &[Node], variable: VarIx, r: Ref) -> (Ref, Ref)
     requires { IsBefore (length nodes.now) r }
     ensures { result ≡ split_ref nodes.now variable r }
@@ -68,8 +68,10 @@ fn halves(nodes: &[Node], variable: VarIx, r: Ref) -> (Ref, Ref)
     }
 }
 
-/// Writes the nodes of a variable's level to `level`, from the cut above it. The numbers of the
-/// refs in the cut below are written to `codes`, by first occurrence.
+/// Appends to `level` a node of `variable` for each ref of `cut`, the cut above the level: the
+/// places of its low and its high child in the cut below. Appends to `codes` the numbers of the
+/// refs in the cut below, by first occurrence. Both lists are empty before; n is the number of
+/// variables.
 fn number_halves(
     n: u8,
     nodes: &[Node],
@@ -96,7 +98,9 @@ fn number_halves(
     Ok(())
 }
 
-/// The nodes of a variable's level, from the cut above it, and the cut below it.
+/// The nodes of the level of `variable`, and the cut below it. `cut` is the cut above it: the refs
+/// that paths from the roots come to when the variables above are fixed. n is the number of
+/// variables.
 fn split(
     alloc: Global,
     n: u8,
@@ -117,8 +121,8 @@ fn split(
     Ok((level, next))
 }
 
-/// Writes the place of each root in the topmost cut to `numbers`. The numbers of the refs in this
-/// cut are written to `codes`, by first occurrence.
+/// Appends to `numbers` the place of each root in the topmost cut, and to `codes` the numbers of
+/// the refs in this cut, by first occurrence. Both lists are empty before.
 fn number_roots(
     roots: &[Ref],
     codes: &mut IndexSet<usize>,
@@ -138,7 +142,8 @@ fn number_roots(
     Ok(())
 }
 
-/// The place of each root in the topmost cut, and this cut.
+/// The place of each root in the topmost cut, and this cut: the roots, each once. `size` is the
+/// number of nodes in the diagram.
 fn first_cut(alloc: Global, size: usize, roots: &[Ref]) -> Result<(Vec<u32>, Vec<Ref>), AllocError>
     requires small { size < 2 ^ 32 }
     requires few { length roots.now ≤ 16 }
@@ -163,16 +168,18 @@ fn terminal_values(alloc: Global, cut: &[Ref]) -> Result<Vec<bool>, AllocError>
     Ok(values)
 }
 
-/// A diagram by levels: the place of each root in the topmost cut, the levels, top first, and for
-/// each ref of the lowest cut whether it is the terminal 1.
+/// A diagram by levels.
 #[derive(Drop)]
 pub(crate) struct BuiltLevels {
+    /// The place of each root on the top level.
     pub(crate) roots: Vec<u32>,
+    /// The levels, top first.
     pub(crate) levels: Vec<Level>,
+    /// For each place below the lowest level, whether it is the terminal 1.
     pub(crate) terminals: Vec<bool>,
 }
 
-/// A reduced diagram by levels.
+/// A reduced diagram by levels. `order` has its variables, top first.
 pub(crate) fn levels_of(
     alloc: Global,
     order: &[VarIx],

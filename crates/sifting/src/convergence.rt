@@ -22,7 +22,7 @@ const LEAST_INPUTS: usize = 13;
 /// functions are near under all orders.
 const NEAR_PART: u32 = 64;
 
-/// Whether two sizes differ by no more than a sixty-fourth of `other`.
+/// Whether `size` and `other` differ by no more than a sixty-fourth of `other`.
 fn is_near(size: u32, other: u32) -> bool {
     size.abs_diff(other) <= other / NEAR_PART
 }
@@ -48,8 +48,8 @@ impl Manager {
 impl Sifted {
     ghost use Rattle.sifting.specs.Managed.{IsNoLarger};
 
-    /// The order that sifting again and again ends with: when a pass gains nothing, or after
-    /// `MOST_PASSES` passes.
+    /// The order that sifting ends with when it is repeated from this order until a pass gains
+    /// nothing, or for `MOST_PASSES` passes.
     fn repeat<S: Sifter>(self, sifter: &S, alloc: Global) -> Result<Sifted, AllocError>
         ensures { IfOk result (IsNoLarger self) }
     {
@@ -64,8 +64,8 @@ impl Sifted {
         Ok(sifted)
     }
 
-    /// The reversed order, as a second start of sifting. None if reversing the order changes the
-    /// size by no more than a sixty-fourth.
+    /// This order reversed as far as the pairs allow, as a second start of sifting. None if
+    /// reversing it changes the size by no more than a sixty-fourth.
     fn other_start(&self, alloc: Global) -> Result<Option<Manager>, AllocError>
         ensures { IfOk result (λ o. IfSome o (λ m. (m.problem ≡ self.now.problem)
             × (m.pairs ≡ self.now.pairs))) }
@@ -116,8 +116,9 @@ impl Sifted {
         self.sifted_to_convergence(alloc)
     }
 
-    /// The order of `search_bound`, by as many threads as there are workers, four at most: half of
-    /// them for each of the two starts.
+    /// The order whose size bounds the search, the one of `search_bound`, by as many threads as
+    /// there are workers, four at most: half of them for this order, and half for this order
+    /// reversed.
     pub fn search_bound_by_threads<R: Threads + Sync>(
         self,
         rt: &R,

@@ -14,15 +14,17 @@ use std::alloc::{AllocError, Global};
 /// A node, as the places of its low and its high child on the next level.
 pub(crate) type Children = (u32, u32);
 
-/// The nodes of a level, each once, and how many of them have two different children.
+/// A level of a diagram.
 #[derive(Debug, Drop)]
 pub(crate) struct Level {
+    /// The nodes, each once.
     pub nodes: Vec<Children>,
+    /// How many nodes have two different children.
     pub count: u32,
     pub ghost counted: { count ≡ branching nodes.items },
 }
 
-/// How many nodes have two different children: those that a reduced diagram has.
+/// How many nodes have two different children, and so are nodes of the reduced diagram.
 fn count_of(nodes: &[Children]) -> u32
     requires { length nodes.now < 2 ^ 32 }
     ensures { result ≡ branching nodes.now }
@@ -37,7 +39,7 @@ fn count_of(nodes: &[Children]) -> u32
 }
 
 impl Level {
-    /// The level of some nodes.
+    /// The level with these nodes.
     pub fn new(nodes: Vec<Children>) -> Level
         requires { length nodes.items < 2 ^ 32 }
         ensures { result.nodes ≡ nodes }
@@ -58,7 +60,7 @@ impl Level {
 }
 
 /// Two adjacent levels after the swap of their variables, the upper one first. `upper` and `lower`
-/// are their nodes before.
+/// are their nodes before. `table` numbers the new nodes of the lower level, and lends memory.
 pub(crate) fn swap_levels(
     alloc: Global,
     table: &mut NodeTable,

@@ -19,10 +19,15 @@ use std::mem;
 #[derive(Debug, Drop)]
 pub struct Manager {
     order: Order,
+    /// The place of each root on the top level.
     roots: Vec<u32>,
+    /// The levels, top first.
     levels: Vec<Level>,
+    /// For each place below the lowest level, whether it is the terminal 1.
     terminals: Vec<bool>,
+    /// The pairs that the order keeps.
     pairs: Pairs,
+    /// The table that numbers the nodes of a level while levels are swapped.
     table: NodeTable,
 }
 
@@ -93,8 +98,8 @@ impl Manager {
         })
     }
 
-    /// Whether a level may be swapped with the next one: no pair has the variable of the upper one
-    /// above that of the lower one.
+    /// Whether `level` may be swapped with the level below it: no pair requires the variable of the
+    /// upper one above that of the lower one.
     pub fn may_swap(&self, level: usize) -> bool
         requires { level + 1 < length self.now.order }
         ensures { result ≡ not
@@ -105,9 +110,9 @@ impl Manager {
         !contains(self.pairs.below(variables[level]), variables[level + 1])
     }
 
-    /// The manager after the swap of a level with the next one (Rudell 1993). The functions and all
-    /// other places stay, and the diagram is reduced again. The time is that of a step for each
-    /// node of the two levels.
+    /// The manager after the swap of `level` with the level below it (Rudell 1993). The functions
+    /// and all other places stay, and the diagram is reduced again. The time is that of a step for
+    /// each node of the two levels.
     pub fn swap(self, alloc: Global, level: usize) -> Result<Manager, AllocError>
         requires below { level + 1 < length self.order }
         requires lawful { IsFalse
@@ -131,8 +136,8 @@ impl Manager {
         Ok(manager)
     }
 
-    /// How many nodes the reduced diagram has. Each level knows its own number, so none is counted
-    /// again.
+    /// How many nodes the reduced diagram has. Each level knows its own number, so no nodes are
+    /// counted again.
     pub fn size(&self) -> u32
         ensures value { result ≡ size_of self.now }
         ensures managed { IsManagedOrder self.now }
@@ -144,7 +149,7 @@ impl Manager {
         size
     }
 
-    /// How many nodes each level has, top first; levels that the order doesn't have are given 0.
+    /// How many nodes each level has, top first. The entries past the last level are 0.
     pub fn level_counts(&self) -> [u32; 16]
         ensures counts { (i : ℕ) → i < length self.now.order →
             slice_index result i ≡ count_of self.now i }

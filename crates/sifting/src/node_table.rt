@@ -7,23 +7,29 @@ use crate::levels::{Children, Level};
 use std::alloc::{AllocError, Global};
 use std::mem;
 
-/// Nodes by first occurrence, and slots by which a node is found. A slot has a node's number,
-/// counted on from `base`; what is less is left from earlier levels, so that a new one begins
-/// without a pass over the slots. The memory of levels that are done with is used again.
+/// The nodes of a level while it is made, and a hash table that finds a node's number. The memory
+/// of earlier levels is used again.
 #[derive(Debug, Drop)]
 pub(crate) struct NodeTable {
+    /// A slot with a node has the node's number plus `base`. What is less is left from earlier
+    /// levels, so that a new level begins without a pass over the slots.
     pub slots: Vec<u32>,
+    /// The search for a node begins at this slot or an earlier one.
     pub homes: usize,
+    /// What the slots of this level add to the numbers of nodes.
     pub base: u32,
+    /// The nodes of the level so far, by first occurrence: a node's place is its number.
     pub nodes: Vec<Children>,
+    /// How many of these nodes have two different children.
     pub count: u32,
+    /// A list whose memory the next level uses.
     pub spare: Vec<Children>,
 }
 
 /// An odd number whose multiples spread over the words of 64 bits.
 const SPREAD: u64 = 11_400_714_819_323_198_485;
 
-/// The slot at which the search for a node begins: a hash of the node, at most `homes`.
+/// The slot, at most `homes`, at which the search for a node begins: a hash of the node.
 #[inline(always)]
 fn home(homes: usize, node: Children) -> usize
     requires { homes ≤ 2 ^ 32 }
@@ -35,8 +41,8 @@ fn home(homes: usize, node: Children) -> usize
     ((high * homes as u64) >> 32) as usize
 }
 
-/// The number of the node that a slot holds, if this is one of the `count` nodes of the level that
-/// is made: the slot is the number plus `base`.
+/// The number of the node in a slot with the value `slot`, which is the number plus `base`. None if
+/// the slot is free: it has none of the numbers below `count`, the number of nodes so far.
 #[inline(always)]
 fn number_in(slot: u32, base: u32, count: usize) -> Option<usize>
     ensures some { IfSome result (HasNumber base count slot) }
@@ -46,8 +52,8 @@ fn number_in(slot: u32, base: u32, count: usize) -> Option<usize>
     if number < count { Some(number) } else { None }
 }
 
-/// The number of a node, if the level has it. Else `Err` has the first free slot from `home` on,
-/// which may be the one behind all slots.
+/// The number of `node`, if `nodes` has it. Else `Err` has the first free slot from `home` on,
+/// which may be the one behind all slots. A slot with a node has its number plus `base`.
 #[inline(always)]
 fn find(
     slots: &[u32],
@@ -72,7 +78,8 @@ fn find(
     Err(slots.len())
 }
 
-/// Writes a slot. It may be the one behind all slots, which is then added.
+/// Writes the value `slot` to the slot at place `at`. It may be the one behind all slots, which is
+/// then added.
 fn set_slot(slots: &mut Vec<u32>, at: usize, slot: u32) -> Result<(), AllocError>
     requires { at ≤ length slots.old.items }
     ensures { OnOk result (IsSet slots.old.items slots.new.items at slot) }
@@ -99,13 +106,14 @@ impl NodeTable {
         }
     }
 
-    /// Keeps the memory of two levels for the next ones.
+    /// Keeps the memory of two levels that are done with for the next ones.
     pub fn reuse(&mut self, upper: Level, lower: Level) {
         self.spare = upper.nodes;
         self.nodes = lower.nodes;
     }
 
-    /// A list without nodes, with room for `most`.
+    /// A list without nodes, with room for `most`, in the memory of an earlier level if there is
+    /// one.
     pub fn spare_list(&mut self, alloc: Global, most: usize) -> Result<Vec<Children>, AllocError>
         ensures { IfOk result (λ v. v.items ≡ []) }
     {
@@ -115,7 +123,7 @@ impl NodeTable {
         Ok(list)
     }
 
-    /// Begins a level of at most `most` nodes.
+    /// Begins a level of at most `most` nodes: the table has none of them yet.
     pub fn begin(&mut self, most: usize) -> Result<(), AllocError>
         requires { 2 * most ≤ 2 ^ 32 }
         ensures table { OnOk result (IsNodeTable self.new) }
@@ -135,7 +143,7 @@ impl NodeTable {
         Ok(())
     }
 
-    /// The number of a node, which is added if it is new.
+    /// The number of a node of the level, to which it is added if it is new.
     #[inline(always)]
     pub fn number_of(&mut self, node: Children) -> Result<u32, AllocError>
         requires table { IsNodeTable self.old }
@@ -157,7 +165,7 @@ impl NodeTable {
         Ok(number)
     }
 
-    /// Takes out the level that is finished.
+    /// Takes out the level, which is finished.
     pub fn finish(&mut self, alloc: Global) -> Level
         requires table { IsNodeTable self.old }
         requires room { self.old.base + length self.old.nodes.items < 2 ^ 32 }

@@ -17,7 +17,7 @@ use std::thread::Threads;
 /// With fewer nodes moving a variable takes no longer than starting a thread.
 const LEAST_NODES: u32 = 4096;
 
-/// Moves the variable at place `from` down to place `to`.
+/// Moves the variable at place `from` down to place `to`, as the pairs allow.
 fn lower(alloc: Global, manager: Manager, from: usize, to: usize) -> Result<Manager, AllocError>
     requires within { to < length manager.order }
     requires downward { from ≤ to }
@@ -31,7 +31,8 @@ fn lower(alloc: Global, manager: Manager, from: usize, to: usize) -> Result<Mana
     Ok(manager)
 }
 
-/// The walks of the variable at place `from` up and down, by two threads.
+/// Moves the variable at place `from` up by one thread, and down by another one, each as far as the
+/// pairs allow. Returns what the way up gives, and what the way down gives.
 fn walk_both<R: Threads>(
     rt: &R,
     alloc: Global,
@@ -57,7 +58,7 @@ fn walk_both<R: Threads>(
     Ok((up?, down?))
 }
 
-/// A way to move a variable to its best place. All ways come to one order.
+/// A way to move a variable to its best place. All ways give the same order.
 pub(crate) trait Sifter {
     /// The manager with variable x moved to its uppermost place of least size, among the places
     /// that keep the pairs.
@@ -78,7 +79,9 @@ pub(crate) struct SerialSifter;
 /// Moves variables by two threads, if there are two workers or more and the diagram is large.
 #[derive(Drop)]
 pub(crate) struct ThreadedSifter<'r, R> {
+    /// The runtime that starts the threads.
     pub(crate) rt: &'r R,
+    /// How many workers there are.
     pub(crate) workers: Workers,
 }
 
@@ -105,7 +108,8 @@ impl<'r, R: Threads> Sifter for ThreadedSifter<'r, R> {
 }
 
 impl Manager {
-    /// The order that `sift` comes to, where `sifter` moves the variables.
+    /// One pass of sifting, in which `sifter` moves the variables. It gives the order that `sift`
+    /// gives.
     pub(crate) fn sift_by<S: Sifter>(self, sifter: &S, alloc: Global) -> Result<Sifted, AllocError>
         ensures order { IfOk result (λ s. s.order ≡ sifted_order self) }
         ensures functions { IfOk result (λ s. s.problem ≡ self.problem) }
@@ -120,8 +124,8 @@ impl Manager {
         Ok(Sifted::of(manager))
     }
 
-    /// The order that `sift` comes to, by two threads if there are two workers or more and the
-    /// diagram is large.
+    /// One pass of sifting, which gives the order that `sift` gives, by two threads if there are
+    /// two workers or more and the diagram is large.
     pub fn sift_by_threads<R: Threads>(
         self,
         rt: &R,

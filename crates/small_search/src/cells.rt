@@ -14,7 +14,7 @@ use crate::width_counts::Subfunctions;
 use order_model::{Mask, contains};
 use subset_layers::Cell;
 
-/// `best` if it costs no more than `next`, else `next`.
+/// The cell of lower cost: `best`, if there is one and it costs no more than `next`, else `next`.
 #[inline(always)]
 fn cheaper(best: Option<Cell>, next: Cell) -> Cell
     ensures none { best ≡ None → result ≡ next }
@@ -27,9 +27,9 @@ fn cheaper(best: Option<Cell>, next: Cell) -> Cell
     }
 }
 
-/// The least sum of cost and width over the members of a set, with the smallest member that gives
-/// it. The cost is that of the set without the member; members without which it exceeds `NO_BOUND`
-/// are left out. None if all are.
+/// The cell of a set, as if it were lawful: the least sum, over its members, of the cost of the set
+/// without the member and the member's width, and the smallest member that gives it. Members
+/// without which the cost exceeds `NO_BOUND` don't count; nothing if there is no other.
 #[inline(always)]
 fn best_cell(
     search: &SmallSearch<'_>,
@@ -63,8 +63,9 @@ fn best_cell(
     best
 }
 
-/// The cell of a set, from the cells of all smaller masks and the subfunctions over the set.
-/// `lawful` says whether the set is lawful; else its cell is clipped.
+/// The cell of a set, from the cells of all smaller masks and the subfunctions over the set. If
+/// `lawful` is false, or no member counts, its cost is above `NO_BOUND` and its variable the
+/// smallest member.
 pub(crate) fn cell_of_set(
     search: &SmallSearch<'_>,
     cells: &[Cell],

@@ -20,7 +20,7 @@ const SPREAD: u32 = 2_654_435_761;
 /// The least number of buckets for each pair: most pairs are then the first of their bucket.
 const BUCKETS_EACH: usize = 8;
 
-/// The places of the variables that each value over three variables depends on, as a mask.
+/// For each value over three variables, the places of the variables that it depends on, as a mask.
 const PLACES: [u8; 256] = [
     0, 7, 7, 6, 7, 5, 7, 7, 7, 7, 5, 7, 6, 7, 7, 4, 7, 3, 7, 7, 7, 7, 7, 7, 7, 7, 7, 7, 7, 7, 7, 7,
     7, 7, 3, 7, 7, 7, 7, 7, 7, 7, 7, 7, 7, 7, 7, 7, 6, 7, 7, 2, 7, 7, 7, 7, 7, 7, 7, 7, 6, 7, 7, 6,
@@ -42,8 +42,9 @@ fn places_of(value: u32) -> u8
     PLACES[value as usize]
 }
 
-/// The places of the variables, as a mask, that the value over four variables depends on whose
-/// halves over three are a pair. The variable that is joined has place 3.
+/// Which of its four variables a function depends on, as a mask of places. `pair` has the
+/// function's two halves, as truth tables of three variables: where the variable at place 3 is 0,
+/// and where it is 1.
 #[inline(always)]
 fn joined_places(pair: (u32, u32)) -> u8
     requires lower { pair.0 < 256 }
@@ -70,7 +71,7 @@ fn variables_of(set: Mask) -> [VarIx; 4]
     variables
 }
 
-/// The mask of variable x if `places` has the place, else the empty mask.
+/// The mask of variable x if `places` has the place `place`, else the empty mask.
 #[inline(always)]
 fn variable_at(places: u8, place: u32, x: VarIx) -> Mask
     requires place { place < 8 }
@@ -80,7 +81,8 @@ fn variable_at(places: u8, place: u32, x: VarIx) -> Mask
     Mask::from((places >> place) & 1) << x
 }
 
-/// The mask of the variables at `places`. The first variable has place 3, and the last one place 0.
+/// The mask of those of the four variables whose places are in `places`. The first variable has
+/// place 3, and the last one place 0.
 #[inline(always)]
 fn mask_of_places(variables: &[VarIx; 4], places: u8) -> Mask
     requires { AllBelow variables.now 16 }
@@ -92,8 +94,8 @@ fn mask_of_places(variables: &[VarIx; 4], places: u8) -> Mask
         | variable_at(places, 3, variables[0])
 }
 
-/// For each mask of places the mask of the variables there. The first variable has place 3, and the
-/// last one place 0.
+/// For each of the 16 masks of places, the mask of the variables at these places. The first
+/// variable has place 3, and the last one place 0.
 fn masks_by_places(variables: &[VarIx; 4]) -> [Mask; 16]
     requires { AllBelow variables.now 16 }
     ensures { (q : ℕ) → q < 16 → slice_index result q ≡ mask_at variables.now q }
@@ -105,8 +107,8 @@ fn masks_by_places(variables: &[VarIx; 4]) -> [Mask; 16]
     masks
 }
 
-/// Writes to `masks`, for each distinct pair of values, the mask of the variables that their joined
-/// value depends on.
+/// Writes to `masks`, for each distinct pair in `pairs`, the mask of those of the four variables
+/// that its function depends on. The halves of the function are the values of the pair.
 fn write_masks(
     pairs: &PairNumbers,
     variables: &[VarIx; 4],
@@ -127,8 +129,8 @@ fn write_masks(
     Ok(())
 }
 
-/// Pair `j` of the values: the value at which variable x is 0, and that at which it is 1. The set
-/// has no variable below x.
+/// Pair j of the values: the value where variable x is 0, and the one where it is 1. They stand 2^x
+/// apart, because the set has no variable below x.
 #[inline(always)]
 fn value_pair(values: &[u8], x: VarIx, j: usize) -> (u32, u32)
     requires paired { IsPaired values.now x }
@@ -140,8 +142,8 @@ fn value_pair(values: &[u8], x: VarIx, j: usize) -> (u32, u32)
     (u32::from(values[low]), u32::from(values[low + step]))
 }
 
-/// Writes the class table of a set of four variables to `to`, from the values over the set without
-/// its lowest variable x. `seen` is working memory.
+/// Writes the class table of `set`, which has four variables, to `to`. `values` are those over the
+/// set without its lowest variable x. `seen` is working memory.
 pub(crate) fn number_values(
     values: &[u8],
     x: VarIx,

@@ -11,7 +11,8 @@ use order_model::{Mask, Pairs, Problem};
 use std::alloc::{AllocError, Global};
 use std::marker::Model;
 
-/// Exceeds any cost: 16 widths of at most 2^20, and 16 nodes above.
+/// A bound that exceeds any cost: a cost is at most 16 widths of at most 2^20 each, and 16 nodes
+/// may stand above.
 pub(crate) const NO_BOUND: u32 = 1 << 25;
 
 /// The input of a search: the truth tables of some functions, packed in words of 64 points, one
@@ -38,7 +39,8 @@ impl<'a> Model for SmallSearch<'a> {
 }
 
 impl<'a> SmallSearch<'a> {
-    /// The search of the functions that the words hold. The pairs are of their variables.
+    /// The search for the functions whose packed truth tables stand in `words`, one after the
+    /// other. The pairs are of their variables.
     pub fn new(inputs: u8, outputs: u8, words: &'a [u64], pairs: &'a Pairs) -> SmallSearch<'a>
         requires packed { ArePacked inputs outputs words.now }
         requires pairs { pairs.now.inputs ≡ inputs }
@@ -73,7 +75,7 @@ impl<'a> SmallSearch<'a> {
         self.outputs
     }
 
-    /// The words of a function's truth table.
+    /// The packed truth table of the function with number `output`.
     pub(crate) fn words(&self, output: u8) -> &[u64]
         requires { output < outputs_of self.now.problem }
         ensures long { length result.now ≡ size_of self.now.problem.inputs }
@@ -82,7 +84,7 @@ impl<'a> SmallSearch<'a> {
         block(self.words, words_per_table(self.inputs), output as usize)
     }
 
-    /// Whether there are no pairs.
+    /// Whether there are no pairs to keep.
     pub(crate) fn has_no_pairs(&self) -> bool
         ensures { IsTrue result → self.now.pairs.pairs ≡ [] }
     {
@@ -99,7 +101,7 @@ impl<'a> SmallSearch<'a> {
     }
 }
 
-/// The words of a problem's truth tables.
+/// The packed truth tables of a problem's functions, one after the other.
 pub(crate) fn words_of(alloc: Global, problem: &Problem) -> Result<Vec<u64>, AllocError>
     ensures packed { IfOk result
         (λ v. ArePacked problem.now.inputs (outputs_of problem.now) v.items) }

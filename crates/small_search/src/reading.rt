@@ -10,8 +10,8 @@ use crate::instance::SmallSearch;
 use order_model::{Mask, VarIx};
 use subset_layers::Cell;
 
-/// Writes the variables that the cells give from the set of all variables downward: each cell's
-/// variable is the next one from the top.
+/// Writes to `order` the order that the cells give, from the top down: the variable in the cell of
+/// the set of all variables, then the one in the cell of the set that is left, and so on.
 fn read_variables(search: &SmallSearch<'_>, cells: &[Cell], order: &mut [VarIx])
     requires cells { AreFlatCells search.now cells.now }
     requires long { length order.old ≡ search.now.problem.inputs }
@@ -27,8 +27,8 @@ fn read_variables(search: &SmallSearch<'_>, cells: &[Cell], order: &mut [VarIx])
     }
 }
 
-/// Writes the level counts of the order that the cells give: by how much the cost falls when each
-/// variable is taken off the top.
+/// Writes to `levels` the level counts of `order`, which is the one that the cells give: by how
+/// much the cost falls when each variable is taken off the top.
 fn count_levels(search: &SmallSearch<'_>, cells: &[Cell], order: &[VarIx], levels: &mut [u32])
     requires cells { AreFlatCells search.now cells.now }
     requires read { IsReadOff search.now order.now }
@@ -48,7 +48,8 @@ fn count_levels(search: &SmallSearch<'_>, cells: &[Cell], order: &[VarIx], level
     }
 }
 
-/// Writes the order that the cells give and its level counts, and returns its size.
+/// Writes the order that the cells give to `order` and its level counts to `levels`, and returns
+/// its size.
 pub(crate) fn read_optimum(
     search: &SmallSearch<'_>,
     cells: &[Cell],

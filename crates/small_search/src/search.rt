@@ -24,13 +24,15 @@ use solutions::{AllCells, Instance, Solution, optimum_of, solution_of};
 use std::alloc::{AllocError, Global};
 use subset_layers::Cell;
 
-/// A problem of more variables has sets that a bound and symmetric variables leave out.
+/// A small problem has at most so many variables. With more of them the search by layers leaves out
+/// sets, by its bound and by symmetric variables.
 const MOST_INPUTS: u8 = 10;
 
-/// With more entries of truth tables than these the search by layers is faster.
+/// A small problem has at most so many entries of truth tables. With more of them the search by
+/// layers is faster.
 const MOST_ENTRIES: usize = 1 << 13;
 
-/// Whether a problem is small: this search is then faster than the one by layers.
+/// Whether a problem is small: the search of this crate is then faster than the one by layers.
 pub fn is_small(problem: &Problem) -> bool
     ensures { IsTrue result ↔ ((problem.now.inputs ≤ 10)
         × (outputs_of problem.now * 2 ^ problem.now.inputs ≤ 2 ^ 13)) }
@@ -38,8 +40,8 @@ pub fn is_small(problem: &Problem) -> bool
     are_few(problem.inputs(), problem.outputs())
 }
 
-/// Whether a problem of this many inputs and outputs is small: this search is then faster than the
-/// one by layers.
+/// Whether a problem of `inputs` variables and `outputs` functions is small: the search of this
+/// crate is then faster than the one by layers.
 pub fn are_few(inputs: u8, outputs: u8) -> bool
     requires inputs { inputs ≤ 16 }
     ensures { IsTrue result ↔ ((inputs ≤ 10) × (outputs * 2 ^ inputs ≤ 2 ^ 13)) }
@@ -47,7 +49,7 @@ pub fn are_few(inputs: u8, outputs: u8) -> bool
     inputs <= MOST_INPUTS && (outputs as usize) << inputs <= MOST_ENTRIES
 }
 
-/// Memory for searches of small problems. Each search uses the memory that earlier ones took.
+/// Memory for searches of small problems: each search uses again what earlier ones took.
 #[derive(Drop)]
 pub struct Workspace {
     tables: PathTables,
@@ -55,7 +57,7 @@ pub struct Workspace {
 }
 
 impl Workspace {
-    /// No memory yet.
+    /// A workspace that has no memory yet.
     pub fn new(alloc: Global) -> Result<Workspace, AllocError> {
         Ok(Workspace {
             tables: PathTables::new(alloc)?,
@@ -64,7 +66,7 @@ impl Workspace {
     }
 }
 
-/// The distinct subfunctions over a set, from the tables on the way to it.
+/// The distinct subfunctions over `set`, read from the tables on the way to it.
 #[inline(always)]
 fn subfunctions_in<'a>(
     search: &SmallSearch<'_>,
@@ -86,8 +88,9 @@ fn subfunctions_in<'a>(
     }
 }
 
-/// The cell of a set, from the cells of all smaller masks. The tables on the way to the set are
-/// made from those on the way to the set before.
+/// The cell of `set`, from the cells of all smaller masks. `tables` are those on the way to the set
+/// with the mask before, and become those on the way to this one. `all_lawful` may be true only if
+/// there are no pairs.
 #[inline(always)]
 fn next_cell(
     search: &SmallSearch<'_>,
@@ -111,7 +114,8 @@ fn next_cell(
     Ok(cell_of_set(search, cells, &subfunctions, set, lawful))
 }
 
-/// Writes the cells of all sets to `cells`, each at its set's mask.
+/// Writes the cells of all sets to `cells`, each at its set's mask, over what was there. `tables`
+/// is working memory.
 fn find_cells(
     alloc: Global,
     search: &SmallSearch<'_>,
@@ -136,9 +140,9 @@ fn find_cells(
     Ok(())
 }
 
-/// Writes the first order of the fewest nodes among those that keep the pairs, and its level
-/// counts, and returns its size. It takes a step for each entry of the tables of all sets, so it is
-/// for small problems.
+/// Writes the first order of the fewest nodes among those that keep the pairs to `order` and its
+/// level counts to `levels`, and returns its size. It takes a step for each entry of the class
+/// tables of all sets, so it is for small problems.
 pub fn write_optimum(
     alloc: Global,
     search: &SmallSearch<'_>,
@@ -173,7 +177,7 @@ fn all_cells(alloc: Global, problem: &Problem, pairs: &Pairs) -> Result<Vec<Cell
     Ok(cells)
 }
 
-/// The problem instance of a search: its bound exceeds all costs.
+/// The problem instance of a search in which nothing is pruned: its bound exceeds all costs.
 fn instance_of<'a>(problem: &'a Problem, pairs: &'a Pairs) -> Instance<'a>
     requires { pairs.now.inputs ≡ problem.now.inputs }
     ensures instance { result ≡ plain_instance problem.now pairs.now }
@@ -190,7 +194,7 @@ fn instance_of<'a>(problem: &'a Problem, pairs: &'a Pairs) -> Instance<'a>
 }
 
 /// The first order of the fewest nodes among those that keep the pairs. It takes a step for each
-/// entry of the tables of all sets, so it is for small problems.
+/// entry of the class tables of all sets, so it is for small problems.
 pub fn find_optimum(
     alloc: Global,
     problem: &Problem,
@@ -204,7 +208,8 @@ pub fn find_optimum(
     optimum_of(alloc, &AllCells::of_cells(&instance, cells))
 }
 
-/// The order of `find_optimum`, with what its certificate lists.
+/// The first order of the fewest nodes among those that keep the pairs, with what its certificate
+/// lists.
 pub fn solve(alloc: Global, problem: &Problem, pairs: &Pairs) -> Result<Solution, AllocError>
     requires { pairs.now.inputs ≡ problem.now.inputs }
     ensures { IfOk result (IsSolution problem.now pairs.now.pairs) }

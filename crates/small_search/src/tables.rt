@@ -1,6 +1,6 @@
-//! The subfunctions over the sets on the way to a set, which take its variables from the highest
-//! on: each table is made from that of the set without its lowest variable. In the order of their
-//! masks the sets come depth first, so one table a size is kept.
+//! The tables of the subfunctions over the sets on the way to a set. The way takes the variables
+//! from the highest one on, and each table is made from that of the set without its lowest
+//! variable. By rising mask the sets come depth first, so one table of each size is kept.
 
 ghost use Rattle.std.specs.Prelude.{◌≡◌, ◌+◌, ◌-◌, ◌*◌, ◌/◌, ◌^◌, ◌<◌, ◌≤◌, OnOk, length};
 ghost use Rattle.small_search.specs.Joining.{IsJoinedAt};
@@ -16,7 +16,7 @@ use order_model::{Mask, VarIx};
 use pair_buckets::{Numbered, PairNumbers, number_pairs};
 use std::alloc::{AllocError, Global};
 
-/// The most variables of a set whose subfunctions are values; those of larger sets have classes.
+/// Over at most so many variables subfunctions are kept as values, over more as class numbers.
 pub(crate) const MOST_VALUE_VARIABLES: u32 = 3;
 
 /// The tables on the way to a set, in memory that is used again for the next sets and searches.
@@ -24,15 +24,16 @@ pub(crate) const MOST_VALUE_VARIABLES: u32 = 3;
 pub(crate) struct PathTables {
     /// How many values there are over no variable.
     pub(crate) entries: usize,
-    /// The values over up to three variables, one size behind the other.
+    /// The values over 0, 1, 2 and 3 variables, one size behind the other.
     pub(crate) values: Vec<u8>,
-    /// The class tables of more variables, by their size less four.
+    /// The class tables of sets of four and more variables: at index i the one of i + 4.
     pub(crate) classes: Vec<Numbered>,
+    /// Working memory in which pairs are numbered.
     seen: PairNumbers,
 }
 
-/// The index at which the values over `size` variables begin. There are `entries` values over no
-/// variable.
+/// The index in `values` at which those over `size` variables begin. There are `entries` values
+/// over no variable.
 #[inline(always)]
 fn start_of(entries: usize, size: u32) -> usize
     requires size { size ≤ 3 }
@@ -47,7 +48,8 @@ fn start_of(entries: usize, size: u32) -> usize
     }
 }
 
-/// The values over `size` variables. There are `entries` values over no variable.
+/// The part of `values` that has those over `size` variables. There are `entries` values over no
+/// variable.
 #[inline(always)]
 pub(crate) fn values_over(values: &[u8], entries: usize, size: u32) -> &[u8]
     requires size { size ≤ 3 }
@@ -60,7 +62,9 @@ pub(crate) fn values_over(values: &[u8], entries: usize, size: u32) -> &[u8]
     own
 }
 
-/// Makes the values over `size` variables from those over one less, whose pairs differ in x.
+/// `values` has the truth tables over 0, 1, 2 and 3 variables, one size behind the other. Writes
+/// those over `size` variables: each joins two of those over `size - 1` whose assignments differ in
+/// x alone.
 #[inline(always)]
 fn make_values(values: &mut [u8], entries: usize, x: VarIx, size: u32)
     requires some { 1 ≤ size }
@@ -77,7 +81,8 @@ fn make_values(values: &mut [u8], entries: usize, x: VarIx, size: u32)
     join_values(before, x, 1 << (size - 1), own);
 }
 
-/// Makes the class table of `size` variables from that of one less, whose pairs differ in x.
+/// Writes the class table of a set of `size` variables, at index `size - 4` of `classes`. It is
+/// made from the one before, of the set without its lowest variable x. `seen` is working memory.
 #[inline(always)]
 fn make_classes(
     classes: &mut [Numbered],
@@ -96,8 +101,8 @@ fn make_classes(
     number_pairs(numbers, x, masks, seen, &mut others[0])
 }
 
-/// Adds class tables with room for `room` pairs until there is one for each size from 4 to
-/// `inputs`.
+/// Appends class tables with room for `room` pairs to `classes` until it has one for each size from
+/// 4 to `inputs`.
 fn add_tables(
     alloc: Global,
     room: usize,
@@ -114,7 +119,7 @@ fn add_tables(
 }
 
 impl PathTables {
-    /// No tables, before the first search.
+    /// The memory of path tables before the first search: it holds none.
     pub(crate) fn new(alloc: Global) -> Result<PathTables, AllocError> {
         Ok(PathTables {
             entries: 0,
@@ -124,7 +129,8 @@ impl PathTables {
         })
     }
 
-    /// Makes the table of the empty set, and room for those of the other sizes.
+    /// Makes these the tables on the way to the empty set: writes the values at all points, and
+    /// makes room for the other sizes.
     pub(crate) fn restart(
         &mut self,
         alloc: Global,
@@ -148,8 +154,8 @@ impl PathTables {
         Ok(())
     }
 
-    /// Turns the tables on the way to the set before `set`, by their masks, into those on the way
-    /// to `set`: makes one table, from that of the set without its lowest variable.
+    /// Turns the tables on the way to the set with the mask before into those on the way to `set`.
+    /// One table is made, from that of the set without its lowest variable.
     #[inline(always)]
     pub(crate) fn add_lowest(
         &mut self,

@@ -14,7 +14,7 @@ use order_model::VarIx;
 use order_model::packed::bit_of;
 use std::alloc::AllocError;
 
-/// Appends a function's values at all points, from its packed truth table.
+/// Appends a function's values at all points to `values`. `words` is its packed truth table.
 fn push_values(values: &mut Vec<u8>, words: &[u64], inputs: u8) -> Result<(), AllocError>
     requires few { inputs ≤ 16 }
     requires long { length words.now ≡ words_per_table inputs }
@@ -27,7 +27,8 @@ fn push_values(values: &mut Vec<u8>, words: &[u64], inputs: u8) -> Result<(), Al
     Ok(())
 }
 
-/// Appends the values of all functions at all points, function by function, to an empty list.
+/// Appends the values of all functions at all points, function by function, to `values`, which is
+/// empty.
 pub(crate) fn push_points(values: &mut Vec<u8>, search: &SmallSearch<'_>) -> Result<(), AllocError>
     requires { values.old.items ≡ [] }
     ensures { OnOk result (values.new.items ≡ map weight (values_of search.now.problem)) }
@@ -38,8 +39,9 @@ pub(crate) fn push_points(values: &mut Vec<u8>, search: &SmallSearch<'_>) -> Res
     Ok(())
 }
 
-/// Writes the joined value of each pair of `before` to `values`: the low value, and above its
-/// `shift` bits the high one. The pairs differ in variable x, and stand in blocks of `step`, 2^x.
+/// Writes to `values` a value for each pair of `before`: the low one in the lowest `shift` bits,
+/// and the high one above them. Values that differ in variable x alone are a pair: they stand
+/// `step`, which is 2^x, apart.
 #[inline(always)]
 fn join_blocks(before: &[u8], x: VarIx, step: usize, shift: u32, values: &mut [u8])
     requires paired { IsPaired before.now x }
@@ -58,9 +60,9 @@ fn join_blocks(before: &[u8], x: VarIx, step: usize, shift: u32, values: &mut [u
     }
 }
 
-/// Writes the joined value of each pair of `before` to `values`: the low value, and above its
-/// `shift` bits the high one. The pairs differ in variable x; the set has no variable below x.
-/// Small steps have a loop each, which is faster.
+/// Writes to `values` a value for each pair of `before`: the low one in the lowest `shift` bits,
+/// and the high one above them. Values that differ in variable x alone, 2^x apart, are a pair.
+/// Small x have a loop each, which is faster.
 pub(crate) fn join_values(before: &[u8], x: VarIx, shift: u32, values: &mut [u8])
     requires paired { IsPaired before.now x }
     requires shift { shift ≤ 4 }
@@ -76,7 +78,7 @@ pub(crate) fn join_values(before: &[u8], x: VarIx, shift: u32, values: &mut [u8]
     }
 }
 
-/// Which values occur, a bit for each, if all are below 64.
+/// Which values occur, a bit for each value. All are below 64.
 #[inline(always)]
 fn few_occurring(values: &[u8]) -> [u64; 4]
     requires { AllBelow values.now 64 }
@@ -89,7 +91,7 @@ fn few_occurring(values: &[u8]) -> [u64; 4]
     [found, 0, 0, 0]
 }
 
-/// Which values occur, a bit for each.
+/// Which values occur, a bit for each value.
 #[inline(always)]
 fn all_occurring(values: &[u8]) -> [u64; 4]
     ensures { AreOccurring values.now result }
@@ -101,7 +103,7 @@ fn all_occurring(values: &[u8]) -> [u64; 4]
     found
 }
 
-/// Which values over `size` variables occur, a bit for each.
+/// Which values over `size` variables occur in `values`, a bit for each value.
 pub(crate) fn occurring(values: &[u8], size: u32) -> [u64; 4]
     requires { size ≤ 2 → AllBelow values.now 64 }
     ensures { AreOccurring values.now result }

@@ -1,4 +1,4 @@
-//! The widths into a set, from its distinct subfunctions.
+//! The widths of a set's members over the set without them, from its distinct subfunctions.
 
 ghost use Rattle.std.specs.Prelude.{◌≡◌, ◌^◌, ◌<◌, ◌≤◌};
 ghost use Rattle.definitions.specs.Orders.{without};
@@ -14,15 +14,14 @@ use subfunction_classes::count_with;
 /// The distinct subfunctions over a set.
 #[derive(Drop)]
 pub(crate) enum Subfunctions<'a> {
-    /// Which values over up to three variables occur, a bit for each.
+    /// Over up to three variables: which values occur, a bit for each value.
     Values([u64; 4]),
-    /// What each class depends on.
+    /// Over more variables: for each class the mask of the variables that it depends on.
     Classes(&'a [Mask]),
 }
 
 /// For each place the values over three variables that depend on the variable there, a bit for each
-/// value. A value over fewer variables depends on the same places as its number does as a value
-/// over three.
+/// value. A value over fewer variables depends on the same places if it is read as one over three.
 const DEPENDENT: [[u64; 4]; 3] = [
     [
         0x6ff6ffffffff6ff6,
@@ -44,7 +43,7 @@ const DEPENDENT: [[u64; 4]; 3] = [
     ],
 ];
 
-/// The values over three variables that depend on the variable at a place, a bit for each.
+/// The values over three variables that depend on the variable at `place`, a bit for each value.
 fn dependent_values(place: u32) -> [u64; 4]
     requires { place < 3 }
     ensures { AreDependent place result }
@@ -52,7 +51,8 @@ fn dependent_values(place: u32) -> [u64; 4]
     DEPENDENT[place as usize]
 }
 
-/// How many of the values that occur depend on the variable at a place.
+/// How many of the values in `occurring`, which has a bit for each, depend on the variable at
+/// `place`.
 #[inline(always)]
 pub(crate) fn count_dependent(occurring: &[u64; 4], place: u32) -> u32
     requires { place < 3 }
@@ -68,8 +68,8 @@ pub(crate) fn count_dependent(occurring: &[u64; 4], place: u32) -> u32
 }
 
 impl<'a> Subfunctions<'a> {
-    /// How many of the subfunctions depend on x, a member of the set whose place is the number of
-    /// greater members.
+    /// How many of the subfunctions depend on x: its width over the set without it. x is a member
+    /// of the set, and `place` the number of greater members.
     #[inline(always)]
     pub(crate) fn width(&self, x: VarIx, place: u32) -> u32
         requires variable { x < 16 }

@@ -18,10 +18,12 @@ use order_model::{Mask, contains};
 use std::marker::Model;
 use subset_layers::{Cell, Costs};
 
-/// How the cells are kept: by layers, or each at its set's mask.
+/// How the cells of all sets are stored.
 #[derive(Drop)]
 enum Storage {
+    /// By layers: at index k the cells of the sets of k variables.
     Layers(Vec<Costs>),
+    /// Each at its set's mask.
     Flat(Vec<Cell>),
 }
 
@@ -44,7 +46,7 @@ impl<'a> Model for AllCells<'a> {
     ghost invariant = { λ a. HoldsCells a.instance.now a.storage };
 }
 
-/// The layer of a size.
+/// The layer of the sets of `size` variables.
 fn layer_of<'c>(instance: &Instance<'_>, layers: &'c [Costs], size: u32) -> &'c Costs
     requires layers { AreAllLayers instance.now layers.now }
     requires few { size ≤ instance.now.problem.inputs }
@@ -57,7 +59,7 @@ fn layer_of<'c>(instance: &Instance<'_>, layers: &'c [Costs], size: u32) -> &'c 
 impl<'a> AllCells<'a> {
     ghost use Rattle.solutions.specs.Bounded.{IsBounded};
 
-    /// The cells of the layers of all sets.
+    /// The cells of all sets, from the layers by rising size.
     pub fn of_layers(instance: &'a Instance<'a>, layers: Vec<Costs>) -> AllCells<'a>
         requires bounded { IsBounded instance.now }
         requires layers { AreAllLayers instance.now layers.items }
@@ -91,14 +93,14 @@ impl<'a> AllCells<'a> {
         self.instance.inputs()
     }
 
-    /// The set of the variables on which some function depends.
+    /// The set of the variables on which some function depends, as a mask.
     pub fn essential(&self) -> Mask
         ensures { result ≡ essential_mask self.now.problem.inputs (functions self.now.problem) }
     {
         self.instance.essential()
     }
 
-    /// The cost of a set.
+    /// The cost of the set `mask`.
     pub fn cost(&self, mask: Mask) -> u32
         requires { mask < 2 ^ self.now.problem.inputs }
         ensures { result ≡ cost_for self.now mask }
@@ -112,7 +114,7 @@ impl<'a> AllCells<'a> {
         }
     }
 
-    /// The cell of a set that is not empty.
+    /// The cell of the set `mask`, which is not empty.
     pub fn cell(&self, mask: Mask) -> Cell
         requires some { 0 < mask }
         requires within { mask < 2 ^ self.now.problem.inputs }
@@ -127,7 +129,7 @@ impl<'a> AllCells<'a> {
         }
     }
 
-    /// The members of a set without which the cost is within the bound.
+    /// The members of the set `mask` for which the set without the member costs at most the bound.
     fn affordable_members(&self, mask: Mask) -> Mask
         requires { mask < 2 ^ self.now.problem.inputs }
         ensures { result ≡ mask_of
@@ -143,7 +145,7 @@ impl<'a> AllCells<'a> {
         found
     }
 
-    /// The members of a set whose widths its cell takes.
+    /// The members of the set `mask` whose widths its cell takes; none if the set is not lawful.
     pub fn needed_members(&self, mask: Mask) -> Mask
         requires { mask < 2 ^ self.now.problem.inputs }
         ensures { result ≡ needed self.now mask }

@@ -9,7 +9,7 @@ use crate::all_cells::AllCells;
 use order_model::{Mask, Order, VarIx};
 use std::alloc::{AllocError, Global};
 
-/// The set of all variables.
+/// The mask of all `inputs` variables.
 pub(crate) fn all_variables(inputs: u8) -> Mask
     requires some { 1 ≤ inputs }
     requires few { inputs ≤ 16 }
@@ -18,8 +18,8 @@ pub(crate) fn all_variables(inputs: u8) -> Mask
     Mask::MAX >> (16 - inputs)
 }
 
-/// The variables that the cells give from the set of all variables downward: each cell's variable
-/// is the next one from the top.
+/// The variables of the order that the cells give, from the top down: the one in the cell of the
+/// set of all variables, then the one in the cell of the set that is left, and so on.
 fn read_variables(alloc: Global, cells: &AllCells<'_>) -> Result<Vec<VarIx>, AllocError>
     ensures { IfOk result (λ v. IsReadOff cells.now v.items) }
 {
@@ -34,7 +34,7 @@ fn read_variables(alloc: Global, cells: &AllCells<'_>) -> Result<Vec<VarIx>, All
     Ok(variables)
 }
 
-/// The order that the cells give.
+/// The order that the cells give, from the set of all variables downward.
 pub(crate) fn read_order(alloc: Global, cells: &AllCells<'_>) -> Result<Order, AllocError>
     ensures { IfOk result (λ o. IsReadOff cells.now o) }
 {
@@ -43,8 +43,8 @@ pub(crate) fn read_order(alloc: Global, cells: &AllCells<'_>) -> Result<Order, A
     Ok(Order::from_variables(variables))
 }
 
-/// The level counts of the order that the cells give: by how much the cost falls when a variable is
-/// taken off the top.
+/// The level counts of `order`, which is the one that the cells give, top first: by how much the
+/// cost falls when each variable is taken off the top.
 pub(crate) fn level_counts(
     alloc: Global,
     cells: &AllCells<'_>,

@@ -1,4 +1,5 @@
-//! What is likely of a search: it decides how the layers are searched, and not what is found.
+//! Estimates of what a search needs: they decide how the layers are searched, and not what is
+//! found.
 
 ghost use Rattle.std.specs.Prelude.{◌≤◌, length};
 
@@ -6,11 +7,12 @@ use crate::instance::Instance;
 use order_model::{Limit, LowerBound, Pairs, Problem, Workers};
 use subset_layers::{Costs, Layer};
 
-/// One in so many entries of the truth tables is a node of a diagram that is as large as most.
+/// Most diagrams have about one node for so many entries of the truth tables.
 const ENTRIES_A_NODE: u64 = 16;
 
-/// How many layers are searched together at first: all if a diagram of the functions is as large as
-/// most, since then hardly a set is clipped, else those most of whose sets are wanted.
+/// For how many layers rows are found at first: for all if the bound is no less than the size of
+/// most diagrams, because then almost no set is pruned; else for those most of whose sets are
+/// needed.
 fn first_layers(problem: &Problem, limit: Limit) -> u8 {
     let entries = u64::from(problem.outputs()) << problem.inputs();
     if u64::from(limit.bound) >= entries / ENTRIES_A_NODE {
@@ -22,9 +24,9 @@ fn first_layers(problem: &Problem, limit: Limit) -> u8 {
     }
 }
 
-/// How many layers rows are found of before a bound is known, by the size of any diagram of the
-/// functions as the bound: none if the search keeps pairs of symmetric variables in place of none,
-/// since few sets are then left.
+/// For how many layers rows are found before the bound is known; `limit.bound` is then the size of
+/// any diagram of the functions. None if `asked` has no pairs and `kept` has those of symmetric
+/// variables, because few sets are left then.
 pub fn layers_to_prepare(problem: &Problem, asked: &Pairs, kept: &Pairs, limit: Limit) -> u8 {
     if asked.count() == 0 && kept.count() > 0 {
         return 0;
@@ -32,10 +34,11 @@ pub fn layers_to_prepare(problem: &Problem, asked: &Pairs, kept: &Pairs, limit: 
     first_layers(problem, limit)
 }
 
-/// One in so many sets is asked for its cost.
+/// One in so many masks is looked at for the mean cost of a layer.
 const STEP: u32 = 7;
 
-/// The mean cost of the sets of a size, by some of them.
+/// The mean cost of the sets of `size` variables, from some of them. `costs` is their layer. A very
+/// large number if none of them has that size.
 fn mean_cost(costs: &Costs, size: usize) -> u64 {
     let mut sum = 0u64;
     let mut sets = 0u64;
@@ -55,8 +58,8 @@ fn mean_cost(costs: &Costs, size: usize) -> u64 {
     }
 }
 
-/// The likely lower bound on the nodes above a set of such a width, with so many variables
-/// outside.
+/// The likely lower bound on the nodes above a set that has `outside` variables outside, each
+/// member of width `width`.
 fn likely_above(instance: &Instance<'_>, outside: usize, width: u64) -> u64 {
     let asked = match instance.limit.lower_bound {
         LowerBound::Variables => 0,
@@ -65,8 +68,9 @@ fn likely_above(instance: &Instance<'_>, outside: usize, width: u64) -> u64 {
     asked.max(outside as u64)
 }
 
-/// The size of the largest sets that are likely to be wanted: costs rise from layer to layer by as
-/// much as they did last, and by no more than a layer's tables have entries.
+/// The size of the largest sets that are likely to be needed, from at least two layers. Costs are
+/// taken to rise from layer to layer as much as they did last, and by no more than the layer's
+/// class tables have entries.
 fn end_by_costs(instance: &Instance<'_>, done: &[Costs]) -> usize
     requires { 2 ≤ length done.now }
 {
@@ -89,7 +93,7 @@ fn end_by_costs(instance: &Instance<'_>, done: &[Costs]) -> usize
     end
 }
 
-/// The size of the largest sets that are likely to be wanted, by the layers that are done.
+/// The size of the largest sets that are likely to be needed, from the layers in `done`.
 pub fn likely_end(instance: &Instance<'_>, done: &[Costs]) -> u8
     requires { 1 ≤ length done.now }
 {
@@ -100,10 +104,10 @@ pub fn likely_end(instance: &Instance<'_>, done: &[Costs]) -> u8
     }
 }
 
-/// How many entries of truth tables are worth a thread.
+/// So many entries of truth tables are worth one more thread.
 const ENTRIES_A_WORKER: usize = 1 << 18;
 
-/// How many sets of a layer are in orders with the pairs, counted up to a number.
+/// How many sets of the layer are lawful by the pairs, counted up to `most`.
 fn count_lawful(pairs: &Pairs, layer: &Layer, most: usize) -> usize
     ensures { result ≤ most }
 {
@@ -116,8 +120,8 @@ fn count_lawful(pairs: &Pairs, layer: &Layer, most: usize) -> usize
     count
 }
 
-/// As many workers as a layer's lawful sets keep busy, at most one a block, and no more than there
-/// are.
+/// As many workers as the layer's lawful sets keep busy, by the entries of their truth tables, and
+/// no more than `workers`. At most as many sets are counted as there are blocks.
 pub fn busy_workers(instance: &Instance<'_>, layer: &Layer, workers: Workers) -> Workers
     ensures { result ≤ workers }
 {

@@ -7,13 +7,15 @@ use order_model::{Limit, LowerBounds, Mask, Pairs, Problem};
 use std::marker::Model;
 use subset_layers::Cell;
 
-/// What a search is for: the functions, the pairs that an order must keep, and what clips its
+/// What a search is for: the functions, the pairs that an order must keep, and what prunes its
 /// cells: the bound, and the lower bound on the nodes above a set.
 #[derive(Drop)]
 pub struct Instance<'a> {
     pub problem: &'a Problem,
     pub pairs: &'a Pairs,
+    /// The bound, and the rule of the lower bound.
     pub limit: Limit,
+    /// The lower bounds on the nodes above the sets, by that rule.
     pub lower_bounds: LowerBounds<'a>,
 }
 
@@ -36,7 +38,7 @@ impl<'a> Instance<'a> {
     ghost use Rattle.layer_core.specs.Pairing.{pair_of};
     ghost use Rattle.layer_core.specs.Instances.{cell_for, instance_of};
 
-    /// The pairs are of the functions' variables.
+    /// The problem instance of these functions. The pairs are of their variables.
     pub fn new(problem: &'a Problem, pairs: &'a Pairs, limit: Limit) -> Instance<'a>
         requires pairs { pairs.now.inputs ≡ problem.now.inputs }
         requires room { limit.bound + 1 < 2 ^ 32 }
@@ -75,28 +77,28 @@ impl<'a> Instance<'a> {
         self.pairs
     }
 
-    /// The bound, and the lower bound on the nodes above a set.
+    /// The bound, and the rule of the lower bound on the nodes above a set.
     pub fn limit(&self) -> Limit
         ensures { result ≡ record { bound = self.now.bound; lower_bound = self.now.lower_bound } }
     {
         self.limit
     }
 
-    /// The lower bound on the nodes above the sets.
+    /// The lower bounds on the nodes above the sets.
     pub fn lower_bounds(&self) -> &LowerBounds<'a>
         ensures { result.now ≡ lower_bounds_with self.now.problem self.now.lower_bound }
     {
         &self.lower_bounds
     }
 
-    /// The set of the variables on which some function depends.
+    /// The set of the variables on which some function depends, as a mask.
     pub fn essential(&self) -> Mask
         ensures { result ≡ essential_mask self.now.problem.inputs (functions self.now.problem) }
     {
         self.lower_bounds.essential()
     }
 
-    /// The result of a set whose cell is found.
+    /// What is posted to a board for the set `mask`: its cell.
     pub fn result(&self, mask: Mask, cell: Cell) -> CellResult
         requires { pair_of cell ≡ cell_for self.now mask }
         ensures { result ≡ record { instance = self.now; mask = mask; cell = pair_of cell } }

@@ -1,4 +1,4 @@
-//! Layers as they are made.
+//! The layers of a search: the first one, and where the cells of a layer stand.
 
 ghost use Rattle.std.specs.Prelude.{◌≡◌, IfOk, length};
 ghost use Rattle.subset_layers.specs.Layers.{layer_of, masks_of, block_masks};
@@ -10,7 +10,7 @@ use crate::instance::Instance;
 use std::alloc::{AllocError, Global};
 use subset_layers::{Block, Cell, Costs, Layer};
 
-/// The layer of the empty set.
+/// A list of one layer, that of the empty set.
 pub fn first_layer(alloc: Global, instance: &Instance<'_>) -> Result<Vec<Costs>, AllocError>
     ensures one { IfOk result (λ v. length v.items ≡ 1) }
     ensures layers { IfOk result (λ v. AreLayersFor instance.now v.items) }
@@ -20,7 +20,8 @@ pub fn first_layer(alloc: Global, instance: &Instance<'_>) -> Result<Vec<Costs>,
     Ok(layers)
 }
 
-/// Puts the cells of a block's sets at their places in the layer.
+/// Writes `found`, the cells of a block's sets, to their places in `cells`, which has those of the
+/// whole layer.
 pub fn place_cells(layer: &Layer, block: &Block, found: &[Cell], cells: &mut [Cell])
     requires layer { layer_of block.now ≡ layer.now }
     requires found { length found.now ≡ length (block_masks block.now) }

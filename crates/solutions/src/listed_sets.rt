@@ -1,4 +1,4 @@
-//! What a certificate lists of the cells, and how many widths they take.
+//! Which sets a certificate lists, and how many widths the cells take.
 
 ghost use Rattle.std.specs.Prelude.{◌≡◌, ◌<◌, ◌≤◌, ℕ, count_ones, IfOk, List};
 ghost use Rattle.definitions.specs.Functions.{Function};
@@ -11,7 +11,7 @@ use crate::all_cells::AllCells;
 use order_model::{ListedCell, Mask};
 use std::alloc::{AllocError, Global};
 
-/// How many of some variables are not in a set.
+/// How many of the variables in `essential` are not in `mask`.
 fn count_outside(essential: Mask, mask: Mask) -> u32
     ensures few { result ≤ 16 }
     ensures exact { (n : ℕ) (F : List Function) → essential ≡ essential_mask n F →
@@ -20,8 +20,9 @@ fn count_outside(essential: Mask, mask: Mask) -> u32
     (essential & !mask).count_ones()
 }
 
-/// The sets, without that of all variables, whose cost with one node for each essential variable
-/// outside is below the total.
+/// The listed sets of a certificate of size `total`, with their costs, by rising mask. A set other
+/// than that of all variables is listed if its cost, with one node for each essential variable
+/// outside, is below the total.
 pub(crate) fn listed_cells(
     alloc: Global,
     cells: &AllCells<'_>,

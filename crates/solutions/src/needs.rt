@@ -12,8 +12,9 @@ use order_model::{LowerBound, Mask, contains};
 use std::alloc::{AllocError, Global};
 use subset_layers::{Block, Costs};
 
-/// The members of a set whose widths its cell takes, by those without which the cost is within the
-/// bound: these, or all of them if the bound is by widths and there is any such.
+/// The members of the set `mask` whose widths its cell takes. `known` has those for which the set
+/// without the member costs at most the bound: with the lower bound by variables these, with that
+/// by widths all members if `known` has any.
 pub(crate) fn asked_members(lower_bound: LowerBound, mask: Mask, known: Mask) -> Mask
     ensures { (n bound : ℕ) (costs : ℕ → ℕ) →
         known ≡ mask_of (candidates n bound mask costs) → mask < 2 ^ n →
@@ -25,7 +26,8 @@ pub(crate) fn asked_members(lower_bound: LowerBound, mask: Mask, known: Mask) ->
     }
 }
 
-/// The members of a set without which the cost is within the bound.
+/// The members of the set `mask` for which the set without the member costs at most `bound`.
+/// `costs` is the layer before that of the set.
 fn affordable_members(mask: Mask, costs: &Costs, bound: u32) -> Mask
     requires { IsInNextLayer costs.now mask }
     ensures { result ≡ mask_of (affordable costs.now bound mask) }
@@ -42,7 +44,8 @@ fn affordable_members(mask: Mask, costs: &Costs, bound: u32) -> Mask
     found
 }
 
-/// The members of a set whose widths its cell takes, by the costs of the layer before.
+/// The members of the set `mask` whose widths its cell takes; none if the set is not lawful.
+/// `before` has the costs of the layer before.
 fn needed_members(instance: &Instance<'_>, before: &Costs, mask: Mask) -> Mask
     requires next { IsInNextLayer before.now mask }
     requires inputs { before.now.inputs ≡ instance.now.problem.inputs }
@@ -57,7 +60,8 @@ fn needed_members(instance: &Instance<'_>, before: &Costs, mask: Mask) -> Mask
     }
 }
 
-/// For each set of a block of the next layer, the members whose widths its cell takes.
+/// For each set of the block, the mask of the members whose widths its cell takes. `before` has the
+/// costs of the layer before that of the block.
 pub fn needs_of_block(
     alloc: Global,
     instance: &Instance<'_>,

@@ -27,8 +27,9 @@ pub fn optimum_of(alloc: Global, cells: &AllCells<'_>) -> Result<SizedOrder, All
     })
 }
 
-/// The order of `optimum_of`, with what its certificate lists. For that the cells count on one node
-/// above a set for each essential variable outside, and no more.
+/// The first order of the fewest nodes among those that keep the pairs, and what its certificate
+/// lists. The lower bound of the cells is that by variables: one node above a set for each
+/// essential variable outside.
 pub fn solution_of(alloc: Global, cells: &AllCells<'_>) -> Result<Solution, AllocError>
     requires { cells.now.lower_bound ≡ Variables }
     ensures solution { IfOk result (IsSolution cells.now.problem cells.now.pairs.pairs) }

@@ -7,7 +7,7 @@ use order_model::{ListedCell, SizedOrder};
 pub struct Solution {
     pub optimum: SizedOrder,
     /// The lawful sets, without that of all variables, whose least cost with one node for each
-    /// essential variable outside is below the total, by rising mask.
+    /// essential variable outside is below the order's size, by rising mask.
     pub cells: Vec<ListedCell>,
     /// How many widths the cells of all sets take.
     pub widths: u64,

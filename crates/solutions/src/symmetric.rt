@@ -10,7 +10,7 @@ use crate::symmetric_words::is_symmetric_in;
 use order_model::{Pairs, Problem, VarIx};
 use std::alloc::{AllocError, Global};
 
-/// Whether all functions are symmetric in two variables.
+/// Whether all functions are symmetric in a and b.
 fn are_symmetric(problem: &Problem, a: VarIx, b: VarIx) -> bool
     requires first { a < b }
     requires inside { b < problem.now.inputs }
@@ -24,7 +24,7 @@ fn are_symmetric(problem: &Problem, a: VarIx, b: VarIx) -> bool
     true
 }
 
-/// The next variable after one with which it may be exchanged.
+/// The next variable after a with which it may be exchanged: all functions are symmetric in both.
 fn next_symmetric(problem: &Problem, a: VarIx) -> Option<VarIx>
     requires few { problem.now.inputs ≤ 16 }
     requires inside { a < problem.now.inputs }
@@ -38,7 +38,7 @@ fn next_symmetric(problem: &Problem, a: VarIx) -> Option<VarIx>
     None
 }
 
-/// Each variable with the next one with which it may be exchanged.
+/// For each variable the pair with the next larger one with which it may be exchanged.
 fn symmetric_pairs(alloc: Global, problem: &Problem) -> Result<Pairs, AllocError>
     ensures inputs { IfOk result (λ p. p.inputs ≡ problem.now.inputs) }
     ensures pairs { IfOk result
@@ -57,8 +57,8 @@ fn symmetric_pairs(alloc: Global, problem: &Problem) -> Result<Pairs, AllocError
     }
 }
 
-/// The pairs that a search keeps: those that are asked for, or, if none is, those of symmetric
-/// variables.
+/// The pairs that a search keeps: those in `asked`, or, if there are none, pairs of variables in
+/// which all functions are symmetric.
 pub fn pairs_to_keep(alloc: Global, problem: &Problem, asked: &Pairs) -> Result<Pairs, AllocError>
     requires { asked.now.inputs ≡ problem.now.inputs }
     ensures inputs { IfOk result (λ p. p.inputs ≡ problem.now.inputs) }

@@ -7,8 +7,8 @@ ghost use Rattle.definitions.specs.Problems.{packed_bit, words_per_table};
 use order_model::VarIx;
 use order_model::packed::lower_half;
 
-/// Whether a word has different bits at some two places that differ in which of two variables below
-/// 6 is 1.
+/// Whether a word has different bits at two points that differ in which of a and b is 1. Both
+/// variables are below 6.
 #[inline(always)]
 fn changes_inside(word: u64, a: VarIx, b: VarIx) -> bool
     requires first { a < b }
@@ -22,8 +22,8 @@ fn changes_inside(word: u64, a: VarIx, b: VarIx) -> bool
     ((word >> apart) ^ word) & with_a != 0
 }
 
-/// Whether two words differ at some two places of which the first one has a variable below 6 that
-/// the second one lacks.
+/// Whether at some point where a is 1 `lower` has another bit than `upper` has where a is 0
+/// instead. The variable a is below 6.
 #[inline(always)]
 fn changes_across(lower: u64, upper: u64, a: VarIx) -> bool
     requires { a < 6 }
@@ -33,7 +33,7 @@ fn changes_across(lower: u64, upper: u64, a: VarIx) -> bool
     ((lower >> (1u32 << a)) ^ upper) & lower_half(a) != 0
 }
 
-/// Both variables below 6: within each word.
+/// Whether a function is symmetric in a and b, both below 6: points are compared within each word.
 fn is_symmetric_inside(words: &[u64], a: VarIx, b: VarIx) -> bool
     requires first { a < b }
     requires low { b < 6 }
@@ -50,7 +50,8 @@ fn is_symmetric_inside(words: &[u64], a: VarIx, b: VarIx) -> bool
     true
 }
 
-/// One variable below 6, and bit `s` of a word's place: between two words.
+/// Whether a function is symmetric in a, which is below 6, and variable s + 6, which is bit s of a
+/// word's place: points are compared between two words.
 fn is_symmetric_across(words: &[u64], a: VarIx, s: u8) -> bool
     requires few { length words.now ≤ 1024 }
     requires low { a < 6 }
@@ -70,7 +71,8 @@ fn is_symmetric_across(words: &[u64], a: VarIx, s: u8) -> bool
     true
 }
 
-/// Bits `r` and `s` of a word's place: whole words.
+/// Whether a function is symmetric in the variables r + 6 and s + 6, which are bits r and s of a
+/// word's place: whole words are compared.
 fn is_symmetric_between(words: &[u64], r: u8, s: u8) -> bool
     requires few { length words.now ≤ 1024 }
     requires first { r < s }
@@ -90,8 +92,8 @@ fn is_symmetric_between(words: &[u64], r: u8, s: u8) -> bool
     true
 }
 
-/// Whether a function has equal values at each two points that differ in which of two variables
-/// is 1.
+/// Whether a function is symmetric in a and b: equal at each two points that differ in which of
+/// them is 1. `words` is its packed truth table.
 pub(crate) fn is_symmetric_in(words: &[u64], inputs: u8, a: VarIx, b: VarIx) -> bool
     requires few { inputs ≤ 16 }
     requires long { length words.now ≡ words_per_table inputs }

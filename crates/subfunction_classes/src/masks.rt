@@ -1,4 +1,4 @@
-//! The masks of classes: the variables that a class's functions depend on.
+//! The masks of classes: the variables that a class's subfunctions depend on.
 
 ghost use Rattle.std.specs.Prelude.{◌≡◌, ◌^◌, ◌<◌, ◌≤◌, ◌==◌, length};
 ghost use Rattle.std.specs.Int.{bit_at};
@@ -7,8 +7,8 @@ ghost use Rattle.subfunction_classes.specs.Dependence.{joined_mask};
 
 use definitions::{Mask, VarIx, contains};
 
-/// The mask of a pair of classes, the function that is the lower class if x is 0 and the upper one
-/// if x is 1: the masks of both, and x if they differ.
+/// The mask of the function that is the first class of `pair` if x is 0 and the second one if x is
+/// 1: the masks of both, and x if they differ. `masks` has those of the classes.
 #[inline(always)]
 pub fn join_mask(masks: &[Mask], x: VarIx, pair: (u32, u32)) -> Mask
     requires variable { x < 16 }

@@ -16,7 +16,8 @@ fn number_of_value(value: bool, first: bool) -> u32
     if value == first { 0 } else { 1 }
 }
 
-/// Appends the class numbers of a function's values, from its packed truth table.
+/// Appends to `numbers` the class numbers of a function's values: 0 for the value `first`, and 1
+/// for the other one. `words` is the function's packed truth table.
 fn push_values(
     numbers: &mut Vec<u32>,
     words: &[u64],
@@ -35,7 +36,8 @@ fn push_values(
     Ok(())
 }
 
-/// The class numbers of all values of a problem: 0 for the first value, and 1 for the other one.
+/// The class numbers of all values of a problem, function by function: 0 for the first value, and 1
+/// for the other one.
 pub fn value_numbers(alloc: Global, problem: &Problem) -> Result<Vec<u32>, AllocError>
     ensures numbers { IfOk result
         (λ v. v.items ≡ map (number (value_at problem.now 0 0)) (values_of problem.now)) }
@@ -53,14 +55,15 @@ pub fn value_numbers(alloc: Global, problem: &Problem) -> Result<Vec<u32>, Alloc
     Ok(numbers)
 }
 
-/// Whether both class numbers, 0 and 1, occur.
+/// Whether the class number 1 occurs, besides 0.
 fn has_both(numbers: &[u32]) -> bool
     ensures { result ≡ list_any (λ k. nat_eq k 1) numbers.now }
 {
     numbers.iter().any(|number| *number == 1)
 }
 
-/// The masks of the classes of the values in `numbers`, which depend on no variable.
+/// The masks of the classes of the values: one class or two, as `numbers` has them, which depend on
+/// no variable.
 pub fn no_dependence(alloc: Global, numbers: &[u32]) -> Result<Vec<Mask>, AllocError>
     ensures long { IfOk result (λ v. length v.items ≡ class_count numbers.now) }
     ensures zeros { IfOk result (λ v. (c : ℕ) → slice_index v.items c ≡ 0) }

@@ -13,18 +13,21 @@ use order_model::{Mask, VarIx};
 use std::alloc::{AllocError, Global};
 use std::marker::Model;
 
-/// What is kept of a set that is not empty: its least cost, and the variable on top that gives it.
-/// A clipped cell has one more than the bound as its cost, and the smallest member.
+/// What is found for a set that is not empty: its least cost, and the smallest variable that gives
+/// it on top. If the set is pruned, the cost is the bound plus 1, and the variable the smallest
+/// member.
 #[derive(Clone, Copy, Debug, PartialEq, Eq)]
 pub struct Cell {
     pub cost: u32,
     pub variable: VarIx,
 }
 
-/// A finished layer: its sets and their cells. Of the empty set there is a cost and no cell.
+/// A finished layer: its sets and their cells. The layer of the empty set has a cost, 0, and no
+/// cell.
 #[derive(Drop)]
 pub struct Costs {
     layer: Layer,
+    /// The cell of each set, in the layer's order.
     cells: Vec<Cell>,
 }
 
@@ -41,7 +44,7 @@ impl Model for Costs {
 impl Costs {
     ghost use Rattle.subset_layers.specs.Costs.{start_costs, costs_with, layer_of_costs, cell_at, cost_at, as_pair, AreTrueCosts, AreTrueCells};
 
-    /// The layer of the empty set.
+    /// The finished layer of the empty set, with the cost 0, for a problem of `inputs` variables.
     pub fn start(alloc: Global, inputs: u8) -> Result<Costs, AllocError>
         requires { inputs ≤ 16 }
         ensures value { IfOk result (λ c. c ≡ start_costs inputs) }
@@ -56,7 +59,7 @@ impl Costs {
         })
     }
 
-    /// A layer with a cell for each of its sets, in its order.
+    /// A finished layer, with a cell for each of its sets, in the layer's order.
     pub fn of(layer: Layer, cells: Vec<Cell>) -> Costs
         requires inputs { layer.inputs ≤ 16 }
         requires size { 0 < layer.size }
@@ -69,7 +72,7 @@ impl Costs {
         Costs { layer, cells }
     }
 
-    /// How many variables the sets are of.
+    /// The number n of the problem's variables: all masks are below 2^n.
     pub fn inputs(&self) -> u8
         ensures value { result ≡ self.now.inputs }
         ensures few { result ≤ 16 }

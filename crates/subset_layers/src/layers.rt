@@ -9,16 +9,18 @@ use order_model::Mask;
 use std::alloc::{AllocError, Global};
 use std::marker::Model;
 
-/// How many low bytes there are: the values of the variables 0 to 7.
+/// How many low bytes masks may have: one for each set of the variables 0 to 7.
 const LOW_BYTES: usize = 256;
 
-/// The sets of one size of some variables, as masks in rising order, and in blocks by their low
-/// bytes.
+/// The sets of `size` of the variables below `inputs`, as masks in rising order. A block of the
+/// layer is the sets whose masks have one low byte.
 #[derive(Drop)]
 pub struct Layer {
     inputs: u8,
     size: u8,
+    /// The masks, rising.
     masks: Selection,
+    /// The low bytes of the masks, each once, rising.
     lows: Selection,
 }
 
@@ -33,13 +35,16 @@ impl Model for Layer {
         (layer_with l.inputs l.size) l.masks.numbers.items l.lows.numbers.items };
 }
 
-/// The sets of a layer that agree in the variables 0 to 7, as masks in rising order.
+/// The sets of a layer whose masks have one low byte: they agree in the variables 0 to 7.
 #[derive(Drop)]
 pub struct Block {
     inputs: u8,
     size: u8,
+    /// The low byte of all masks.
     low: u8,
+    /// How many masks there are.
     count: usize,
+    /// The masks, rising, in the first `count` entries.
     masks: [u16; 256],
 }
 
@@ -56,7 +61,7 @@ impl Model for Block {
         × (b.low < 2 ^ b.inputs) };
 }
 
-/// For each mask of `inputs` variables, whether it has `size` members.
+/// For each mask below 2^`inputs`, whether it has `size` members.
 fn size_flags(alloc: Global, inputs: u8, size: u8) -> Result<Vec<bool>, AllocError>
     requires { inputs ≤ 16 }
     ensures { IfOk result
@@ -70,7 +75,7 @@ fn size_flags(alloc: Global, inputs: u8, size: u8) -> Result<Vec<bool>, AllocErr
     Ok(flags)
 }
 
-/// For each number below `limit`, whether it is the low byte of some mask.
+/// For each number below `limit`, which is 256, whether it is the low byte of one of the masks.
 fn low_flags(alloc: Global, masks: &[u16], limit: usize) -> Result<Vec<bool>, AllocError>
     requires { limit ≡ 256 }
     ensures { IfOk result
@@ -92,7 +97,7 @@ fn no_masks() -> [u16; 256] {
 impl Layer {
     ghost use Rattle.subset_layers.specs.Layers.{layer_with, masks_of, blocks_of, block_place};
 
-    /// The layer of the sets of `size` variables of `inputs`.
+    /// The layer of the sets of `size` of the variables below `inputs`.
     pub fn of(alloc: Global, inputs: u8, size: u8) -> Result<Layer, AllocError>
         requires { inputs ≤ 16 }
         ensures { IfOk result (λ l. l ≡ layer_with inputs size) }
@@ -122,21 +127,21 @@ impl Layer {
         })
     }
 
-    /// How many variables the sets are of.
+    /// The number n of the problem's variables: all masks are below 2^n.
     pub fn inputs(&self) -> u8
         ensures { result ≡ self.now.inputs }
     {
         self.inputs
     }
 
-    /// How many variables each set has.
+    /// How many members each set has.
     pub fn size(&self) -> u8
         ensures { result ≡ self.now.size }
     {
         self.size
     }
 
-    /// The number of masks.
+    /// How many sets the layer has.
     pub fn len(&self) -> usize
         ensures { result ≡ length (masks_of self.now) }
     {
@@ -151,7 +156,7 @@ impl Layer {
         self.masks.numbers[i]
     }
 
-    /// The place of a mask in the layer.
+    /// The place of a mask in the layer. None if the layer doesn't have it.
     pub fn position(&self, mask: Mask) -> Option<usize>
         ensures found { IfSome result (λ i. slice_get (masks_of self.now) i ≡ Some mask) }
         ensures none { IsNone result ↔ IsFalse (has (masks_of self.now) mask) }
@@ -166,7 +171,7 @@ impl Layer {
         self.lows.numbers.len()
     }
 
-    /// The place of the block that has the mask at place `i` of the layer.
+    /// The place, among the blocks, of the block that has the mask at place `i` of the layer.
     pub fn block_place(&self, i: usize) -> usize
         requires { i < length (masks_of self.now) }
         ensures place { result ≡ block_place self.now i }
@@ -176,7 +181,7 @@ impl Layer {
         self.lows.places[low as usize] as usize
     }
 
-    /// The block at place `i`, by rising low byte.
+    /// The block at place `i`. Blocks are arranged by rising low byte.
     pub fn block(&self, i: usize) -> Block
         requires { i < length (blocks_of self.now) }
         ensures { slice_get (blocks_of self.now) i ≡ Some result }
@@ -188,7 +193,8 @@ impl Layer {
 impl Block {
     ghost use Rattle.subset_layers.specs.Layers.{block_of, block_masks};
 
-    /// The block of the sets of `size` of `inputs` variables whose masks have the low byte `low`.
+    /// The block of the sets of `size` of the variables below `inputs` whose masks have the low
+    /// byte `low`.
     fn with_low(inputs: u8, size: u8, low: u16) -> Block
         requires inputs { inputs ≤ 16 }
         requires low { low < 256 }
@@ -214,14 +220,14 @@ impl Block {
         }
     }
 
-    /// How many variables the sets are of.
+    /// The number n of the problem's variables: all masks are below 2^n.
     pub fn inputs(&self) -> u8
         ensures { result ≡ self.now.inputs }
     {
         self.inputs
     }
 
-    /// The low byte of each mask.
+    /// The low byte that all masks of the block have.
     pub fn low(&self) -> u8
         ensures value { result ≡ self.now.low }
         ensures below { result < 2 ^ self.now.inputs }
@@ -229,7 +235,7 @@ impl Block {
         self.low
     }
 
-    /// The number of masks.
+    /// How many masks the block has.
     pub fn len(&self) -> usize
         ensures value { result ≡ length (block_masks self.now) }
         ensures few { result ≤ 256 }

@@ -11,14 +11,14 @@ ghost use Rattle.subset_layers.specs.Sums.{IsBest};
 use crate::costs::{Cell, Costs};
 use order_model::{LowerBounds, Mask, Pairs, VarIx, WidthRow, contains};
 
-/// A sum of cost and width, and the variable that gives it.
+/// The cost of a set without its member `variable` plus this member's width.
 #[derive(Clone, Copy)]
 struct Sum {
     sum: u64,
     variable: VarIx,
 }
 
-/// `best` if its sum is no larger than that of `next`, else `next`.
+/// `best` if there is one and its sum is no larger than that of `next`, else `next`.
 fn smaller(best: Option<Sum>, next: Sum) -> Sum
     ensures none { best ≡ None → result ≡ next }
     ensures some { IfSome best
@@ -30,9 +30,9 @@ fn smaller(best: Option<Sum>, next: Sum) -> Sum
     }
 }
 
-/// The least sum of cost and width over the members of a set, with the smallest member that gives
-/// it. `below[x]` is the cost of the set without x. Members for which this exceeds the bound are
-/// left out; None if all are.
+/// The least sum `below[x] + widths[x]` over the members x of a set, with the smallest x that gives
+/// it. `below[x]` is the cost of the set without x, and `widths[x]` the width of x. Members with
+/// `below[x]` above the bound are left out; None if all are.
 fn best_sum(mask: Mask, inputs: u8, below: &[u32; 16], widths: &WidthRow, bound: u32) -> Option<Sum>
     requires { inputs ≤ 16 }
     ensures best { IfSome result
@@ -54,7 +54,7 @@ fn best_sum(mask: Mask, inputs: u8, below: &[u32; 16], widths: &WidthRow, bound:
     best
 }
 
-/// The cell of a set that is pruned: one more than the bound as the cost, and the smallest member.
+/// The cell of a pruned set: its cost is the bound plus 1, and its variable the smallest member.
 fn clipped_cell(mask: Mask, bound: u32) -> Cell
     requires some { 0 < mask }
     requires room { bound + 1 < 2 ^ 32 }
@@ -66,8 +66,10 @@ fn clipped_cell(mask: Mask, bound: u32) -> Cell
     }
 }
 
-/// The cell of a lawful set: the least sum of cost and width with its variable. It is clipped if
-/// the sum and the lower bound on the nodes above exceed the bound, or if there is no sum.
+/// The cell of a lawful set that isn't empty: the least sum `below[x] + widths[x]` over its
+/// members, and the smallest x that gives it, where `below[x]` is the cost of the set without x,
+/// and `widths[x]` the width of x. The set is pruned if the sum plus the lower bound on the nodes
+/// above, or each `below[x]`, exceeds the bound.
 fn lawful_cell(
     mask: Mask,
     inputs: u8,
@@ -102,8 +104,8 @@ fn lawful_cell(
 }
 
 /// The cell of a set that is not empty. `below[x]` is the cost of the set without its member x.
-/// `widths` needs the widths of the members for which this is within the bound, or of all members
-/// if the lower bound is by widths; the other widths may be anything.
+/// `widths` must have the widths of the members for which this is at most the bound, or of all
+/// members if the lower bound is by widths; its other entries may be anything.
 pub fn cell_from(
     mask: Mask,
     below: &[u32; 16],
@@ -127,7 +129,8 @@ pub fn cell_from(
     }
 }
 
-/// For each member x of a set the cost of the set without x, at index x.
+/// Entry x: the cost of the set `mask` without its member x. `costs` has the sets with one variable
+/// less. The entries of other variables are 0.
 fn costs_below(mask: Mask, costs: &Costs) -> [u32; 16]
     requires { IsTrue (has (masks_of (layer_with costs.now.inputs (costs.now.size + 1))) mask) }
     ensures { (x : ℕ) → IsTrue (has (members costs.now.inputs mask) x) →
@@ -143,9 +146,9 @@ fn costs_below(mask: Mask, costs: &Costs) -> [u32; 16]
     below
 }
 
-/// The cell of a set with one member more than those of `costs`. `widths` needs the widths of the
-/// members for which the cost of the set without them is within the bound, or of all members if the
-/// lower bound is by widths; the other widths may be anything.
+/// The cell of a set with one member more than those of `costs`. `widths` must have the widths of
+/// the members for which the cost of the set without them is at most the bound, or of all members
+/// if the lower bound is by widths; its other entries may be anything.
 pub fn least_cell(
     mask: Mask,
     costs: &Costs,

@@ -5,10 +5,12 @@ ghost use Rattle.std.specs.Prelude.{◌≡◌, ℕ, ◌<◌, ◌≤◌, ◌≢�
 
 use std::alloc::{AllocError, Global};
 
-/// Chosen numbers, rising, and at each of them in `places` its place among them.
+/// Chosen numbers below a limit, with a table that finds the place of each.
 #[derive(Drop)]
 pub(crate) struct Selection {
+    /// The chosen numbers, rising.
     pub numbers: Vec<u16>,
+    /// Entry k: the place of k in `numbers`, if k is chosen.
     pub places: Vec<u16>,
     ghost placed: { ArePlaced numbers.items places.items },
 }
@@ -16,7 +18,7 @@ pub(crate) struct Selection {
 impl Selection {
     ghost use Rattle.subset_layers.specs.Selections.{chosen};
 
-    /// The numbers whose flag is true.
+    /// The numbers k for which `flags[k]` is true.
     pub fn of(alloc: Global, flags: &[bool]) -> Result<Selection, AllocError>
         requires { length flags.now ≤ 2 ^ 16 }
         ensures { IfOk result (λ s. s.numbers.items ≡ chosen flags.now) }
@@ -42,7 +44,7 @@ impl Selection {
         })
     }
 
-    /// The place of a number among those chosen.
+    /// The place of a number among those chosen. None if it isn't chosen.
     pub fn position(&self, number: u16) -> Option<usize>
         ensures found { IfSome result (λ i. slice_get self.now.numbers.items i ≡ Some number) }
         ensures none { IsNone result → (i : ℕ) → i < length self.now.numbers.items →

@@ -13,7 +13,8 @@ use order_model::{Mask, Pairs, Problem, VarIx, contains};
 use std::alloc::{AllocError, Global};
 use std::marker::Model;
 
-/// Variables that are exchanged in pairs, and the image of each set.
+/// An exchange of variables in pairs: the partner of each variable, which may be itself, and the
+/// image of each set.
 #[derive(Drop)]
 pub struct Exchange {
     partners: Vec<VarIx>,
@@ -31,7 +32,8 @@ impl Model for Exchange {
 impl Exchange {
     ghost use Rattle.definitions.specs.Problems.{TruthTables};
 
-    /// The exchange with such partners, if they are one.
+    /// The exchange with these partners. Nothing if they aren't one for each of the `inputs`
+    /// variables, or if a variable isn't its partner's partner.
     pub(crate) fn of(
         alloc: Global,
         inputs: u8,
@@ -49,7 +51,8 @@ impl Exchange {
         Ok(Some(Exchange { partners, images }))
     }
 
-    /// The exchange, if it changes no function, by their values at each point.
+    /// The exchange with these partners, if it changes no function. `points` has the values of all
+    /// functions at each point, as one number. Nothing if the partners are no exchange.
     fn if_alike(
         alloc: Global,
         inputs: u8,
@@ -70,14 +73,14 @@ impl Exchange {
         Ok(Some(exchange))
     }
 
-    /// Each variable's partner.
+    /// The partner of each variable.
     pub fn partners(&self) -> &[VarIx]
         ensures { result.now ≡ self.now.partners }
     {
         &self.partners
     }
 
-    /// The image of each set.
+    /// The image of each set: the partners of its variables.
     pub fn images(&self) -> &[Mask]
         ensures { result.now ≡ self.now.images }
     {
@@ -85,15 +88,16 @@ impl Exchange {
     }
 }
 
-/// A representative of each variable's group: the variables that exchanges, or pairs that orders
-/// keep, relate.
+/// Groups of variables, each with a representative. Variables that exchanges, or pairs that orders
+/// keep, relate are in one group.
 #[derive(Clone, Copy)]
 struct Groups {
+    /// For each variable the representative of its group.
     representative: [VarIx; 16],
 }
 
 impl Groups {
-    /// The groups of variables that pairs relate.
+    /// The groups of variables that the pairs relate.
     fn of(pairs: &Pairs) -> Groups {
         let mut groups = Groups {
             representative: [0, 1, 2, 3, 4, 5, 6, 7, 8, 9, 10, 11, 12, 13, 14, 15],
@@ -109,7 +113,7 @@ impl Groups {
         groups
     }
 
-    /// Makes the groups of two variables one.
+    /// Makes the groups of x and y one.
     fn join(&mut self, x: VarIx, y: VarIx)
         requires first { x < 16 }
         requires second { y < 16 }
@@ -133,7 +137,7 @@ impl Groups {
         }
     }
 
-    /// Whether two variables are in two groups.
+    /// Whether x and y are in two groups.
     fn are_apart(&self, x: VarIx, y: VarIx) -> bool
         requires first { x < 16 }
         requires second { y < 16 }
@@ -141,7 +145,7 @@ impl Groups {
         self.representative[x as usize] != self.representative[y as usize]
     }
 
-    /// Whether some two variables of equal marks are in two groups.
+    /// Whether two of the `inputs` variables that have equal marks are in two groups.
     fn have_equal_marks(&self, inputs: u8, marks: &[u32; 16]) -> bool
         requires { inputs ≤ 16 }
     {
@@ -159,7 +163,8 @@ impl Groups {
 /// How many exchanges that change a function are tried before the search for exchanges ends.
 const MOST_FAILURES: u8 = 8;
 
-/// What the search for exchanges goes by.
+/// A search for exchanges: the values of all functions by points, the marks of the variables, their
+/// groups so far, and how many exchanges changed a function.
 #[derive(Drop)]
 struct Search<'a> {
     problem: &'a Problem,
@@ -172,7 +177,7 @@ struct Search<'a> {
 }
 
 impl<'a> Search<'a> {
-    /// No variables are tried.
+    /// A search that has tried no exchange yet. Variables in one of `groups` count as exchanged.
     fn new(alloc: Global, problem: &'a Problem, groups: Groups) -> Result<Search<'a>, AllocError>
         ensures { IfOk result (λ s. s.problem.now ≡ problem.now) }
     {
@@ -187,9 +192,9 @@ impl<'a> Search<'a> {
         })
     }
 
-    /// An exchange of two variables of different groups, if one is found: the groups of all
-    /// partners are then joined. An exchange that changes a function is a failure; after
-    /// `MOST_FAILURES` nothing more is tried.
+    /// An exchange of x with y under which no function changes, if they are in two groups and one
+    /// is found. The groups of all partners are then joined. After `MOST_FAILURES` exchanges that
+    /// change a function nothing more is tried.
     fn exchange_of(
         &mut self,
         alloc: Global,
@@ -219,13 +224,13 @@ impl<'a> Search<'a> {
     }
 }
 
-/// Exchanges of variables under which no function changes, for any two variables that may be
-/// exchanged one that leads from one to the other, alone or by several. Each variable is tried with
-/// near smaller ones first: sets without a greater image are then few. Variables that the pairs
-/// relate are taken to be exchanged already. Some exchanges may be missed.
+/// Exchanges of variables under which no function changes. They are to lead, alone or by several,
+/// from each variable to any other that it may be exchanged with; some may be missed. Variables
+/// that the pairs relate count as exchanged.
 ///
-/// At most n - 1 exchanges of n variables are found, and at most 8 that fail are tried, each in a
-/// step a point. If no two variables have equal marks, only the ones of the functions are counted.
+/// At most n - 1 exchanges of n variables are found, and after `MOST_FAILURES` that fail the search
+/// ends. Each takes a step a point. If no two variables have equal quick marks none is tried. Each
+/// variable is tried with near smaller ones first: sets without a greater image are then few.
 pub fn exchanges_of(
     alloc: Global,
     problem: &Problem,

@@ -1,4 +1,4 @@
-//! Variables exchanged in pairs, and what they leave as it is.
+//! Exchanges of variables in pairs: which lists of partners are one, and the images of sets.
 
 ghost use Rattle.std.specs.Prelude.{◌≡◌, ℕ, ◌++◌, ◌<◌, ◌≤◌, ◌^◌, bit_or, map, length, slice_index, IfOk, OnOk, IsTrue};
 ghost use Rattle.symmetries.specs.Exchanges.{IsExchange};
@@ -7,7 +7,8 @@ ghost use Rattle.symmetries.specs.Images.{AreImages};
 use order_model::{Mask, VarIx};
 use std::alloc::{AllocError, Global};
 
-/// Whether each variable has a partner, whose partner it is.
+/// Whether `partners` has one of the `inputs` variables for each of them, and each is its partner's
+/// partner.
 pub(crate) fn is_exchange(inputs: u8, partners: &[VarIx]) -> bool
     ensures { IsTrue result → IsExchange inputs partners.now }
 {
@@ -23,7 +24,8 @@ pub(crate) fn is_exchange(inputs: u8, partners: &[VarIx]) -> bool
     true
 }
 
-/// Adds the images of the sets with one more variable, which has this partner.
+/// Appends the images of the sets that have the next variable. `images` has those of the sets
+/// without it, and `partner` is its partner.
 fn add_variable(images: &mut Vec<Mask>, partner: VarIx) -> Result<(), AllocError>
     requires partner { partner < 16 }
     ensures { OnOk result
@@ -37,7 +39,7 @@ fn add_variable(images: &mut Vec<Mask>, partner: VarIx) -> Result<(), AllocError
     Ok(())
 }
 
-/// The image of each set: the partners of its variables.
+/// The image of each set of the `inputs` variables: the partners of its variables.
 pub(crate) fn images_of(
     alloc: Global,
     inputs: u8,
@@ -55,7 +57,7 @@ pub(crate) fn images_of(
     Ok(images)
 }
 
-/// Whether all values are those of the images.
+/// Whether each point has the same value as its image.
 pub(crate) fn are_alike(values: &[u16], images: &[Mask]) -> bool
     requires long { length images.now ≡ length values.now }
     requires inside { (p : ℕ) → p < length images.now →

@@ -9,8 +9,8 @@ ghost use Rattle.definitions.specs.Widths.{width};
 ghost use Rattle.symmetries.specs.Exchanges.{AreSymmetric, IsExchange};
 ghost use Rattle.symmetries.specs.SymmetricPairs.{AreSymmetricPairs};
 
-/// The width of a variable's partner over the partners of a set is at most that of the variable
-/// over the set.
+/// Under an exchange that changes no function, the width of a variable's partner over the image of
+/// a set is at most that of the variable over the set.
 pub fn exchanges_keep_widths()
     ensures { (n : ℕ) (F : List Function) (partners : List ℕ) → IsExchange n partners →
         AreSymmetric n F partners → (S T : List ℕ) (x : ℕ) → x < n →
@@ -18,8 +18,8 @@ pub fn exchanges_keep_widths()
         width n F T (slice_index partners x) ≤ width n F S x }
 {}
 
-/// Of two symmetric variables the first order of the fewest nodes has the smaller one above the
-/// larger one: the first order among those that do so is the first of all.
+/// Let pairs of symmetric variables have the smaller one first. The first order of the fewest nodes
+/// among those that keep these pairs is the first one of the fewest nodes among all orders.
 pub fn symmetric_pairs_may_be_kept()
     ensures { (n : ℕ) (F : List Function) (P : List Pair) (order : List ℕ) →
         AreSymmetricPairs n F P → IsFirstKeeping n F P order → IsFirst n F order }

@@ -4,7 +4,7 @@
 
 pub mod laws;
 
-// Exchanges of variables: a guess by marks, and the test of it on all points.
+// Exchanges of variables: found by marks, and tested on all points.
 mod exchanges;
 mod images;
 mod marks;

@@ -10,7 +10,7 @@ use std::alloc::{AllocError, Global};
 /// An odd number whose multiples spread over the words of 32 bits.
 const SPREAD: u32 = 0x9E37_79B1;
 
-/// At how many points of a truth table both the function and a variable are 1.
+/// At how many points both variable x and the function with the packed truth table `words` are 1.
 fn ones_with(words: &[u64], x: VarIx) -> u32
     requires { x < 16 }
 {
@@ -30,7 +30,7 @@ fn ones_with(words: &[u64], x: VarIx) -> u32
     count
 }
 
-/// Of each variable a mark that takes little time: a hash of the numbers of points at which each
+/// For each variable a mark that takes little time: a hash of the numbers of points at which each
 /// function and the variable are 1.
 pub(crate) fn quick_marks(problem: &Problem) -> [u32; 16] {
     let mut marks = [0u32; 16];
@@ -44,13 +44,13 @@ pub(crate) fn quick_marks(problem: &Problem) -> [u32; 16] {
     marks
 }
 
-/// A number for the values at a point.
+/// A hash of the functions' values at one point.
 fn hash_of(values: u16) -> u32 {
     let product = (u32::from(values) + 1).wrapping_mul(SPREAD);
     product ^ (product >> 15)
 }
 
-/// A number for the values at each point.
+/// For each point a hash of the functions' values there.
 fn hashes_of(alloc: Global, points: &[u16]) -> Result<Vec<u32>, AllocError>
     ensures { IfOk result (λ v. length v.items ≡ length points.entry.now) }
 {
@@ -61,7 +61,8 @@ fn hashes_of(alloc: Global, points: &[u16]) -> Result<Vec<u32>, AllocError>
     Ok(hashes)
 }
 
-/// Adds the upper half of the sums to the lower one. Returns the sum of the upper one.
+/// Adds each of the `half` sums from index `half` on to the one `half` before it. Returns the sum
+/// of those that were added.
 fn fold_upper(sums: &mut [u32], half: usize) -> u32
     requires { half + half ≤ length sums.old }
     ensures { length sums.new ≡ length sums.old }
@@ -75,7 +76,7 @@ fn fold_upper(sums: &mut [u32], half: usize) -> u32
     total
 }
 
-/// Copies the upper half of some sums.
+/// Copies the `half` sums from index `half` on to the front of `upper`.
 fn copy_upper(sums: &[u32], half: usize, upper: &mut [u32])
     requires sums { half + half ≤ length sums.now }
     requires room { half ≤ length upper.old }
@@ -86,8 +87,8 @@ fn copy_upper(sums: &[u32], half: usize, upper: &mut [u32])
     }
 }
 
-/// The marks of a variable with those below it, from sums over the points at which it is 1. The
-/// sums are folded away.
+/// For each variable y below x the sum over the points at which both are 1. `sums` has a sum for
+/// each assignment of the variables below x, over the points at which x is 1; it is overwritten.
 fn marks_below(sums: &mut [u32], x: VarIx) -> [u32; 16]
     requires variable { x < 16 }
     requires sums { 2 ^ x ≤ length sums.old }
@@ -100,16 +101,19 @@ fn marks_below(sums: &mut [u32], x: VarIx) -> [u32; 16]
     marks
 }
 
-/// For each two variables a sum over the points at which both are 1, and for each variable one over
-/// those at which it is 1.
+/// Marks of variables, sums of hashes of points: for each two variables over the points at which
+/// both are 1, and for each variable over those at which it is 1.
 #[derive(Drop)]
 pub(crate) struct Marks {
+    /// For each variable the sum over the points at which it is 1.
     own: [u32; 16],
+    /// For each variable, and each smaller one, the sum over the points at which both are 1.
     below: [[u32; 16]; 16],
 }
 
 impl Marks {
-    /// The marks of functions whose values at each point are one number.
+    /// The marks of `inputs` variables. `points` has the values of all functions at each point, as
+    /// one number.
     pub(crate) fn of(alloc: Global, inputs: u8, points: &[u16]) -> Result<Marks, AllocError>
         requires few { inputs ≤ 16 }
         requires points { length points.now ≡ 2 ^ inputs }
@@ -127,7 +131,7 @@ impl Marks {
         Ok(Marks { own, below })
     }
 
-    /// The mark of two variables, or of one with itself.
+    /// The mark of x and y, or of x alone if they are equal.
     pub(crate) fn of_pair(&self, x: VarIx, y: VarIx) -> u32
         requires first { x < 16 }
         requires second { y < 16 }

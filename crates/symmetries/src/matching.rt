@@ -6,18 +6,20 @@ ghost use Rattle.std.specs.Prelude.{◌≡◌, ◌<◌, ◌≤◌, ℕ, IfSome, 
 use crate::marks::Marks;
 use order_model::{Mask, VarIx, contains};
 
-/// Which variables have a partner so far, and the partner of each variable.
+/// Partners of variables, as far as they were found.
 #[derive(Clone, Copy)]
 struct Matching {
     inputs: u8,
+    /// The variables that have a partner.
     placed: Mask,
+    /// The partner of each variable that has one.
     of: [VarIx; 16],
     ghost few: { inputs ≤ 16 },
     ghost variables: { (x : ℕ) → x < 16 → slice_index of x < 16 },
 }
 
 impl Matching {
-    /// No variable has one.
+    /// The matching of `inputs` variables in which none has a partner.
     fn none(inputs: u8) -> Matching
         requires { inputs ≤ 16 }
     {
@@ -28,7 +30,7 @@ impl Matching {
         }
     }
 
-    /// Makes two variables partners.
+    /// Makes x and y partners.
     fn place(&mut self, x: VarIx, y: VarIx)
         requires first { x < 16 }
         requires second { y < 16 }
@@ -38,8 +40,8 @@ impl Matching {
         self.placed |= 1 << x | 1 << y;
     }
 
-    /// Whether two variables have equal marks, also with each variable that has a partner and that
-    /// partner.
+    /// Whether x and y have equal marks, and so have, for each variable z with a partner, x with z
+    /// and y with z's partner.
     fn keep_marks(&self, marks: &Marks, x: VarIx, y: VarIx) -> bool
         requires first { x < 16 }
         requires second { y < 16 }
@@ -56,7 +58,7 @@ impl Matching {
         true
     }
 
-    /// The partners that a variable may have.
+    /// The variables without a partner, as a mask, that x may have as partner by the marks.
     fn candidates(&self, marks: &Marks, x: VarIx) -> Mask
         requires { x < 16 }
     {
@@ -69,8 +71,8 @@ impl Matching {
         found
     }
 
-    /// The variable without a partner that has the fewest candidates, and these; nothing if each
-    /// has a partner.
+    /// The variable without a partner that has the fewest candidates, and the mask of these;
+    /// nothing if each variable has a partner.
     fn next(&self, marks: &Marks) -> Option<(VarIx, Mask)>
         ensures { IfSome result (λ r. r.0 < 16) }
     {
@@ -89,7 +91,8 @@ impl Matching {
     }
 }
 
-/// The candidate that a variable gets: itself if it may stay, else the smallest.
+/// The partner that x gets among the candidates: x itself if it is one, else the smallest; nothing
+/// if there is no candidate.
 fn chosen(x: VarIx, candidates: Mask) -> Option<VarIx>
     requires { x < 16 }
     ensures { IfSome result (λ y. y < 16) }
@@ -103,8 +106,8 @@ fn chosen(x: VarIx, candidates: Mask) -> Option<VarIx>
     Some(candidates.trailing_zeros() as VarIx)
 }
 
-/// Each variable's partner where two variables are exchanged, as marks have it: the variable with
-/// the fewest candidates gets its partner first.
+/// Each variable's partner in an exchange of x with y, as the marks suggest: the variable with the
+/// fewest candidates gets its partner first. Nothing if a variable finds no partner.
 pub(crate) fn partners_of(marks: &Marks, inputs: u8, x: VarIx, y: VarIx) -> Option<[VarIx; 16]>
     requires few { inputs ≤ 16 }
     requires first { x < 16 }

@@ -1,4 +1,4 @@
-//! Sets that exchanges take to one another, by which one row of widths serves all of them.
+//! Orbits: sets that exchanges take to one another, so that one row of widths serves all of them.
 
 ghost use Rattle.std.specs.Prelude.{◌≡◌, ◌<◌, ◌≤◌, ◌^◌, ℕ, All, IfOk, IfSome, OnOk, length, slice_index};
 ghost use Rattle.definitions.specs.Problems.{TruthTables};
@@ -9,10 +9,12 @@ use order_model::{Mask, Pairs, Problem, VarIx};
 use std::alloc::{AllocError, Global};
 use std::marker::Model;
 
-/// No more steps are followed from a set; a longer way costs only time.
+/// How many steps are followed from a set. A longer way to the first set of its orbit isn't
+/// followed to its end, which costs time alone.
 const MOST_STEPS: u8 = 64;
 
-/// The most exchanges that are used; each that is found makes two groups of variables one.
+/// The most exchanges that are used. It leaves none out: at most 15 are found, because each makes
+/// two groups of the variables one.
 const MOST_EXCHANGES: usize = 16;
 
 /// Where exchanges take a set, and where they take each variable.
@@ -22,7 +24,7 @@ pub struct Image {
     pub variables: [VarIx; 16],
 }
 
-/// Each variable, at its number.
+/// The list in which each variable stands at its number.
 fn own_variables() -> [VarIx; 16]
     ensures { (x : ℕ) → x < 16 → slice_index result x ≡ x }
 {
@@ -33,7 +35,7 @@ fn own_variables() -> [VarIx; 16]
     variables
 }
 
-/// The partner of a variable; 0 past the last one.
+/// The partner of x in `partners`; 0 if the list has none for it.
 fn partner_of(partners: &[VarIx], x: VarIx) -> VarIx
     ensures { x < length partners.now → result ≡ slice_index partners.now x }
 {
@@ -43,7 +45,7 @@ fn partner_of(partners: &[VarIx], x: VarIx) -> VarIx
     }
 }
 
-/// The partners of variables.
+/// The partner of each of `variables`.
 fn moved(variables: &[VarIx; 16], partners: &[VarIx]) -> [VarIx; 16]
     ensures { (x : ℕ) → x < 16 → slice_index variables.now x < length partners.now →
         slice_index result x ≡ slice_index partners.now (slice_index variables.now x) }
@@ -56,7 +58,7 @@ fn moved(variables: &[VarIx; 16], partners: &[VarIx]) -> [VarIx; 16]
 }
 
 impl Image {
-    /// The set itself.
+    /// The image under no exchange: the set itself, and each variable itself.
     pub(crate) fn of(set: Mask) -> Image
         ensures set { result.set ≡ set }
         ensures own { (x : ℕ) → x < 16 → slice_index result.variables x ≡ x }
@@ -69,7 +71,7 @@ impl Image {
         }
     }
 
-    /// The image after one exchange more, if that has one of it.
+    /// Where `exchange` takes this image. An image that is no set of the exchange stays as it is.
     pub(crate) fn after(self, exchange: &Exchange) -> Image
         ensures { self.set < length exchange.now.images →
             IsAfter exchange.now self.set self.variables result.set result.variables }
@@ -85,15 +87,17 @@ impl Image {
 }
 
 /// For each set by which exchange it was reached from a set nearer to the first one of its orbit.
-/// Any answer is right: it leads to a set that some exchanges take to this one, or to none.
+/// Any answer is right: the exchange leads to another set of the orbit.
 #[derive(Drop)]
 struct Steps {
+    /// For each set the number of that exchange; none if it was not reached by one.
     of: Vec<Option<u8>>,
+    /// For each set whether it was seen.
     seen: Vec<bool>,
 }
 
 impl Steps {
-    /// No set of n variables is reached.
+    /// The steps before any set of `inputs` variables is reached.
     fn none(alloc: Global, inputs: u8) -> Result<Steps, AllocError>
         requires { inputs ≤ 16 }
     {
@@ -104,7 +108,7 @@ impl Steps {
         })
     }
 
-    /// Notes that a set is seen. Returns whether it was not before.
+    /// Marks a set as seen. Returns whether it was not seen before.
     fn see(&mut self, set: Mask) -> bool {
         match self.seen.get_mut(usize::from(set)) {
             Some(seen) if !*seen => {
@@ -115,7 +119,8 @@ impl Steps {
         }
     }
 
-    /// Reaches the sets to which an exchange takes some set, if they are lawful.
+    /// Reaches the lawful sets to which exchanges take `set`, unless they were seen: notes by which
+    /// exchange, and appends them to `reached`.
     fn step_from(
         &mut self,
         set: Mask,
@@ -138,7 +143,7 @@ impl Steps {
         Ok(())
     }
 
-    /// Reaches the orbit of a set, from set to set.
+    /// Reaches the sets of the orbit of `first`, from set to set. `reached` is working memory.
     fn reach_from(
         &mut self,
         first: Mask,
@@ -157,7 +162,8 @@ impl Steps {
         Ok(())
     }
 
-    /// Reaches the orbits of the sets with a high byte that are not reached yet.
+    /// Reaches the orbits of the lawful sets with the high byte `high` that were not seen yet.
+    /// `reached` is working memory.
     fn reach_all(
         &mut self,
         high: u8,
@@ -174,8 +180,8 @@ impl Steps {
         Ok(())
     }
 
-    /// The steps to all sets that are lawful, each from the first of its orbit:
-    /// that with the fewest high variables, of these the one with the smallest mask.
+    /// For each lawful set by which exchange it was reached; none for the first set of an orbit.
+    /// That is the one with the fewest high variables, and of these the one with the smallest mask.
     fn of(
         alloc: Global,
         inputs: u8,
@@ -197,8 +203,8 @@ impl Steps {
     }
 }
 
-/// Exchanges under which no function of a problem changes, and for each set by which of them it
-/// comes nearer to the first set of its orbit.
+/// Exchanges under which no function of a problem changes, and for each set the number of the one
+/// that takes it nearer to the first set of its orbit.
 #[derive(Drop)]
 pub struct Orbits<'a> {
     problem: &'a Problem,
@@ -219,8 +225,8 @@ impl<'a> Model for Orbits<'a> {
 }
 
 impl<'a> Orbits<'a> {
-    /// The orbits of the sets that are lawful by some pairs; nothing if no variables are found
-    /// that may be exchanged.
+    /// The orbits of the sets that are lawful by the pairs. Nothing if no variables are found that
+    /// may be exchanged.
     pub fn of(
         alloc: Global,
         problem: &'a Problem,
@@ -240,7 +246,8 @@ impl<'a> Orbits<'a> {
         }))
     }
 
-    /// The exchange by which a set comes nearer to the first set of its orbit.
+    /// The exchange that takes a set nearer to the first set of its orbit; nothing if the set is
+    /// that one, or not lawful.
     fn step(&self, set: Mask) -> Option<&Exchange>
         ensures { IfSome result (λ e. IsExchangeOf self.now e.now) }
     {
@@ -255,7 +262,8 @@ impl<'a> Orbits<'a> {
         self.step(set).is_none()
     }
 
-    /// Where exchanges take a set: to the first set of its orbit, if some steps lead there.
+    /// Where exchanges take a set and its variables: to the first set of its orbit, if at most
+    /// `MOST_STEPS` steps lead there.
     pub fn first_of(&self, set: Mask) -> Image
         requires { set < 2 ^ self.now.inputs }
         ensures { KeepsWidths self.now set result.set result.variables }
@@ -264,8 +272,8 @@ impl<'a> Orbits<'a> {
         self.first_from(Image::of(set))
     }
 
-    /// Where exchanges take the image of a set: to the first set of its orbit, if some steps lead
-    /// there.
+    /// Where exchanges take the image `from`: to the first set of its orbit, if at most
+    /// `MOST_STEPS` steps lead there.
     pub fn first_from(&self, from: Image) -> Image
         ensures { (p : TruthTables) (S : ℕ) → p.inputs ≤ 16 →
             TakesWidths p self.now S from.set from.variables →

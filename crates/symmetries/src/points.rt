@@ -9,7 +9,8 @@ use order_model::Problem;
 use order_model::packed::bit_of;
 use std::alloc::{AllocError, Global};
 
-/// Appends the values of one more function, as the lowest bits.
+/// Appends a function's value at each point to the number of that point in `values`, as its lowest
+/// bit. `words` is the function's packed truth table, and `before` the number of bits so far.
 fn append_bits(values: &mut Vec<u16>, words: &[u64], before: u8)
     requires few { before < 16 }
     requires long { length values.old.items ≤ 64 * length words.now }
@@ -24,7 +25,7 @@ fn append_bits(values: &mut Vec<u16>, words: &[u64], before: u8)
     }
 }
 
-/// The values of all functions at each point, as one number.
+/// The values of all functions at each point, as one number with a bit for each function.
 pub(crate) fn values_by_point(alloc: Global, problem: &Problem) -> Result<Vec<u16>, AllocError>
     ensures long { IfOk result (λ v. length v.items ≡ 2 ^ problem.now.inputs) }
     ensures labels { IfOk result (λ v. TellValues problem.now v.items) }

@@ -1,4 +1,4 @@
-//! Problems with variables exchanged in pairs, so that other variables are the lowest ones.
+//! Renamings: problems with variables exchanged in pairs, so that other variables are the lowest.
 
 ghost use Rattle.std.specs.Prelude.{◌≡◌, ◌≢◌, ◌<◌, ◌≤◌, ◌^◌, ℕ, IfOk, IfSome, false, length, slice_index};
 ghost use Rattle.definitions.specs.Problems.{TruthTables, outputs_of, table_at, value_at};
@@ -26,7 +26,8 @@ impl Model for Renamed {
     ghost view = { λ r. record { problem = r.problem; exchange = r.exchange } };
 }
 
-/// Gives a function the values of a problem's at the images of points.
+/// Writes the function number `output` of `renamed`: its value at a point is that of the same
+/// function of `problem` at the point's image. The function is 0 everywhere before.
 fn set_values(renamed: &mut Problem, problem: &Problem, images: &[Mask], output: u8)
     requires inputs { renamed.old.inputs ≡ problem.now.inputs }
     requires outputs { outputs_of renamed.old ≡ outputs_of problem.now }
@@ -50,7 +51,8 @@ fn set_values(renamed: &mut Problem, problem: &Problem, images: &[Mask], output:
     }
 }
 
-/// The problem whose functions have the values at the images of points.
+/// The problem whose functions have at each point the values that those of `problem` have at the
+/// point's image.
 fn renamed_problem(alloc: Global, problem: &Problem, images: &[Mask]) -> Result<Problem, AllocError>
     requires long { length images.now ≡ 2 ^ problem.now.inputs }
     requires inside { (k : ℕ) → k < 2 ^ problem.now.inputs →
@@ -68,8 +70,8 @@ fn renamed_problem(alloc: Global, problem: &Problem, images: &[Mask]) -> Result<
     Ok(renamed)
 }
 
-/// The partners by which the members of a set that are not among the lowest variables change
-/// places with the lowest variables outside it.
+/// The partners by which the members of `set` become the lowest variables: each member that is too
+/// high is exchanged with a low variable outside the set, and all others stay.
 fn partners_to_lower(inputs: u8, set: Mask) -> [VarIx; 16]
     requires { inputs ≤ 16 }
 {
@@ -90,7 +92,7 @@ fn partners_to_lower(inputs: u8, set: Mask) -> [VarIx; 16]
 }
 
 impl Renamed {
-    /// The problem in which the members of a set are the lowest variables.
+    /// The problem with variables exchanged so that the members of `set` are the lowest ones.
     fn of(alloc: Global, problem: &Problem, set: Mask) -> Result<Option<Renamed>, AllocError>
         ensures { IfOk result (λ r. IfSome r (IsRenamed problem.now)) }
     {
@@ -106,7 +108,7 @@ impl Renamed {
         }))
     }
 
-    /// Where the exchange takes a set.
+    /// Where the exchange takes a set and its variables.
     fn image_of(&self, set: Mask) -> Image
         ensures { (p : TruthTables) → p.inputs ≤ 16 → IsRenamed p self.now → set < 2 ^ p.inputs →
             TakesWidths p self.now.problem set result.set result.variables }
@@ -135,7 +137,7 @@ impl<'a> Model for Renaming<'a> {
 }
 
 impl<'a> Renaming<'a> {
-    /// No variables are exchanged.
+    /// The renaming that exchanges no variables.
     pub fn none(problem: &'a Problem) -> Renaming<'a>
         ensures problem { result.problem ≡ problem.now }
         ensures own { renamed_of result.problem result.renamed ≡ problem.now }
@@ -146,7 +148,8 @@ impl<'a> Renaming<'a> {
         }
     }
 
-    /// Makes the members of a set the lowest variables, each in exchange for one of these.
+    /// The renaming that makes the members of `set` the lowest variables, each in exchange for one
+    /// of these.
     pub fn to_lowest(
         alloc: Global,
         problem: &'a Problem,
@@ -160,7 +163,7 @@ impl<'a> Renaming<'a> {
         })
     }
 
-    /// The problem as it was.
+    /// The problem with its own variables.
     pub fn problem(&self) -> &'a Problem
         ensures { result.now ≡ self.now.problem }
     {
@@ -172,7 +175,7 @@ impl<'a> Renaming<'a> {
         self.renamed.is_some()
     }
 
-    /// The problem with exchanged variables, if any were exchanged.
+    /// The problem with exchanged variables, or the problem itself if none were exchanged.
     pub fn renamed(&self) -> &Problem
         ensures { result.now ≡ renamed_of self.now.problem self.now.renamed }
     {
@@ -182,7 +185,7 @@ impl<'a> Renaming<'a> {
         }
     }
 
-    /// Where a set goes, in the problem with exchanged variables.
+    /// Where the renaming takes a set and its variables, in the problem with exchanged variables.
     pub fn image_of(&self, set: Mask) -> Image
         requires { set < 2 ^ self.now.problem.inputs }
         ensures { TakesWidths self.now.problem (renamed_of self.now.problem self.now.renamed) set
@@ -195,8 +198,8 @@ impl<'a> Renaming<'a> {
         }
     }
 
-    /// Pairs that orders keep, of the variables with which theirs were exchanged; none if these
-    /// cannot be kept.
+    /// The pairs with each variable replaced by the one with which it was exchanged; no pairs if no
+    /// order keeps those.
     pub fn pairs(&self, alloc: Global, pairs: &Pairs) -> Result<Pairs, AllocError> {
         let Some(renamed) = &self.renamed else {
             return Ok(pairs.copied());

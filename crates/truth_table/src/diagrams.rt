@@ -10,7 +10,7 @@ use crate::tables::Tables;
 use order_model::{Diagram, Order, Ref};
 use std::alloc::{AllocError, Global};
 
-/// The refs that numbers stand for.
+/// The refs that numbers stand for: 0 and 1 are the terminals, k + 2 is the node at place k.
 fn refs_of(alloc: Global, numbers: &[u32]) -> Result<Vec<Ref>, AllocError>
     ensures { IfOk result (λ v. v.items ≡ map ref_named numbers.now) }
 {
@@ -21,9 +21,8 @@ fn refs_of(alloc: Global, numbers: &[u32]) -> Result<Vec<Ref>, AllocError>
     Ok(refs)
 }
 
-/// The reduced diagram of the functions of some truth tables under an order. The nodes of a level
-/// are the distinct pairs of unequal refs of the level below; the time is that of a step for each
-/// output and point.
+/// The reduced diagram of the functions of some truth tables under an order, made level by level
+/// from the bottom. The time is that of a step for each output and point.
 pub fn reduced_diagram(alloc: Global, tables: &Tables, order: &Order) -> Result<Diagram, AllocError>
     requires { length order.now ≡ tables.now.inputs }
     ensures diagram { IfOk result

@@ -4,7 +4,7 @@ ghost use Rattle.std.specs.Prelude.{◌≡◌, ◌<◌, ℕ, bit_and, length, sl
 
 use std::alloc::{AllocError, Global};
 
-/// Each word with the bits of `mask` alone.
+/// The words with all bits outside `mask` set to 0.
 pub(crate) fn kept_points(alloc: Global, words: &[u64], mask: u64) -> Result<Vec<u64>, AllocError>
     ensures long { IfOk result (λ v. length v.items ≡ length words.now) }
     ensures words { IfOk result

@@ -11,15 +11,17 @@ use order_model::VarIx;
 use order_model::packed::bit_of;
 use std::alloc::{AllocError, Global};
 
-/// The numbers of pairs by first occurrence, and how many distinct pairs have two unequal parts.
+/// Pairs of class numbers, numbered by first occurrence.
 #[derive(Debug, Drop)]
 pub(crate) struct Merged {
+    /// The number of each pair, in the order of the pairs.
     pub(crate) numbers: Vec<u32>,
+    /// How many distinct pairs have two unequal parts.
     pub(crate) unequal: u32,
 }
 
-/// The classes of the level above a level: the classes at the places 2j and 2j + 1 form pair j, and
-/// pairs are numbered by first occurrence.
+/// The class numbers one level higher: entries 2j and 2j + 1 of `classes` form pair j, and pairs
+/// are numbered by first occurrence.
 pub(crate) fn merge(alloc: Global, classes: &[u32]) -> Result<Merged, AllocError>
     requires few { length classes.now < 2 ^ 32 }
     ensures numbers { IfOk result (λ r. IsNumbering (pairs_of classes.now) r.numbers.items) }
@@ -41,7 +43,7 @@ pub(crate) fn merge(alloc: Global, classes: &[u32]) -> Result<Merged, AllocError
     Ok(Merged { numbers, unequal })
 }
 
-/// Appends each point of a list once more, with variable x set to 1.
+/// Appends to `points` each of its points once more, with variable x set to 1.
 fn push_upper(points: &mut Vec<u32>, x: VarIx) -> Result<(), AllocError>
     requires { x < 16 }
     ensures { OnOk result
@@ -69,7 +71,7 @@ pub(crate) fn assignment_points(alloc: Global, variables: &[VarIx]) -> Result<Ve
     Ok(points)
 }
 
-/// Appends the values of a packed truth table at given points, as 0 and 1.
+/// Appends to `values` the values of the packed truth table `words` at `points`, as 0 and 1.
 pub(crate) fn push_values(
     values: &mut Vec<u32>,
     words: &[u64],

@@ -19,10 +19,9 @@ pub(crate) fn ref_of(number: u32) -> Ref
     }
 }
 
-/// The number of the ref to a node of variable x with the children `low` and `high`, which are
-/// numbers of refs too. If these are equal it is the child itself. Else the node is appended to
-/// `nodes`, unless `pairs` has it: the children of this level's nodes, the first of which stands at
-/// place `base` of `nodes`.
+/// The number of the node of variable x whose children have the numbers `low` and `high`, or of the
+/// child itself if both are equal. `pairs` has the children of this level's nodes so far, the first
+/// of which stands at place `base` of `nodes`. A new node is appended to both.
 fn number_over(
     nodes: &mut Vec<Node>,
     pairs: &mut IndexSet<(u32, u32)>,
@@ -49,9 +48,9 @@ fn number_over(
     Ok(base + place as u32 + 2)
 }
 
-/// The numbers of the refs above the level of variable x, from those below it: the refs at the
-/// places 2j and 2j + 1 of `below` are the low and the high child of the one at place j. The new
-/// nodes are appended to `nodes`.
+/// The level of variable x, bottom-up: entry j is the number of the node whose low and high child
+/// are entries 2j and 2j + 1 of `below`, or of the child itself if both are equal. New nodes are
+/// appended to `nodes`.
 pub(crate) fn level_above(
     alloc: Global,
     nodes: &mut Vec<Node>,

@@ -26,7 +26,7 @@ impl Model for Row {
 }
 
 impl Row {
-    /// The row that packed words of 64 points hold.
+    /// The function of `inputs` variables whose packed truth table is `words`.
     pub(crate) fn new(inputs: u8, words: Vec<u64>) -> Row
         requires { IsRow inputs words.items }
         ensures { result ≡ row_table inputs words.items }
@@ -43,7 +43,7 @@ impl Row {
         self.inputs
     }
 
-    /// Whether the function depends on a variable.
+    /// Whether the function depends on variable x.
     pub fn depends(&self, x: VarIx) -> bool
         requires { x < self.now.inputs }
         ensures { result ≡ depends self.now.inputs (from_table self.now.table) x }

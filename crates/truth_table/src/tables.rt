@@ -36,9 +36,9 @@ impl Model for Tables {
 }
 
 impl Tables {
-    /// The truth tables of a cover's outputs. Threads share groups of 32 words of 64 points; the
+    /// The truth tables of a cover's outputs, made by threads that share groups of 32 words. The
     /// time is that of a step for each group and term, of one for each word of a group if the term
-    /// may hold, and of one for each output of a word if it holds.
+    /// may hold there, and of one for each output of a word if it holds.
     pub fn of_cover<R: Threads + Sync>(
         rt: &R,
         alloc: Global,
@@ -57,8 +57,8 @@ impl Tables {
         })
     }
 
-    /// The truth tables that words of 64 points hold, one table after the other. What stands behind
-    /// a table's last point is left out.
+    /// The truth tables of m functions of n variables, packed one after the other in `words`. Bits
+    /// past a table's last point are left out.
     pub fn of_words(alloc: Global, n: u8, m: u8, words: &[u64]) -> Result<Tables, AllocError>
         requires some_inputs { 1 ≤ n }
         requires few_inputs { n ≤ 16 }
@@ -80,7 +80,7 @@ impl Tables {
         &self.problem
     }
 
-    /// The value of an output at a point. Bit x of `point` is the value of variable x.
+    /// The value of output `output` at a point. Bit x of `point` is the value of variable x.
     pub fn value(&self, output: u8, point: u32) -> bool
         requires output { output < outputs_of self.now }
         requires point { point < 2 ^ self.now.inputs }
@@ -89,8 +89,8 @@ impl Tables {
         self.problem.value(output, point)
     }
 
-    /// The truth table of an output with each variable of `care` fixed to its bit in `value`. The
-    /// time is that of a step for each variable and word.
+    /// The truth table of output `output`, with each variable x in the set `care` fixed to bit x of
+    /// `value`. The time is that of a step for each variable and word.
     pub fn cofactor(
         &self,
         alloc: Global,
@@ -115,7 +115,7 @@ impl Tables {
         Ok(Row::new(n, words))
     }
 
-    /// The values of all outputs at given points, output by output, as 0 and 1.
+    /// The values of the `outputs` outputs at `points`, output by output, as 0 and 1.
     fn values(&self, alloc: Global, outputs: u8, points: &[u32]) -> Result<Vec<u32>, AllocError>
         requires outputs { outputs ≡ outputs_of self.now }
         requires points { All (λ k. k < 2 ^ self.now.inputs) points.now }
@@ -128,8 +128,8 @@ impl Tables {
         Ok(values)
     }
 
-    /// The values of all outputs, as 0 and 1, at the points of all assignments of an order's
-    /// variables, the top variable as the highest bit of a value's place.
+    /// The values of all outputs, output by output, as 0 and 1. Those of an output stand by rising
+    /// number of the assignment, whose highest bit is the top variable of `order`.
     pub fn values_under(&self, alloc: Global, order: &Order) -> Result<Vec<u32>, AllocError>
         requires { length order.now ≡ self.now.inputs }
         ensures { IfOk result

@@ -24,8 +24,8 @@ const GROUP_WORDS: usize = 32;
 /// The words of a group: entry [place][o] is word `place` of the group in the table of output o.
 type GroupWords = [[u64; 16]; 32];
 
-/// The points of a word at which a term's literal of variable x, below 6, holds: all points if it
-/// has none.
+/// The points of a word, as bits, at which a term's literal of variable x holds: all points if it
+/// has none. x is below 6.
 fn literal_points(term: Term, x: VarIx) -> u64
     requires { x < 6 }
     ensures { (b : ℕ) → b < 64 → (bit_at result b == 1) ≡ literal_at term b x }
@@ -41,8 +41,8 @@ fn literal_points(term: Term, x: VarIx) -> u64
     }
 }
 
-/// The points of a word at which a term's literals of the variables 0 to 5 hold, the same ones in
-/// each word.
+/// The points of a word, as bits, at which a term's literals of the variables 0 to 5 hold. They are
+/// the same in each word.
 fn pattern(term: Term) -> u64
     ensures { (b : ℕ) → b < 64 → (bit_at result b == 1) ≡ literals_at term b 0 6 }
 {
@@ -62,8 +62,7 @@ fn holds_above(term: &Term, place: usize) -> bool
     place & (term.care >> 6) as usize == (term.value >> 6) as usize
 }
 
-/// Adds points to the word of each output of a term: `words[o]` is that of output o, and bit o of
-/// `outs` says whether the term belongs to it.
+/// Sets the bits `points` in `words[o]` for each output o that has its bit in `outs`.
 #[inline(always)]
 fn add_points(words: &mut [u64; 16], outs: u16, points: u64)
     ensures { (o : ℕ) → o < 16 →
@@ -77,8 +76,8 @@ fn add_points(words: &mut [u64; 16], outs: u16, points: u64)
     }
 }
 
-/// Whether a term's literals of the variables 11 to 15 hold in a group. Else the term is 0 at all
-/// points of the group.
+/// Whether a term's literals of the variables 11 to 15 hold at the points of group `group`, which
+/// all have the same values of these variables. If not, the term is 0 at all points of the group.
 fn may_hold(term: &Term, group: usize) -> bool
     requires { group < 32 }
     ensures { IsFalse result → (place : ℕ) → place < 32 →
@@ -87,8 +86,8 @@ fn may_hold(term: &Term, group: usize) -> bool
     group & (term.care >> 11) as usize == (term.value >> 11) as usize
 }
 
-/// Adds the points of a group at which a term is 1: `words[place][o]` is word `place` of the group
-/// in the table of output o.
+/// Sets the bits of the points of group `group` at which a term is 1, in the tables of the term's
+/// outputs: `words[place][o]` is word `place` of the group in the table of output o.
 fn add_term(words: &mut GroupWords, term: &Term, group: usize)
     requires { group < 32 }
     ensures { (place : ℕ) → place < 32 →
@@ -103,8 +102,8 @@ fn add_term(words: &mut GroupWords, term: &Term, group: usize)
     }
 }
 
-/// The words of a group: entry [place][o] is word `place` of the group in the table of output o.
-/// Terms that are 0 in the whole group are not evaluated word by word.
+/// The words of group `group`: entry [place][o] is word `place` of the group in the table of output
+/// o. Terms that are 0 in the whole group are not evaluated word by word.
 fn group_words(terms: &[Term], group: usize) -> GroupWords
     requires { group < 32 }
     ensures { AreGroupWords terms.now group result }
@@ -130,8 +129,8 @@ pub(crate) fn points_mask(n: u8) -> u64
     }
 }
 
-/// The packed tables of m outputs, one after the other, from their groups of words. A table has
-/// `size` words, each of which keeps the bits of `mask` alone.
+/// The packed tables of m outputs, one after the other, each of `size` words. `groups` has the
+/// words, by group, by place in the group and by output. Of each word the bits of `mask` are kept.
 fn lay_out(
     alloc: Global,
     m: u8,
@@ -167,13 +166,14 @@ fn groups_of(size: usize) -> usize
 /// How many terms a thread has to try in all to be worth its start.
 const TERMS_WORTH_A_THREAD: usize = 8_192;
 
-/// The least number of groups that are worth a thread if each tries `terms` terms.
+/// The least number of groups for which starting a thread is worth it, if each group tries `terms`
+/// terms.
 fn least_groups(terms: usize) -> usize {
     TERMS_WORTH_A_THREAD / terms.max(1)
 }
 
-/// The packed truth tables of the m outputs that product terms of n inputs have, one table after
-/// the other. Threads share the groups of words.
+/// The packed truth tables of m outputs of n inputs that product terms give, one table after the
+/// other. Threads share the groups of words.
 pub(crate) fn packed_words<R: Threads + Sync>(
     rt: &R,
     alloc: Global,

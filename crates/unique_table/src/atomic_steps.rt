@@ -1,4 +1,4 @@
-//! The rule of the table, and the names of its steps.
+//! The invariant of a store's words, and the kinds of atomic steps on them.
 
 ghost use Rattle.unique_table.specs.Invariant.{IsKept, newcomer, stepped, another, informed, spent, looks, puts, publishes, collects, recalls, remembers};
 
@@ -6,7 +6,7 @@ use crate::plan::Plan;
 use crate::session::View;
 use atomic_table::{Join, Play, Split, TableRule};
 
-/// The rule of a store's words.
+/// The invariant of a store's words, which every step of every session keeps.
 pub struct Words;
 
 impl TableRule<(), View, Plan> for Words {
@@ -15,42 +15,49 @@ impl TableRule<(), View, Plan> for Words {
     ghost first = { newcomer };
 }
 
+/// The step that loads the word of a node.
 pub(crate) struct Looks;
 
 impl Play<(), View> for Looks {
     ghost then = { looks };
 }
 
+/// The step that stores the word of a node in a place, if the place is empty.
 pub(crate) struct Puts;
 
 impl Play<(), View> for Puts {
     ghost then = { puts };
 }
 
+/// The step that stores the id of a piece's function in the word of the piece.
 pub(crate) struct Publishes;
 
 impl Play<(), View> for Publishes {
     ghost then = { publishes };
 }
 
+/// The step that loads the word of a piece.
 pub(crate) struct Collects;
 
 impl Play<(), View> for Collects {
     ghost then = { collects };
 }
 
+/// The step that loads a word of the operation cache.
 pub(crate) struct Recalls;
 
 impl Play<(), View> for Recalls {
     ghost then = { recalls };
 }
 
+/// The step that stores a word of the operation cache.
 pub(crate) struct Remembers;
 
 impl Play<(), View> for Remembers {
     ghost then = { remembers };
 }
 
+/// How the view of a seat is split in two, and how the views of two seats are joined.
 pub(crate) struct Both;
 
 impl Split<View> for Both {

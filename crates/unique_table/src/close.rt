@@ -21,16 +21,23 @@ use std::snapshot::Snapshot;
 pub enum CloseFault {
     /// The least output whose root wasn't published.
     MissingRoot(u8),
+    /// An allocation was refused.
     OutOfMemory,
 }
 
 /// A store that no session shares any more: the words that it ended with.
 pub struct ClosedStore {
+    /// The words that the store ended with.
     pub(crate) closed: Closed<(), Global>,
+    /// How many of the words, the first ones, are places for nodes.
     pub(crate) places: usize,
+    /// The index of the word of output 0; the words of the other outputs follow it.
     pub(crate) first: usize,
+    /// How many outputs there are.
     pub(crate) roots: u8,
+    /// The order of the variables.
     pub(crate) order: Order,
+    /// The store that was closed, which only contracts see.
     pub(crate) store: Snapshot<Store>,
 }
 
@@ -54,8 +61,9 @@ impl Drop for ClosedStore {
 }
 
 impl ClosedStore {
-    /// The reduced diagram of the store's functions: the roots that were published, with the nodes
-    /// that they reach. Else the closed store, and why it gives none.
+    /// The reduced diagram of the store's functions: the published roots, with the nodes that they
+    /// reach. Else the closed store, and the least output whose root was not published, or
+    /// `OutOfMemory`.
     pub fn diagram(self, alloc: Global) -> Result<Diagram, (ClosedStore, CloseFault)>
         ensures roots { OnOk result (HasAllRoots self) }
         ensures order { IfOk result (λ d. d.order ≡ order_of self.plan) }
@@ -80,7 +88,7 @@ impl ClosedStore {
         Ok(Diagram::new(order, reached.nodes, reached.roots))
     }
 
-    /// The words and the order.
+    /// Takes the closed store apart: its words and its order.
     fn take_apart(self) -> (Closed<(), Global>, Order)
         ensures slots { slots_len result.0.slots ≡ 0 }
         ensures order { result.1 ≡ order_of self.plan }
@@ -96,7 +104,8 @@ impl ClosedStore {
         (closed, order)
     }
 
-    /// The ids of the roots of all outputs, or the least output whose root was not published.
+    /// The ids of the roots of all outputs. Else the least output whose root was not published, or
+    /// `OutOfMemory`.
     fn root_ids(&self, alloc: Global) -> Result<Vec<u32>, CloseFault>
         ensures roots { OnOk result (HasAllRoots self.now) }
         ensures ids { IfOk result
@@ -118,7 +127,8 @@ impl ClosedStore {
         Ok(ids)
     }
 
-    /// The word of an output's root: 0 if it was not published, else its id plus 1.
+    /// The word of the root of output `output`: 0 if the root was not published, else its id plus
+    /// 1.
     fn root_word(&self, output: u8) -> u64
         requires { output < roots_count self.now.plan }
         ensures is { result ≡ root_word self.now output }

@@ -1,4 +1,4 @@
-//! How large a store is, and which pieces it has.
+//! How many words a store has, and what its parts of outputs are.
 
 ghost use Rattle.std.specs.Prelude.{◌≡◌, ◌*◌, ◌<◌, ◌≤◌, length, replicate, IfOk};
 ghost use Rattle.unique_table.specs.Plans.{IsKind, parts_count, top_assignments};
@@ -18,7 +18,7 @@ const CACHE_PLACES: usize = 65_536;
 /// The number of words of the largest store, which has 1,024 parts of outputs and 16 outputs.
 const MOST_WORDS: usize = NODE_PLACES + CACHE_PLACES + 1_024 + 16;
 
-/// The words of an empty store. No page of them is made, as long as they are only read.
+/// The words of an empty store, all 0. No page of them is made while they are only read.
 static BLANK: [u64; MOST_WORDS] = [0; MOST_WORDS];
 
 /// How many places for nodes a store has.
@@ -43,7 +43,7 @@ pub(crate) fn blank_words(count: usize) -> &'static [u64]
     &BLANK[..count]
 }
 
-/// Of what the pieces are made, as the plan keeps it: terms are copied.
+/// What the parts of outputs are, as a store's plan has it. Terms are copied.
 pub(crate) fn kind_of(alloc: Global, pieces: Pieces<'_>) -> Result<PieceKind, AllocError>
     ensures { IfOk result (λ kind. IsKind kind pieces.entry) }
 {
@@ -58,7 +58,7 @@ pub(crate) fn kind_of(alloc: Global, pieces: Pieces<'_>) -> Result<PieceKind, Al
     }
 }
 
-/// How many assignments the top two variables of an order have, or its only variable.
+/// How many assignments the top two variables of an order have, or its only one: 4, or 2.
 fn top_assignments(order: &Order) -> usize
     ensures is { result ≡ top_assignments order.now }
     ensures few { result ≤ 4 }
@@ -66,7 +66,7 @@ fn top_assignments(order: &Order) -> usize
     if order.len() < 2 { 2 } else { 4 }
 }
 
-/// How many pieces are parts of outputs.
+/// How many parts all outputs together have. `outputs` is the number of outputs.
 pub(crate) fn parts_count(kind: &PieceKind, order: &Order, outputs: u8) -> usize
     requires { outputs ≤ 16 }
     ensures is { (t : TruthTables) → outputs ≡ outputs_of t →

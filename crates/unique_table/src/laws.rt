@@ -12,8 +12,8 @@ pub fn equal_functions_have_equal_ids()
     ensures functions { EqualIdsHaveEqualFunctions }
 {}
 
-/// Each step on a word keeps the rule, changes the words as its kind allows, and adds to its
-/// session's view what its kind allows.
+/// Each step on a word keeps the store's invariant, changes the words as its kind allows, and adds
+/// to its session's view what its kind allows.
 pub fn steps_are_of_their_kinds()
     ensures look { Looks }
     ensures put { Puts }
@@ -23,16 +23,16 @@ pub fn steps_are_of_their_kinds()
     ensures remember { Remembers }
 {}
 
-/// A seat that has the whole store is the only one, and its session stays so; what goes on from
-/// the two halves of a stake joins to no less than the stake.
+/// A seat with the whole stake is the store's only one, and its session stays so. Two sessions with
+/// no less than the two halves of a stake have no less than the stake once they are joined.
 pub fn whole_stakes_are_alone()
     ensures only { WholesAreAlone }
     ensures stays { AloneStaysAlone }
     ensures joined { HalvesJoin }
 {}
 
-/// A root that is the least empty one of the last words is missing to the session that the store
-/// was closed with.
+/// The least output whose root the words of a closed store lack is one whose root the session that
+/// closed it did not know to be published.
 pub fn sessions_lack_what_is_empty()
     ensures { SessionsLackWhatIsEmpty }
 {}

@@ -1,4 +1,4 @@
-//! Copying what an id reaches, children first.
+//! Copies of the nodes that an id reaches, children first.
 
 ghost use Rattle.std.specs.Prelude.{◌≡◌, ◌^◌, ◌<◌, ◌≤◌, ◌+◌, ◌++◌, ◌∷◌, [], IfOk, OnOk, vec_len, length, slice_index, slice_set};
 ghost use Rattle.std.specs.Slots.{slots_len, IsFull};
@@ -11,7 +11,7 @@ use node_words::node_parts;
 use order_model::{Node, Ref, VarIx};
 use std::alloc::{AllocError, Global};
 
-/// The node word at a place of a closed table, one of its first `places` words.
+/// The node word at a place of a closed table, whose first `places` words are those of nodes.
 fn word_at(closed: &Closed<(), Global>, places: usize, place: usize) -> u64
     requires full { IsFull closed.now.words }
     requires places { places ≤ slots_len closed.now.words }
@@ -21,8 +21,8 @@ fn word_at(closed: &Closed<(), Global>, places: usize, place: usize) -> u64
     closed.word(place)
 }
 
-/// Appends the copy of the node at `place`, and returns the ref to it. The number of the place is
-/// then the copy's index plus 1.
+/// Appends `node`, the copy of the store's node at `place`, to `nodes`, and returns the ref to it.
+/// In `numbers` the place gets the copy's index plus 1.
 fn add(
     numbers: &mut Numbers,
     nodes: &mut Vec<Node>,
@@ -43,8 +43,9 @@ fn add(
     Ok(Ref::Place(copied))
 }
 
-/// The ref to the copy of a node or terminal with an id. The nodes that it reaches and that have no
-/// copy yet are appended to `nodes`, children first.
+/// The ref to the copy of the node or terminal with id `id`. The nodes that it reaches are copied
+/// to `nodes`, children first, but for those that have a copy: `numbers` has for each place of the
+/// store 0 or the index of the copy plus 1, and gets those of new copies.
 pub(crate) fn copy(
     closed: &Closed<(), Global>,
     places: usize,

@@ -6,15 +6,18 @@ ghost use Rattle.unique_table.specs.Pages.{number_at, ArePages};
 use std::alloc::{AllocError, Global};
 use std::marker::Model;
 
-/// How many places have one page.
+/// How many places a page has.
 const PAGE: usize = 64;
 
 /// A number for each place, 0 at first. The places in use stand on pages that are allocated, and
 /// all others share a page of zeros, so that the memory is that of the places in use.
 #[derive(Drop)]
 pub(crate) struct Numbers {
+    /// How many places there are.
     places: usize,
+    /// Entry k: the page of the places from 64 k on; page 0 is the one of zeros.
     pages: Vec<usize>,
+    /// The numbers on all pages, page by page.
     numbers: Vec<u32>,
 }
 
@@ -30,7 +33,8 @@ impl Model for Numbers {
         × (n.places ≤ length n.pages.items * 64) };
 }
 
-/// The page of a part of the places, which is made if there is none.
+/// The page of the places from 64 * `part` on. If they are on the page of zeros, a page of their
+/// own is appended to `numbers` and entered in `pages`.
 fn open_page(
     pages: &mut Vec<usize>,
     numbers: &mut Vec<u32>,
@@ -55,7 +59,7 @@ fn open_page(
 }
 
 impl Numbers {
-    /// As many zeros as there are places.
+    /// The number 0 for each of `places` places.
     pub fn zeros(alloc: Global, places: usize) -> Result<Numbers, AllocError>
         ensures { IfOk result (λ n. n ≡ replicate places 0) }
     {
@@ -74,7 +78,7 @@ impl Numbers {
         self.numbers[self.pages[place / PAGE] * PAGE + place % PAGE]
     }
 
-    /// Gives a place its number.
+    /// Sets the number of a place.
     pub fn set(&mut self, place: usize, number: u32) -> Result<(), AllocError>
         requires { place < length self.old }
         ensures many { length self.new ≡ length self.old }

@@ -20,8 +20,8 @@ pub(crate) struct Reached {
     pub roots: Vec<Ref>,
 }
 
-/// The reduced diagram of the functions that some ids denote, of the node words in the first places
-/// of a closed table.
+/// The reduced diagram of the functions that `ids` denote under an order. The first `places` words
+/// of the closed table are the words of nodes.
 pub(crate) fn reached_nodes(
     alloc: Global,
     closed: &Closed<(), Global>,

@@ -7,7 +7,7 @@ use std::marker::Model;
 /// The id of a node: 0 and 1 are the terminals, and the node at place p has p + 2.
 pub type NodeId = u32;
 
-/// A thread's view of a store.
+/// A thread's own view of a store: what it knows of the store's words.
 #[derive(Drop)]
 pub struct Session {
     pub(crate) seat: Seat<(), View>,
@@ -25,10 +25,12 @@ impl Model for Session {
     ghost invariant = { IsSession };
 }
 
-/// How much of a store a session has: `units` of 2 ^ halvings equal units. A session with all of
-/// them is the store's only one. No value of it is made.
+/// How much of a store a session has. A session with all of it is the store's only one. Only
+/// contracts see it, and no value of it is made.
 pub struct Stake {
+    /// How many units the session has.
     pub units: u64,
+    /// The whole store is 2 to the power of this many units.
     pub halvings: u64,
 }
 
@@ -46,14 +48,14 @@ pub struct View {
     pub seen: [u64; 0],
     /// The words of nodes as a session saw them that was joined into this one.
     pub received: [u64; 0],
-    /// The words of nodes that the session put, or one that it comes from.
+    /// The words of nodes that this session put into the store, or one that it comes from.
     pub made: [u64; 0],
     /// The words of pieces as the session saw them.
     pub pieces: [u64; 0],
     /// The words of pieces as a session saw them that was joined into this one.
     pub pieces_received: [u64; 0],
-    /// How many steps were made.
+    /// How many atomic steps the session made, with those of sessions that were joined into it.
     pub steps: u64,
-    /// How many of the steps could write.
+    /// How many of these steps could write a word.
     pub writes: u64,
 }

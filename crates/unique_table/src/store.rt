@@ -27,11 +27,17 @@ use std::snapshot::Snapshot;
 /// session of its own.
 #[derive(Drop)]
 pub struct Store {
+    /// The words that all sessions share: those of nodes, of the operation cache and of pieces.
     pub(crate) table: Table<(), View, Plan, Words, Global>,
+    /// How many places for nodes there are.
     pub(crate) places: usize,
+    /// How many places the operation cache has.
     pub(crate) entries: usize,
+    /// How many pieces are parts of outputs.
     pub(crate) roots: usize,
+    /// How many pieces there are: parts of outputs, and then the outputs.
     pub(crate) pieces: usize,
+    /// The order of the variables.
     pub(crate) order: Order,
 }
 
@@ -52,8 +58,9 @@ impl Model for Store {
 pub struct StoreFull;
 
 impl Store {
-    /// A store for the functions of a problem under an order, and a session that knows the
-    /// terminals. The condition on terms: they give the problem's functions.
+    /// An empty store for the functions of a problem under an order, and its first session.
+    /// `pieces` says what the parts of outputs are; if it has terms, they give the problem's
+    /// functions.
     pub fn new(
         alloc: Global,
         order: Order,
@@ -120,7 +127,7 @@ impl Store {
         self.roots
     }
 
-    /// How many places the cache has.
+    /// How many places the operation cache has.
     pub fn cache_places(&self) -> usize
         ensures value { result ≡ self.now.plan.entries }
         ensures plan { IsPlan self.now.plan }
@@ -128,9 +135,9 @@ impl Store {
         self.entries
     }
 
-    /// States what holds of each session of the store, and does nothing. Its words are nodes, no
-    /// two of them equal, so ids are equal if they denote the same function, and no id lies below
-    /// the terminals. A session that is alone made all nodes that it knows.
+    /// States what holds of a session of the store, and does nothing. The words that it knows are
+    /// those of nodes, no two of them equal, so ids are equal if they denote the same function, and
+    /// no id lies below the terminals. A session that is alone made all nodes that it knows.
     pub fn canonical_ids(&self, session: &Session)
         requires { session.now.store ≡ self.now }
         ensures unique { HasUniqueIds session.now }
@@ -145,7 +152,8 @@ impl Store {
     }
 
     /// The id of the node of `level` with the children `low` and `high`, or of the child itself if
-    /// both are equal. It takes at most two steps per place.
+    /// both are equal. A node that the store lacks is put into it; `StoreFull` if no place is left.
+    /// It takes at most two steps per place.
     pub fn make(
         &self,
         session: &mut Session,
@@ -174,7 +182,7 @@ impl Store {
         Ok(place as u32 + 2)
     }
 
-    /// The level and the children of the node with an id, which the session knows from then on;
+    /// The level and the children of the node with id `id`, which the session knows from then on.
     /// None for a terminal. It takes at most one step.
     pub fn node(&self, session: &mut Session, id: NodeId) -> Option<NodeParts>
         requires session { session.old.store ≡ self.now }
@@ -195,8 +203,8 @@ impl Store {
         Some(node_parts(word))
     }
 
-    /// The id that a cache place holds for an operation on two ids; None if it is empty or holds
-    /// the result of another operation. It takes one step.
+    /// The id that cache place `place` holds as the result of an operation on `first` and `second`.
+    /// None if the place is empty or holds the result of another operation. It takes one step.
     pub fn entry(
         &self,
         session: &mut Session,
@@ -223,7 +231,8 @@ impl Store {
         Some((word % (1 << 20)) as u32)
     }
 
-    /// Stores the id of the result of an operation on two ids in a cache place. It takes one step.
+    /// Stores `id` in cache place `place` as the result of an operation on `first` and `second`. It
+    /// takes one step.
     pub fn set_entry(
         &self,
         session: &mut Session,
@@ -246,7 +255,8 @@ impl Store {
         words::remember(&self.table.shared, seat, at, place, word);
     }
 
-    /// Publishes the id of a piece's function to all sessions. It takes one step.
+    /// Publishes `id`, which denotes the function of piece `piece`, to all sessions. It takes one
+    /// step.
     pub fn publish(&self, session: &mut Session, piece: usize, id: NodeId)
         requires session { session.old.store ≡ self.now }
         requires piece { piece < self.now.plan.pieces }
@@ -258,7 +268,8 @@ impl Store {
         words::publish(&self.table.shared, &mut session.seat, place, piece, id);
     }
 
-    /// The id of a piece's function, if the session sees it published. It takes one step.
+    /// The id of the function of piece `piece`. None if the session doesn't see one published. It
+    /// takes one step.
     pub fn collect(&self, session: &mut Session, piece: usize) -> Option<NodeId>
         requires session { session.old.store ≡ self.now }
         requires piece { piece < self.now.plan.pieces }
@@ -276,8 +287,8 @@ impl Store {
         Some((word - 1) as u32)
     }
 
-    /// Two sessions that know what the one knew, each with half of its stake. The second one's
-    /// counts of steps and writes begin at 0.
+    /// Splits a session: both results know what it knew, each with half of its stake. The second
+    /// one's counts of steps and writes begin at 0.
     pub fn split(&self, session: Session) -> (Session, Session)
         requires { session.store ≡ self.now }
         ensures first { result.0 ≡
@@ -290,8 +301,8 @@ impl Store {
         (Session { seat }, Session { seat: other })
     }
 
-    /// A session that knows what both knew, with the stakes and the counts of both. It takes two
-    /// steps.
+    /// Joins two sessions: the result knows what both knew, with the stakes and the counts of both.
+    /// It takes two steps.
     pub fn join(&self, one: Session, two: Session) -> Session
         requires one { one.store ≡ self.now }
         requires two { two.store ≡ self.now }
@@ -310,8 +321,8 @@ impl Store {
         Session { seat }
     }
 
-    /// The store with its words as they are when its last session ends. Other sessions may have
-    /// published roots that this one doesn't know of.
+    /// Closes the store with its last session: its words stay as they are then. Other sessions may
+    /// have published roots that this one doesn't know of.
     pub fn into_closed(self, session: Session) -> ClosedStore
         requires { session.store ≡ self }
         ensures plan { result.plan ≡ self.plan }
@@ -335,7 +346,7 @@ impl Store {
 
     /// The reduced diagram of the store's functions: the published roots, with the nodes that they
     /// reach. Else the closed store, and why it gives none. Other sessions may have published roots
-    /// that this one doesn't know of.
+    /// that `session` doesn't know of.
     pub fn close(
         self,
         alloc: Global,

@@ -19,7 +19,7 @@ use node_words::{probe, start};
 /// The words of a store as its sessions share them.
 type SharedWords = Shared<(), View, Plan, Words>;
 
-/// Loads the node word at a place: 0 if the place is empty.
+/// Loads the node word at a place: 0 if the place is empty. The seat's view has it from then on.
 pub(crate) fn look(shared: &SharedWords, seat: &mut Seat<(), View>, place: usize) -> u64
     requires seat { IsSeatOf shared.now seat.old }
     requires place { IsNodePlace shared.now place }
@@ -29,8 +29,8 @@ pub(crate) fn look(shared: &SharedWords, seat: &mut Seat<(), View>, place: usize
     shared.load::<Looks>(seat, place)
 }
 
-/// Stores a node's word at a place if the place is empty, and returns the word that was there
-/// before: 0 if it was empty. The place is the next one in the search for the node.
+/// Stores `word`, that of a node, at a place if the place is empty, and returns the word that was
+/// there before: 0 if it was empty. The place is the next one in the search for the node.
 fn put(shared: &SharedWords, seat: &mut Seat<(), View>, place: usize, word: u64) -> u64
     requires { MayPut shared.now seat.old word place }
     ensures seat { IsSeatOf shared.now seat.new }
@@ -43,8 +43,8 @@ fn put(shared: &SharedWords, seat: &mut Seat<(), View>, place: usize, word: u64)
     shared.compare_exchange::<Puts>(seat, place, 0, word)
 }
 
-/// Whether a node's word stands at a place. If the place is empty, the word is stored there first.
-/// The place is the next one in the search for the node.
+/// Whether `word`, that of a node, stands at a place. If the place is empty, the word is stored
+/// there first. The place is the next one in the search for the node.
 pub(crate) fn take(shared: &SharedWords, seat: &mut Seat<(), View>, place: usize, word: u64) -> bool
     requires { MayPut shared.now seat.old word place }
     ensures searches { Searches shared.now seat.old seat.new word 2 }
@@ -60,7 +60,8 @@ pub(crate) fn take(shared: &SharedWords, seat: &mut Seat<(), View>, place: usize
     found == 0 || found == word
 }
 
-/// Stores the id of a piece's function, plus 1, in the word of the piece, which stands at `place`.
+/// Stores `id`, which denotes the function of piece `piece`, plus 1 in the word of the piece, which
+/// stands at `place`.
 pub(crate) fn publish(
     shared: &SharedWords,
     seat: &mut Seat<(), View>,
@@ -79,8 +80,8 @@ pub(crate) fn publish(
     shared.store::<Publishes>(seat, place, u64::from(id) + 1);
 }
 
-/// Loads the word of a piece, which stands at `place`: 0 until the id of the piece's function is
-/// published, then this id plus 1.
+/// Loads the word of piece `piece`, which stands at `place`: 0 until the id of the piece's function
+/// is published, then this id plus 1.
 pub(crate) fn collect(
     shared: &SharedWords,
     seat: &mut Seat<(), View>,
@@ -95,8 +96,8 @@ pub(crate) fn collect(
     shared.load::<Collects>(seat, place)
 }
 
-/// Loads a word of the operation cache, that of entry `entry`, which stands at `place`: 0 if the
-/// entry is empty, else the key of an operation and the id of its result.
+/// Loads the word of entry `entry` of the operation cache, which stands at `place`: 0 if the entry
+/// is empty, else an operation with its operands, and the id of its result.
 pub(crate) fn recall(
     shared: &SharedWords,
     seat: &mut Seat<(), View>,
@@ -111,8 +112,8 @@ pub(crate) fn recall(
     shared.load::<Recalls>(seat, place)
 }
 
-/// Stores the key of an operation and the id of its result in a word of the operation cache, that
-/// of entry `entry`, which stands at `place`.
+/// Stores `word` in entry `entry` of the operation cache, which stands at `place`. The word has an
+/// operation with its operands, and the id of its result.
 pub(crate) fn remember(
     shared: &SharedWords,
     seat: &mut Seat<(), View>,
@@ -128,8 +129,8 @@ pub(crate) fn remember(
     shared.store::<Remembers>(seat, place, word);
 }
 
-/// The place of a node's word, which is stored in the first empty place that the search for it
-/// comes to. None if each of the `places` places is taken by another word.
+/// The place of `word`, that of a node. If the search for it comes to an empty place, it is stored
+/// there. None if each of the `places` places is taken by another word.
 pub(crate) fn find_or_put(
     shared: &SharedWords,
     seat: &mut Seat<(), View>,

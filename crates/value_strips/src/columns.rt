@@ -1,5 +1,5 @@
 //! The class numbers of a problem's values, in strips. A strip of 256 points is four words of a
-//! function, and equal strips are kept once.
+//! function's truth table, and equal strips are stored once.
 
 ghost use Rattle.std.specs.Prelude.{◌≡◌, ◌==◌, ℕ, ◌+◌, ◌*◌, ◌/◌, ◌^◌, ◌<◌, ◌≤◌, ◌++◌, Bool, List, length, slice_index, IfOk, IfSome, OnOk};
 ghost use Rattle.std.specs.Int.{bit_at};
@@ -14,21 +14,21 @@ use definitions::Problem;
 use std::alloc::{AllocError, Global};
 use subfunction_classes::value_numbers;
 
-/// How many chains of kept strips there are, one for each hash.
+/// How many chains of stored strips there are, one for each hash.
 const SLOTS: usize = 4096;
 
-/// The class numbers of a problem's values in strips. Equal strips may be kept once: `outer` has
-/// the number of the kept strip at each place, function by function, and `numbers` has the entries
-/// of the kept strips, one strip after the other.
+/// The class numbers of a problem's values in strips. Equal strips may be stored once: `outer` has
+/// the number of the stored strip at each place, function by function, and `numbers` has the class
+/// numbers of the stored strips, one strip after the other.
 #[derive(Drop)]
 pub struct ValueStrips {
     pub outer: Vec<u32>,
     pub numbers: Vec<u32>,
 }
 
-/// Strips of 256 points. `outer` has the number of the kept strip at each place, and `kept` has the
-/// words of the kept strips, four each. The kept strips with one hash are chained: `heads` has one
-/// more than the number of the last one, or 0, and `next` the same for the one before each.
+/// Strips of 256 points. `outer` has the number of the stored strip at each place, and `kept` the
+/// words of the stored strips, four each. Those with one hash are chained: `heads` has one more
+/// than the number of the last one, or 0, and `next` the same for the one before each.
 #[derive(Drop)]
 struct Columns {
     outer: Vec<u32>,
@@ -37,7 +37,7 @@ struct Columns {
     heads: Vec<u32>,
 }
 
-/// The chain of a strip of four words: a hash of the words.
+/// The chain of the strip of the four words `run`: a hash of the words, below `SLOTS`.
 #[inline(always)]
 fn slot_of(run: &[u64]) -> usize
     requires { length run.now ≡ 4 }
@@ -52,8 +52,8 @@ fn slot_of(run: &[u64]) -> usize
     (spread >> 52) as usize % SLOTS
 }
 
-/// The number of the kept strip that has the four words `run`. The chain from `head` on is
-/// searched.
+/// The number of the stored strip with the four words `run`, if there is one in the chain from
+/// `head` on. `head` and `next` have one more than a strip's number, or 0.
 #[inline(always)]
 fn find_run(kept: &[u64], next: &[u32], head: u32, run: &[u64]) -> Option<u32>
     requires whole { length kept.now ≡ length next.now * 4 }
@@ -80,8 +80,8 @@ fn find_run(kept: &[u64], next: &[u32], head: u32, run: &[u64]) -> Option<u32>
     None
 }
 
-/// Adds a strip of four words: its place gets the number of an equal kept strip, or else it is
-/// kept.
+/// Adds the strip of the four words `run`: its place gets the number of an equal stored strip, or
+/// else it is stored.
 #[inline(always)]
 fn push_run(columns: &mut Columns, run: &[u64]) -> Result<(), AllocError>
     requires chained { IsChained columns.old }
@@ -107,7 +107,7 @@ fn push_run(columns: &mut Columns, run: &[u64]) -> Result<(), AllocError>
     Ok(())
 }
 
-/// Adds the strips of a function, from its packed truth table.
+/// Adds the strips of a function, whose packed truth table is `words`.
 fn push_runs(columns: &mut Columns, words: &[u64]) -> Result<(), AllocError>
     requires chained { IsChained columns.old }
     requires whole { (runs : ℕ) × (length words.now ≡ runs * 4) }
@@ -122,7 +122,7 @@ fn push_runs(columns: &mut Columns, words: &[u64]) -> Result<(), AllocError>
     Ok(())
 }
 
-/// The strips of all functions of a problem.
+/// The strips of all functions of a problem, function by function.
 fn columns_of(alloc: Global, problem: &Problem) -> Result<Columns, AllocError>
     requires { 8 ≤ problem.now.inputs }
     ensures some { 0 < outputs_of problem.now }
@@ -145,7 +145,7 @@ fn columns_of(alloc: Global, problem: &Problem) -> Result<Columns, AllocError>
     Ok(columns)
 }
 
-/// The class number of the value in bit b: 0 if it is the value `first`, else 1.
+/// The class number of the value in bit b of `byte`: 0 if it is the value `first`, else 1.
 #[inline(always)]
 fn number_at(byte: u32, b: u32, first: bool) -> u32
     requires { b < 32 }
@@ -155,8 +155,8 @@ fn number_at(byte: u32, b: u32, first: bool) -> u32
     if value == first { 0 } else { 1 }
 }
 
-/// The class numbers of the eight values in each byte, byte by byte: 0 for the value `first`, and 1
-/// for the other one.
+/// For each of the 256 bytes, a row of the class numbers of its eight values: 0 for the value
+/// `first`, and 1 for the other one.
 fn byte_numbers(alloc: Global, first: bool) -> Result<Vec<u32>, AllocError>
     ensures long { IfOk result (λ rows. length rows.items ≡ 2048) }
     ensures rows { IfOk result (λ rows. AreByteRows first rows.items) }
@@ -169,7 +169,7 @@ fn byte_numbers(alloc: Global, first: bool) -> Result<Vec<u32>, AllocError>
     Ok(rows)
 }
 
-/// Appends the bytes of a word, the lowest first.
+/// Appends the eight bytes of a word to `bytes`, the lowest first.
 #[inline(always)]
 fn push_bytes(bytes: &mut Vec<u8>, word: u64) -> Result<(), AllocError>
     requires { AllBelow bytes.old.items 256 }
@@ -184,7 +184,7 @@ fn push_bytes(bytes: &mut Vec<u8>, word: u64) -> Result<(), AllocError>
     Ok(())
 }
 
-/// The bytes of words, the lowest byte of each word first.
+/// The bytes of the words, the lowest byte of each word first.
 fn bytes_of(alloc: Global, words: &[u64]) -> Result<Vec<u8>, AllocError>
     requires { length words.now ≤ 2 ^ 16 }
     ensures small { IfOk result (λ v. AllBelow v.items 256) }
@@ -198,7 +198,8 @@ fn bytes_of(alloc: Global, words: &[u64]) -> Result<Vec<u8>, AllocError>
     Ok(bytes)
 }
 
-/// The class numbers of a problem's values in strips of 2^low points, each of which is kept.
+/// The class numbers of a problem's values in strips of 2^low points, all of which are stored,
+/// equal or not.
 pub fn whole_strips(alloc: Global, problem: &Problem, low: u8) -> Result<ValueStrips, AllocError>
     requires inside { low ≤ problem.now.inputs }
     ensures { IfOk result (λ v. HoldsValues problem.now v.outer.items v.numbers.items (2 ^ low)) }
@@ -212,9 +213,9 @@ pub fn whole_strips(alloc: Global, problem: &Problem, low: u8) -> Result<ValueSt
     Ok(ValueStrips { outer, numbers })
 }
 
-/// The class numbers of a problem's values in strips of 256 points, each of which is kept as 32
-/// bytes. Row b of `rows` has the eight class numbers of byte b: 0 for the first value of the
-/// problem, and 1 for the other one.
+/// The class numbers of a problem's values in strips of 256 points, each stored as 32 bytes. Row b
+/// of `rows` has the eight class numbers of byte b: 0 for the first value of the problem, and 1 for
+/// the other one. `outer` has the number of the strip at each place.
 #[derive(Drop)]
 pub struct ByteStrips {
     pub outer: Vec<u32>,
@@ -222,7 +223,7 @@ pub struct ByteStrips {
     pub rows: Vec<u32>,
 }
 
-/// The class numbers of a problem's values in strips of 256 points, as bytes.
+/// The class numbers of a problem's values in strips of 256 points, each stored as 32 bytes.
 pub fn byte_strips(alloc: Global, problem: &Problem) -> Result<ByteStrips, AllocError>
     requires { 8 ≤ problem.now.inputs }
     ensures named { IfOk result (λ v. AreNamed v.bytes.items v.rows.items 8) }

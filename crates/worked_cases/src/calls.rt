@@ -16,7 +16,7 @@ pub struct Tally {
     pub differ: u32,
 }
 
-/// What a call ended with and wrote.
+/// What a call did: its exit status, and what it wrote to standard output and standard error.
 #[derive(Drop)]
 struct Seen {
     status: u8,
@@ -24,7 +24,7 @@ struct Seen {
     errors: Vec<u8>,
 }
 
-/// Calls the program that the line begins with, with the words after it.
+/// Calls the program that `line` begins with, with the words after it.
 fn call<R: Files + AllocGlobal + Threads + Sync>(rt: &R, line: &str) -> Result<Seen> {
     let words: Vec<&str> = line.split(' ').collect(rt.alloc())?;
     let mut output = Counting::new(Vec::<u8>::new(rt.alloc()));
@@ -41,13 +41,13 @@ fn call<R: Files + AllocGlobal + Threads + Sync>(rt: &R, line: &str) -> Result<S
     })
 }
 
-/// Puts a file there, which may not be there yet.
+/// Writes a file. It is an error if there is one with that name already.
 fn put_file<R: Files>(rt: &R, name: &str, bytes: &[u8]) -> Result<()> {
     ensure!(!fs::exists(rt, name)?, "{name} is there");
     fs::write(rt, name, bytes).context(format_args!("putting {name} there"))
 }
 
-/// Puts the case's files there, each cut at the length.
+/// Writes the files that the case has before a call, each cut to `length` bytes.
 fn put_files<R: Files>(rt: &R, case: &Case<'_>, length: usize) -> Result<()> {
     for text in case.texts.iter() {
         if let Place::File(name) = text.place {
@@ -57,7 +57,7 @@ fn put_files<R: Files>(rt: &R, case: &Case<'_>, length: usize) -> Result<()> {
     Ok(())
 }
 
-/// Removes the files that the case names.
+/// Removes all files that the case names.
 fn remove_files<R: Files>(rt: &R, case: &Case<'_>) {
     for text in case.texts.iter() {
         if let Place::File(name) | Place::After(name) | Place::Absent(name) = text.place {
@@ -66,7 +66,8 @@ fn remove_files<R: Files>(rt: &R, case: &Case<'_>) {
     }
 }
 
-/// Whether a stream got what the case says: a text of clap's, the case's text, or else nothing.
+/// Whether `got` is what the case says of a stream: any text if clap writes it, else the case's
+/// text for the stream, or nothing if there is none.
 fn agrees(case: &Case<'_>, stream: Place<'_>, got: &[u8]) -> bool {
     if case.by_clap == Some(stream) {
         return !got.is_empty();
@@ -77,7 +78,7 @@ fn agrees(case: &Case<'_>, stream: Place<'_>, got: &[u8]) -> bool {
     }
 }
 
-/// Whether a file holds these bytes.
+/// Whether the file `name` has these bytes.
 fn holds<R: Files + AllocGlobal>(rt: &R, name: &str, bytes: &[u8]) -> bool {
     match fs::read(rt, name) {
         Ok(held) => held.as_slice() == bytes,
@@ -85,7 +86,7 @@ fn holds<R: Files + AllocGlobal>(rt: &R, name: &str, bytes: &[u8]) -> bool {
     }
 }
 
-/// Whether the files are as the case says.
+/// Whether after a call the files are as the case says.
 fn has_files<R: Files + AllocGlobal>(rt: &R, case: &Case<'_>) -> Result<bool> {
     for text in case.texts.iter() {
         let is_well = match text.place {
@@ -100,7 +101,7 @@ fn has_files<R: Files + AllocGlobal>(rt: &R, case: &Case<'_>) -> Result<bool> {
     Ok(true)
 }
 
-/// What is other than the case says, if something is.
+/// Which part of what was seen is not as the case says; nothing if all is.
 fn difference<R: Files + AllocGlobal>(
     rt: &R,
     case: &Case<'_>,
@@ -119,7 +120,7 @@ fn difference<R: Files + AllocGlobal>(
     })
 }
 
-/// Prints what a call did, a part of which is other than its case says.
+/// Prints a line on a call: `part` is not as its case says.
 fn print_difference<R: AllocGlobal + Print>(
     rt: &R,
     case: &Case<'_>,
@@ -136,8 +137,8 @@ fn print_difference<R: AllocGlobal + Print>(
     Ok(())
 }
 
-/// Makes a call of the case, with its files cut at the length, and prints a line if it does
-/// something else than the case says.
+/// Makes one call of the case, with its files cut to `length` bytes, and prints a line if it does
+/// something else than the case says. The tally counts it.
 fn carry_out_call<R: Files + AllocGlobal + Threads + Sync + Print>(
     rt: &R,
     case: &Case<'_>,
@@ -156,7 +157,7 @@ fn carry_out_call<R: Files + AllocGlobal + Threads + Sync + Print>(
     Ok(())
 }
 
-/// Makes each call of the case, with each length.
+/// Makes each call of the case with each of its lengths. The tally counts them.
 pub fn carry_out<R: Files + AllocGlobal + Threads + Sync + Print>(
     rt: &R,
     case: &Case<'_>,

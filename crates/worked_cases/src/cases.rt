@@ -5,44 +5,47 @@ use std::alloc::{AllocError, Global};
 use std::fs;
 use std::rt::Files;
 
-/// What a text of a case is.
+/// What a text of a case stands for.
 #[derive(Clone, Copy, PartialEq, Eq)]
 pub enum Place<'a> {
-    /// A file before the call.
+    /// A file that is there before the call.
     File(&'a str),
     /// Standard output.
     Output,
     /// Standard error.
     Errors,
-    /// A file after the call.
+    /// A file as it is after the call.
     After(&'a str),
     /// A file that isn't there after the call.
     Absent(&'a str),
 }
 
-/// A text of a case.
+/// A text of a case, and what it stands for.
 #[derive(Drop)]
 pub struct Text<'a> {
     pub place: Place<'a>,
     pub bytes: Vec<u8>,
 }
 
-/// Calls that all do the same: what is there before each, and what is seen then.
+/// A case: calls that all do the same, what is there before each, and what is seen after it.
 #[derive(Drop)]
 pub struct Case<'a> {
     pub name: &'a str,
-    /// Each call's program and words.
+    /// The lines of the calls: the program and its words.
     pub calls: Vec<&'a str>,
+    /// The files before a call, and what is seen after it.
     pub texts: Vec<Text<'a>>,
-    /// Each call is made for each length from the first to the last, with the case's files cut to
-    /// it.
+    /// The first and the last length: each call is made for each length from the one to the other,
+    /// with the case's files cut to it.
     pub lengths: (usize, usize),
+    /// The exit status of each call.
     pub status: u8,
-    /// The stream that gets a text of clap's.
+    /// The stream to which clap, the parser of the command line, writes a text of its own.
     pub by_clap: Option<Place<'a>>,
 }
 
-/// The text that a line of these words begins, if it begins one.
+/// What a text stands for that begins with a line of this word and `rest`; nothing if the line
+/// begins no text.
 fn place_of<'a>(word: &str, rest: &'a str) -> Option<Place<'a>> {
     match word {
         "file" => Some(Place::File(rest)),
@@ -54,7 +57,7 @@ fn place_of<'a>(word: &str, rest: &'a str) -> Option<Place<'a>> {
     }
 }
 
-/// Two lengths.
+/// The two lengths that `range` has, with a space between.
 fn lengths(range: &str) -> Result<(usize, usize)> {
     let Some((first, last)) = range.split_once(' ') else {
         bail!("two lengths")
@@ -65,6 +68,7 @@ fn lengths(range: &str) -> Result<(usize, usize)> {
 }
 
 impl<'a> Case<'a> {
+    /// A case with this name, of which nothing else is known yet.
     fn new(alloc: Global, name: &'a str) -> Case<'a> {
         Case {
             name,
@@ -76,20 +80,21 @@ impl<'a> Case<'a> {
         }
     }
 
-    /// Begins a text, which the lines that follow make longer.
+    /// Begins a text, to which the lines that follow add.
     fn begin(&mut self, alloc: Global, place: Place<'a>) -> Result<(), AllocError> {
         let bytes = Vec::new(alloc);
         self.texts.push(Text { place, bytes })?;
         Ok(())
     }
 
-    /// Adds a call.
+    /// Adds a call, the line of a program and its words.
     fn call(&mut self, words: &'a str) -> Result<(), AllocError> {
         self.calls.push(words)?;
         Ok(())
     }
 
-    /// Reads a line that says something of the case.
+    /// Reads a line of the case's text: it begins a text, adds to the last one, or says something
+    /// else.
     fn read_line<R: Files + AllocGlobal>(&mut self, rt: &R, line: &'a str) -> Result<()> {
         let (word, rest) = line.split_once(' ').unwrap_or((line, ""));
         if let Some(place) = place_of(word, rest) {
@@ -113,7 +118,7 @@ impl<'a> Case<'a> {
         }
     }
 
-    /// Adds to the last text what a line says.
+    /// Adds to the last text of the case what a line says.
     fn lengthen<R: Files + AllocGlobal>(&mut self, rt: &R, line: &str) -> Result<()> {
         match self.texts.last_mut() {
             Some(text) => lengthen(rt, &mut text.bytes, line),
@@ -122,7 +127,7 @@ impl<'a> Case<'a> {
     }
 }
 
-/// Adds a text, and a line feed if it is a whole line.
+/// Appends a text to `bytes`, and a line feed if `is_whole` is true.
 fn add_text(bytes: &mut Vec<u8>, text: &str, is_whole: bool) -> Result<(), AllocError> {
     bytes.extend_from_slice(text.as_bytes())?;
     if is_whole {
@@ -131,7 +136,7 @@ fn add_text(bytes: &mut Vec<u8>, text: &str, is_whole: bool) -> Result<(), Alloc
     Ok(())
 }
 
-/// Adds bytes by their hexadecimal codes.
+/// Appends the bytes with these hexadecimal codes to `bytes`.
 fn add_codes(bytes: &mut Vec<u8>, codes: &str) -> Result<()> {
     for code in codes.split(' ') {
         let byte = u8::from_str_radix(code, 16)?;
@@ -140,21 +145,22 @@ fn add_codes(bytes: &mut Vec<u8>, codes: &str) -> Result<()> {
     Ok(())
 }
 
-/// Adds what a file holds.
+/// Appends the bytes of the file `name` to `bytes`.
 fn add_file<R: Files + AllocGlobal>(rt: &R, bytes: &mut Vec<u8>, name: &str) -> Result<()> {
     let held = fs::read(rt, name)?;
     bytes.extend_from_slice(&held)?;
     Ok(())
 }
 
-/// Makes a text as long as a number says.
+/// Makes `bytes` as long as the number `length` says; added bytes are `x`.
 fn fill(bytes: &mut Vec<u8>, length: &str) -> Result<()> {
     let length = length.parse()?;
     bytes.resize(length, b'x')?;
     Ok(())
 }
 
-/// Adds to a text what a line says.
+/// Appends to `bytes` what a line of a text says: text, bytes by their codes, a length to fill up
+/// to, or a file.
 fn lengthen<R: Files + AllocGlobal>(rt: &R, bytes: &mut Vec<u8>, line: &str) -> Result<()> {
     if let Some(whole) = line.strip_prefix('|') {
         return Ok(add_text(bytes, whole, true)?);
@@ -170,7 +176,8 @@ fn lengthen<R: Files + AllocGlobal>(rt: &R, bytes: &mut Vec<u8>, line: &str) -> 
     }
 }
 
-/// Reads a line of a text into its cases.
+/// Reads a line of a file of cases: it begins a case, says something of the last one, or is empty
+/// or a comment.
 fn read_line<'a, R: Files + AllocGlobal>(
     rt: &R,
     cases: &mut Vec<Case<'a>>,
@@ -188,7 +195,7 @@ fn read_line<'a, R: Files + AllocGlobal>(
         .context(format_args!("in {}: {line}", case.name))
 }
 
-/// The cases of a text.
+/// The cases that a text has.
 pub fn read_cases<'a, R: Files + AllocGlobal>(rt: &R, text: &'a str) -> Result<Vec<Case<'a>>> {
     let mut cases = Vec::new(rt.alloc());
     for line in text.lines() {
