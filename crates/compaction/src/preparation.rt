@@ -4,6 +4,7 @@
 ghost use Rattle.std.specs.Prelude.{◌≡◌, ◌<◌, ◌^◌, IfOk};
 ghost use Rattle.symmetries.specs.Orbits.{TakesWidths};
 ghost use Rattle.symmetries.specs.Renamings.{renamed_of};
+ghost use Rattle.compaction.specs.Ahead.{none_ahead};
 
 use crate::ahead::WidthsAhead;
 use crate::request::Wanted;
@@ -55,7 +56,8 @@ impl<'a> Preparation<'a> {
         pairs: &Pairs,
     ) -> Result<Preparation<'a>, AllocError>
         requires { shared ≡ renamed_of renaming.now.problem renaming.now.renamed }
-        ensures { IfOk result (λ p. p.problem ≡ renaming.now.problem) }
+        ensures problem { IfOk result (λ p. p.problem ≡ renaming.now.problem) }
+        ensures none { IfOk result (λ p. p.found ≡ none_ahead (renamed_of p.problem p.renamed) 0) }
     {
         let pairs = renaming.pairs(alloc, pairs)?;
         let orbits = Orbits::of(alloc, renaming.renamed(), &pairs)?;
@@ -74,7 +76,8 @@ impl<'a> Preparation<'a> {
         renaming: &'a Renaming<'a>,
         pairs: &Pairs,
     ) -> Result<Preparation<'a>, AllocError>
-        ensures { IfOk result (λ p. p.problem ≡ renaming.now.problem) }
+        ensures problem { IfOk result (λ p. p.problem ≡ renaming.now.problem) }
+        ensures none { IfOk result (λ p. p.found ≡ none_ahead (renamed_of p.problem p.renamed) 0) }
     {
         let shared = SharedTables::of(alloc, renaming.renamed())?;
         Preparation::with_tables(alloc, renaming, shared, pairs)

@@ -2,8 +2,12 @@
 --     member_bit, partner_member      the members of a set by its bits; those of its image are their partners
 --     image_width, renamed_width      the width of a variable's partner over the image of a set is that of the variable over the set
 --     own_widths      a set keeps its own widths
---     kept_after, renamed_after      widths that are kept are kept by one exchange more
-use Rattle.std.proofs.Common.{◌≡◌, ℕ, ◌^◌, ◌<◌, ◌≤◌, not, ◌&&◌, List, slice_index, eqb, refl, sym, ap, ◌∙◌, subst, arith}
+--     kept_through, linked_kept, pushed_kept, taken_on      widths that are kept in one set after another
+--     renamed_after      widths that are kept are kept by one exchange more
+use Rattle.std.proofs.Common.{◌≡◌, ℕ, ◌^◌, ◌<◌, ◌≤◌, not, ◌&&◌, List, length, slice_index, eqb, refl, sym, ap, ◌∙◌, subst, arith, inl, inr, [], ◌∷◌, ◌++◌, set, get_or}
+use Rattle.std.proofs.lemmas.Bool.{cases_eq, cases_lt}
+use Rattle.std.proofs.lemmas.List.{get_or_append_left, get_or_push, get_or-set_same, get_or-set_other, length-append, length-set}
+use Rattle.symmetries.specs.declared.orbits.Image.{Image}
 use Rattle.std.specs.Int.{bit_at}
 use Rattle.std.specs.Prelude.{nat_eq}
 use Rattle.definitions.specs.Orders.{has, members, without}
@@ -15,7 +19,7 @@ use Rattle.definitions.proofs.Bits.Masks.{has_members}
 use Rattle.definitions.proofs.Widths.Recurrence.{has_without}
 use Rattle.symmetries.specs.Exchanges.{IsExchange}
 use Rattle.symmetries.specs.Images.{IsImage}
-use Rattle.symmetries.specs.Orbits.{ExchangeOf, IsAfter, IsExchangeOf, KeepsWidths, TakesWidths, width_into}
+use Rattle.symmetries.specs.Orbits.{AreKept, ExchangeOf, IsAfter, IsExchangeOf, KeepsWidths, TakesWidths, width_into}
 use Rattle.symmetries.specs.Renamings.{IsRenamed, RenamedOf}
 use Rattle.symmetries.proofs.Partners.{same_partner}
 use Rattle.symmetries.proofs.PointValues.{renamed_back, renamed_moved}
@@ -99,27 +103,71 @@ own_widths p S variables few small own = record {
   widths = λ x l. ap (width_into p S) (own x (omega arith));
 }
 
--- widths that are kept are kept by one exchange more
-pub kept_after : (p q : TruthTables) (e : ExchangeOf) (S T U : ℕ) (variables moved : List ℕ) → p.inputs ≤ 16 → IsExchangeOf q e →
-    TakesWidths p q S T variables → IsAfter e T variables U moved → TakesWidths p q S U moved
-kept_after p q e S T U variables moved few is kept after = subst (λ V. TakesWidths p q S V moved) (sym after.set) (record {
-  inputs = kept.inputs;
-  small = image.small;
-  inside = λ x l. subst (λ y. y < q.inputs) (sym (goes x l)) (is.is_exchange.inside (slice_index variables x) (kept.inside x l));
-  bits = λ x l.
-      ap (bit_at (slice_index e.images T)) (goes x l)
-      ∙ image.bits (slice_index e.partners (slice_index variables x)) (is.is_exchange.inside _ (kept.inside x l))
-      ∙ ap (bit_at T) (is.is_exchange.back (slice_index variables x) (kept.inside x l)) ∙ kept.bits x l;
+-- the image of a set under an exchange keeps its widths where the set keeps its own
+pub kept_through : (p : TruthTables) (e : ExchangeOf) (S T U : ℕ) (variables joined : List ℕ) → p.inputs ≤ 16 → IsExchangeOf p e → S < 2 ^ p.inputs →
+    KeepsWidths p S T variables → U ≡ slice_index e.images S →
+    ((x : ℕ) → x < 16 → slice_index joined x ≡ slice_index variables (slice_index e.partners x)) → KeepsWidths p U T joined
+kept_through p e S T U variables joined few is small kept there each = subst (λ V. KeepsWidths p V T joined) (sym there) (record {
+  inputs = refl;
+  small = kept.small;
+  inside = λ x l. subst (λ y. y < p.inputs) (sym (goes x l)) (kept.inside (slice_index e.partners x) (is.is_exchange.inside x l));
+  bits = λ x l. ap (bit_at T) (goes x l) ∙ kept.bits (slice_index e.partners x) (is.is_exchange.inside x l) ∙ sym (image.bits x l);
   widths = λ x l.
-      ap (width_into q (slice_index e.images T)) (goes x l)
-      ∙ image_width q e is T (slice_index variables x) kept.small (kept.inside x l) ∙ kept.widths x l;
+      ap (width_into p T) (goes x l) ∙ kept.widths (slice_index e.partners x) (is.is_exchange.inside x l)
+      ∙ sym (image_width p e is S (slice_index e.partners x) small (is.is_exchange.inside x l))
+      ∙ ap (width_into p (slice_index e.images S)) (is.is_exchange.back x l);
 })
   where
-    image : IsImage q.inputs e.partners T (slice_index e.images T)
-    image = is.images_are.each T kept.small
+    image : IsImage p.inputs e.partners S (slice_index e.images S)
+    image = is.images_are.each S small
 
-    goes : (x : ℕ) → x < p.inputs → slice_index moved x ≡ slice_index e.partners (slice_index variables x)
-    goes x l = after.each x (omega arith) (omega (arith, is.is_exchange.long, kept.inside x l))
+    goes : (x : ℕ) → x < p.inputs → slice_index joined x ≡ slice_index variables (slice_index e.partners x)
+    goes x l = each x (omega arith)
+
+-- so it is in a list of the images of all sets
+pub linked_kept : (p : TruthTables) (e : ExchangeOf) (images : List Image) (S U : ℕ) (own joined : Image) → p.inputs ≤ 16 → IsExchangeOf p e →
+    AreKept p images → S < length images → own ≡ get_or images S own → S < length e.images → U ≡ slice_index e.images S → U < length images →
+    joined.set ≡ own.set → ((x : ℕ) → x < 16 → slice_index joined.variables x ≡ slice_index own.variables (slice_index e.partners x)) →
+    AreKept p (set images U joined)
+linked_kept p e images S U own joined few is kept here at there place within same each V d l small = elim (cases_eq V U) [
+  | inl v ↦
+      subst (λ (i : Image). KeepsWidths p V i.set i.variables) (sym (ap (λ k. get_or (set images U joined) k d) v ∙ get_or-set_same images U joined d within))
+      (subst (λ k. KeepsWidths p k joined.set joined.variables) (sym v)
+      (subst (λ T. KeepsWidths p U T joined.variables) (sym same)
+      (kept_through p e S own.set U own.variables joined.variables few is inside
+      (subst (λ (i : Image). KeepsWidths p S i.set i.variables) (sym at) (kept S own here inside)) place each)))
+  | inr ne ↦
+      subst (λ (i : Image). KeepsWidths p V i.set i.variables) (sym (get_or-set_other images U V joined d ne))
+      (kept V d (subst (λ k. V < k) (length-set images U joined) l) small)
+]
+  where
+    inside : S < 2 ^ p.inputs
+    inside = omega (arith, is.images_are.long, there)
+
+-- one more image that keeps widths
+pub pushed_kept : (p : TruthTables) (images : List Image) (image : Image) → AreKept p images →
+    (length images < 2 ^ p.inputs → KeepsWidths p (length images) image.set image.variables) → AreKept p (images ++ image ∷ [])
+pushed_kept p images image kept own V d l small = elim (cases_lt V (length images)) [
+  | inl lt ↦ subst (λ (i : Image). KeepsWidths p V i.set i.variables) (sym (get_or_append_left images (image ∷ []) d V lt)) (kept V d lt small)
+  | inr ge ↦
+      let last : V ≡ length images = omega (arith, length-append images (image ∷ [])) in
+      subst (λ (i : Image). KeepsWidths p V i.set i.variables) (sym (get_or_push images image d V (sym last)))
+      (subst (λ k. KeepsWidths p k image.set image.variables) (sym last) (own (subst (λ k. k < 2 ^ p.inputs) last small)))
+]
+
+-- widths that are taken to a set are taken on to where that keeps its own
+pub taken_on : (p q : TruthTables) (S T U : ℕ) (variables further joined : List ℕ) → p.inputs ≤ 16 → TakesWidths p q S T variables →
+    KeepsWidths q T U further → ((x : ℕ) → x < 16 → slice_index joined x ≡ slice_index further (slice_index variables x)) → TakesWidths p q S U joined
+taken_on p q S T U variables further joined few taken kept each = record {
+  inputs = taken.inputs;
+  small = kept.small;
+  inside = λ x l. subst (λ y. y < q.inputs) (sym (goes x l)) (kept.inside (slice_index variables x) (taken.inside x l));
+  bits = λ x l. ap (bit_at U) (goes x l) ∙ kept.bits (slice_index variables x) (taken.inside x l) ∙ taken.bits x l;
+  widths = λ x l. ap (width_into q U) (goes x l) ∙ kept.widths (slice_index variables x) (taken.inside x l) ∙ taken.widths x l;
+}
+  where
+    goes : (x : ℕ) → x < p.inputs → slice_index joined x ≡ slice_index further (slice_index variables x)
+    goes x l = each x (omega arith)
 
 -- an exchange takes a set's own widths to those of the functions with exchanged variables
 pub renamed_after : (p : TruthTables) (r : RenamedOf) (S U : ℕ) (variables moved : List ℕ) → p.inputs ≤ 16 → IsRenamed p r → S < 2 ^ p.inputs →

@@ -5,13 +5,15 @@
 --     IsAfter e T variables U moved      where an exchange takes a set and variables
 --     TakesWidths p q S T variables      variables of p go to ones of q so that those of S go to those of T, with their widths
 --     KeepsWidths p S T variables      so it is within one problem
-use Rattle.std.specs.Prelude.{◌≡◌, ℕ, ◌^◌, ◌<◌, List, length, slice_index}
+--     AreKept p images      each set keeps its widths in its image
+use Rattle.std.specs.Prelude.{◌≡◌, ℕ, ◌^◌, ◌<◌, List, length, get_or, slice_index}
 use Rattle.std.specs.Int.{bit_at}
 use Rattle.definitions.specs.Orders.{members, without}
 use Rattle.definitions.specs.Problems.{TruthTables, functions}
 use Rattle.definitions.specs.Widths.{width}
 use Rattle.symmetries.specs.Exchanges.{AreSymmetric, IsExchange}
 use Rattle.symmetries.specs.Images.{AreImages}
+use Rattle.symmetries.specs.declared.orbits.Image.{Image}
 
 -- the partner of each variable, and the image of each set
 pub record ExchangeOf : Type 0 where
@@ -44,3 +46,7 @@ pub record TakesWidths (p q : TruthTables) (S T : ℕ) (variables : List ℕ) : 
 -- so it is within one problem
 abbrev pub KeepsWidths : TruthTables → ℕ → ℕ → List ℕ → Type 0
 KeepsWidths p = TakesWidths p p
+
+-- each set keeps its widths in its image
+abbrev pub AreKept : TruthTables → List Image → Type 0
+AreKept p images = (S : ℕ) (d : Image) → S < length images → S < 2 ^ p.inputs → KeepsWidths p S (get_or images S d).set (get_or images S d).variables

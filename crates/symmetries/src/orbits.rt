@@ -2,20 +2,12 @@
 
 ghost use Rattle.std.specs.Prelude.{◌≡◌, ◌<◌, ◌≤◌, ◌^◌, ℕ, All, IfOk, IfSome, OnOk, length, slice_index};
 ghost use Rattle.definitions.specs.Problems.{TruthTables};
-ghost use Rattle.symmetries.specs.Orbits.{IsAfter, IsExchangeOf, KeepsWidths, TakesWidths};
+ghost use Rattle.symmetries.specs.Orbits.{AreKept, IsAfter, KeepsWidths, TakesWidths};
 
 use crate::exchanges::{Exchange, exchanges_of};
 use order_model::{Mask, Pairs, Problem, VarIx};
 use std::alloc::{AllocError, Global};
 use std::marker::Model;
-
-/// How many steps are followed from a set. A longer way to the first set of its orbit isn't
-/// followed to its end, which costs time alone.
-const MOST_STEPS: u8 = 64;
-
-/// The most exchanges that are used. It leaves none out: at most 15 are found, because each makes
-/// two groups of the variables one.
-const MOST_EXCHANGES: usize = 16;
 
 /// Where exchanges take a set, and where they take each variable.
 #[derive(Clone, Copy)]
@@ -37,7 +29,7 @@ fn own_variables() -> [VarIx; 16]
 
 /// The partner of x in `partners`; 0 if the list has none for it.
 fn partner_of(partners: &[VarIx], x: VarIx) -> VarIx
-    ensures { x < length partners.now → result ≡ slice_index partners.now x }
+    ensures { result ≡ slice_index partners.now x }
 {
     match partners.get(usize::from(x)) {
         Some(partner) => *partner,
@@ -47,7 +39,7 @@ fn partner_of(partners: &[VarIx], x: VarIx) -> VarIx
 
 /// The partner of each of `variables`.
 fn moved(variables: &[VarIx; 16], partners: &[VarIx]) -> [VarIx; 16]
-    ensures { (x : ℕ) → x < 16 → slice_index variables.now x < length partners.now →
+    ensures { (x : ℕ) → x < 16 →
         slice_index result x ≡ slice_index partners.now (slice_index variables.now x) }
 {
     let mut moved = [0; 16];
@@ -71,6 +63,25 @@ impl Image {
         }
     }
 
+    /// Where the set goes to which `exchange` takes the set whose image this is: each variable goes
+    /// to its partner, and on as this image says.
+    fn through(&self, exchange: &Exchange) -> Image
+        ensures set { result.set ≡ self.now.set }
+        ensures each { (x : ℕ) → x < 16 →
+            slice_index result.variables x ≡ slice_index self.now.variables
+            (slice_index exchange.now.partners x) }
+    {
+        let mut variables = [0; 16];
+        for x in 0..16u8 {
+            let partner = partner_of(exchange.partners(), x);
+            variables[x as usize] = partner_of(&self.variables, partner);
+        }
+        Image {
+            set: self.set,
+            variables,
+        }
+    }
+
     /// Where `exchange` takes this image. An image that is no set of the exchange stays as it is.
     pub(crate) fn after(self, exchange: &Exchange) -> Image
         ensures { self.set < length exchange.now.images →
@@ -86,25 +97,22 @@ impl Image {
     }
 }
 
-/// For each set by which exchange it was reached from a set nearer to the first one of its orbit.
-/// Any answer is right: the exchange leads to another set of the orbit.
+/// The sets of one orbit that were reached, in that order, and for each of all sets whether it was
+/// seen.
 #[derive(Drop)]
-struct Steps {
-    /// For each set the number of that exchange; none if it was not reached by one.
-    of: Vec<Option<u8>>,
-    /// For each set whether it was seen.
+struct Reached {
+    sets: Vec<Mask>,
     seen: Vec<bool>,
 }
 
-impl Steps {
-    /// The steps before any set of `inputs` variables is reached.
-    fn none(alloc: Global, inputs: u8) -> Result<Steps, AllocError>
+impl Reached {
+    /// None of the sets of `inputs` variables.
+    fn none(alloc: Global, inputs: u8) -> Result<Reached, AllocError>
         requires { inputs ≤ 16 }
     {
-        let sets = 1usize << inputs;
-        Ok(Steps {
-            of: vec![in alloc; None; sets]?,
-            seen: vec![in alloc; false; sets]?,
+        Ok(Reached {
+            sets: Vec::new(alloc),
+            seen: vec![in alloc; false; 1usize << inputs]?,
         })
     }
 
@@ -118,115 +126,47 @@ impl Steps {
             _ => false,
         }
     }
-
-    /// Reaches the lawful sets to which exchanges take `set`, unless they were seen: notes by which
-    /// exchange, and appends them to `reached`.
-    fn step_from(
-        &mut self,
-        set: Mask,
-        exchanges: &[Exchange],
-        pairs: &Pairs,
-        reached: &mut Vec<Mask>,
-    ) -> Result<(), AllocError> {
-        for number in 0..exchanges.len().min(MOST_EXCHANGES) as u8 {
-            let images = exchanges[usize::from(number)].images();
-            if let Some(image) = images.get(usize::from(set))
-                && self.see(*image)
-                && pairs.lawful(*image)
-            {
-                if let Some(step) = self.of.get_mut(usize::from(*image)) {
-                    *step = Some(number);
-                }
-                reached.push(*image)?;
-            }
-        }
-        Ok(())
-    }
-
-    /// Reaches the sets of the orbit of `first`, from set to set. `reached` is working memory.
-    fn reach_from(
-        &mut self,
-        first: Mask,
-        exchanges: &[Exchange],
-        pairs: &Pairs,
-        reached: &mut Vec<Mask>,
-    ) -> Result<(), AllocError> {
-        reached.clear();
-        reached.push(first)?;
-        for place in 0..self.of.len() {
-            let Some(set) = reached.get(place) else {
-                break;
-            };
-            self.step_from(*set, exchanges, pairs, reached)?;
-        }
-        Ok(())
-    }
-
-    /// Reaches the orbits of the lawful sets with the high byte `high` that were not seen yet.
-    /// `reached` is working memory.
-    fn reach_all(
-        &mut self,
-        high: u8,
-        exchanges: &[Exchange],
-        pairs: &Pairs,
-        reached: &mut Vec<Mask>,
-    ) -> Result<(), AllocError> {
-        for low in 0..256 {
-            let set = Mask::from(high) * 256 + low;
-            if self.see(set) && pairs.lawful(set) {
-                self.reach_from(set, exchanges, pairs, reached)?;
-            }
-        }
-        Ok(())
-    }
-
-    /// For each lawful set by which exchange it was reached; none for the first set of an orbit.
-    /// That is the one with the fewest high variables, and of these the one with the smallest mask.
-    fn of(
-        alloc: Global,
-        inputs: u8,
-        exchanges: &[Exchange],
-        pairs: &Pairs,
-    ) -> Result<Vec<Option<u8>>, AllocError>
-        requires { inputs ≤ 16 }
-    {
-        let mut steps = Steps::none(alloc, inputs)?;
-        let mut reached = Vec::new(alloc);
-        for size in 0..9 {
-            for high in 0..=255u8 {
-                if high.count_ones() == size {
-                    steps.reach_all(high, exchanges, pairs, &mut reached)?;
-                }
-            }
-        }
-        Ok(steps.of)
-    }
 }
 
-/// Exchanges under which no function of a problem changes, and for each set the number of the one
-/// that takes it nearer to the first set of its orbit.
+/// Each set of `inputs` variables as its own image, at its mask.
+fn own_images(alloc: Global, inputs: u8) -> Result<Vec<Image>, AllocError>
+    requires { inputs ≤ 16 }
+    ensures { (p : TruthTables) → p.inputs ≤ 16 →
+        IfOk result (λ v. AreKept p v.items) }
+{
+    let mut images = Vec::with_capacity(alloc, 1usize << inputs)?;
+    for set in 0..1usize << inputs {
+        images.push(Image::of(set as Mask))?;
+    }
+    Ok(images)
+}
+
+/// The orbits of a problem's sets under exchanges that change no function, and where the exchanges
+/// take each set: to the first set of its orbit, the one with the fewest high variables, and of
+/// these with the smallest mask.
 #[derive(Drop)]
 pub struct Orbits<'a> {
     problem: &'a Problem,
     exchanges: Vec<Exchange>,
-    steps: Vec<Option<u8>>,
+    images: Vec<Image>,
 }
 
 impl<'a> Model for Orbits<'a> {
     ghost use Rattle.std.specs.Prelude.{All};
     ghost use Rattle.definitions.specs.Problems.{TruthTables};
-    ghost use Rattle.symmetries.specs.Orbits.{IsExchangeOf};
+    ghost use Rattle.symmetries.specs.Orbits.{AreKept, IsExchangeOf};
 
     ghost Value = { TruthTables };
 
     ghost view = { λ o. o.problem.now };
 
-    ghost invariant = { λ o. All (IsExchangeOf o.problem.now) o.exchanges.items };
+    ghost invariant = { λ o. All (IsExchangeOf o.problem.now) o.exchanges.items
+        × AreKept o.problem.now o.images.items };
 }
 
 impl<'a> Orbits<'a> {
-    /// The orbits of the sets that are lawful by the pairs. Nothing if no variables are found that
-    /// may be exchanged.
+    /// The orbits of the sets that are lawful by `pairs`, whose problem's exchanges are sought;
+    /// nothing if none are found. Other sets stay their own images.
     pub fn of(
         alloc: Global,
         problem: &'a Problem,
@@ -234,36 +174,117 @@ impl<'a> Orbits<'a> {
     ) -> Result<Option<Orbits<'a>>, AllocError>
         ensures { IfOk result (λ o. IfSome o (λ orbits. orbits ≡ problem.now)) }
     {
+        prove!(problem.inputs() <= 16);
         let exchanges = exchanges_of(alloc, problem, pairs)?;
         if exchanges.is_empty() {
             return Ok(None);
         }
-        let steps = Steps::of(alloc, problem.inputs(), &exchanges, pairs)?;
-        Ok(Some(Orbits {
+        let mut orbits = Orbits {
             problem,
             exchanges,
-            steps,
-        }))
+            images: own_images(alloc, problem.inputs())?,
+        };
+        orbits.reach_all(alloc, pairs)?;
+        Ok(Some(orbits))
     }
 
-    /// The exchange that takes a set nearer to the first set of its orbit; nothing if the set is
-    /// that one, or not lawful.
-    fn step(&self, set: Mask) -> Option<&Exchange>
-        ensures { IfSome result (λ e. IsExchangeOf self.now e.now) }
+    /// Where the exchange with a number takes a set; nothing if there is none.
+    fn image(&self, set: Mask, number: usize) -> Option<Mask> {
+        let exchange = self.exchanges.get(number)?;
+        let image = exchange.images().get(usize::from(set))?;
+        Some(*image)
+    }
+
+    /// Lets the set to which the exchange with a number takes `set` go where `set` goes.
+    fn link(&mut self, set: Mask, number: usize)
+        ensures { self.new ≡ self.old }
     {
-        match self.steps.get(usize::from(set)) {
-            Some(Some(number)) => self.exchanges.get(usize::from(*number)),
-            _ => None,
+        prove!(self.problem.inputs() <= 16);
+        let Some(exchange) = self.exchanges.get(number) else {
+            return;
+        };
+        let Some(place) = exchange.images().get(usize::from(set)) else {
+            return;
+        };
+        let Some(image) = self.images.get(usize::from(set)) else {
+            return;
+        };
+        let through = image.through(exchange);
+        let place = usize::from(*place);
+        if place < self.images.len() {
+            self.images[place] = through;
         }
+    }
+
+    /// Reaches the lawful sets to which exchanges take `set`, unless they were seen: they go where
+    /// `set` goes, and are appended to `reached`.
+    fn step_from(
+        &mut self,
+        set: Mask,
+        pairs: &Pairs,
+        reached: &mut Reached,
+    ) -> Result<(), AllocError>
+        ensures { self.new ≡ self.old }
+    {
+        for number in 0..self.exchanges.len() {
+            if let Some(image) = self.image(set, number)
+                && reached.see(image)
+                && pairs.lawful(image)
+            {
+                self.link(set, number);
+                reached.sets.push(image)?;
+            }
+        }
+        Ok(())
+    }
+
+    /// Reaches the orbit of `first`, from set to set. `reached` then has its sets.
+    fn reach_from(
+        &mut self,
+        first: Mask,
+        pairs: &Pairs,
+        reached: &mut Reached,
+    ) -> Result<(), AllocError>
+        ensures { self.new ≡ self.old }
+    {
+        reached.sets.clear();
+        reached.sets.push(first)?;
+        for place in 0..self.images.len() {
+            let Some(set) = reached.sets.get(place) else {
+                break;
+            };
+            self.step_from(*set, pairs, reached)?;
+        }
+        Ok(())
+    }
+
+    /// Reaches the orbits of all sets that are lawful by `pairs`, each from its first set.
+    fn reach_all(&mut self, alloc: Global, pairs: &Pairs) -> Result<(), AllocError>
+        ensures { self.new ≡ self.old }
+    {
+        prove!(self.problem.inputs() <= 16);
+        let inputs = self.problem.inputs();
+        let mut reached = Reached::none(alloc, inputs)?;
+        for size in 0..9 {
+            for number in 0..1usize << inputs {
+                let set = number as Mask;
+                if (set >> 8).count_ones() == size && reached.see(set) && pairs.lawful(set) {
+                    self.reach_from(set, pairs, &mut reached)?;
+                }
+            }
+        }
+        Ok(())
     }
 
     /// Whether a set is the first of its orbit, or not lawful.
     pub fn is_first(&self, set: Mask) -> bool {
-        self.step(set).is_none()
+        match self.images.get(usize::from(set)) {
+            Some(image) => image.set == set,
+            None => true,
+        }
     }
 
-    /// Where exchanges take a set and its variables: to the first set of its orbit, if at most
-    /// `MOST_STEPS` steps lead there.
+    /// Where exchanges take a set: to the first set of its orbit.
     pub fn first_of(&self, set: Mask) -> Image
         requires { set < 2 ^ self.now.inputs }
         ensures { KeepsWidths self.now set result.set result.variables }
@@ -272,20 +293,18 @@ impl<'a> Orbits<'a> {
         self.first_from(Image::of(set))
     }
 
-    /// Where exchanges take the image `from`: to the first set of its orbit, if at most
-    /// `MOST_STEPS` steps lead there.
+    /// Where exchanges take the image of a set: to the first set of its orbit.
     pub fn first_from(&self, from: Image) -> Image
         ensures { (p : TruthTables) (S : ℕ) → p.inputs ≤ 16 →
             TakesWidths p self.now S from.set from.variables →
             TakesWidths p self.now S result.set result.variables }
     {
-        let mut image = from;
-        for _step in 0..MOST_STEPS {
-            let Some(exchange) = self.step(image.set) else {
-                break;
-            };
-            image = image.after(exchange);
+        match self.images.get(usize::from(from.set)) {
+            Some(image) => Image {
+                set: image.set,
+                variables: moved(&from.variables, &image.variables),
+            },
+            None => from,
         }
-        image
     }
 }
