@@ -161,7 +161,8 @@ impl AllNamePairs {
         }
     }
 
-    /// The pairs of names for a set by the high variable y, if they were numbered beforehand.
+    /// The pairs of names for the high members of `set`, by the variable y, which is 8 or more and
+    /// outside `set`; nothing if they were not numbered beforehand.
     pub(crate) fn at(&self, set: Mask, y: VarIx) -> Option<&NamePairs> {
         match self
             .steps

@@ -38,8 +38,9 @@ impl Model for PairNumbers {
         (befores_of s.links.items) s.last.items };
 }
 
-/// The bucket of a pair, below `buckets`, which is a power of two. If the factor is the number of
-/// classes and `buckets` its square, each pair has a bucket of its own.
+/// The bucket of a pair of class numbers: the first times `factor` plus the second, modulo
+/// `buckets`, which is a power of two. If `factor` is the number of classes and `buckets` at least
+/// its square, each pair has a bucket of its own.
 #[inline(always)]
 fn bucket(factor: u32, buckets: usize, pair: (u32, u32)) -> usize
     requires some { 0 < buckets }

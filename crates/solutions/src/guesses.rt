@@ -24,9 +24,10 @@ fn first_layers(problem: &Problem, limit: Limit) -> u8 {
     }
 }
 
-/// For how many layers rows are found before the bound is known; `limit.bound` is then the size of
-/// any diagram of the functions. None if `asked` has no pairs and `kept` has those of symmetric
-/// variables, because few sets are left then.
+/// An estimate of how many layers, from the smallest sets on, should have rows before the bound is
+/// known. `asked` are the pairs that the caller requires, `kept` those that the search is likely to
+/// keep, and `limit.bound` is the size of some diagram of the functions. The estimate is 0 if
+/// `asked` is empty and `kept` is not, because few sets are left then.
 pub fn layers_to_prepare(problem: &Problem, asked: &Pairs, kept: &Pairs, limit: Limit) -> u8 {
     if asked.count() == 0 && kept.count() > 0 {
         return 0;

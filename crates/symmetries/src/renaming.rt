@@ -92,7 +92,8 @@ fn partners_to_lower(inputs: u8, set: Mask) -> [VarIx; 16]
 }
 
 impl Renamed {
-    /// The problem with variables exchanged so that the members of `set` are the lowest ones.
+    /// The problem with variables exchanged in pairs so that the members of `set` are the lowest
+    /// ones. Nothing if the partners that were found are no exchange.
     fn of(alloc: Global, problem: &Problem, set: Mask) -> Result<Option<Renamed>, AllocError>
         ensures { IfOk result (λ r. IfSome r (IsRenamed problem.now)) }
     {

@@ -176,8 +176,8 @@ fn lengthen<R: Files + AllocGlobal>(rt: &R, bytes: &mut Vec<u8>, line: &str) -> 
     }
 }
 
-/// Reads a line of a file of cases: it begins a case, says something of the last one, or is empty
-/// or a comment.
+/// Reads a line of a file of cases: it begins a case, adds to the last case, or is empty or a
+/// comment.
 fn read_line<'a, R: Files + AllocGlobal>(
     rt: &R,
     cases: &mut Vec<Case<'a>>,
