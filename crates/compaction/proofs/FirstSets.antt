@@ -1,13 +1,13 @@
 -- Tables of the first sets, in the order of their masks.
 --     first_set      the table at a place
---     within, looked_up      the table at a place, if there is one
---     earlier_set      the table of a set without its largest member
+--     latest, latest_of      the last table that was made, or the one to begin with
 --     one_set_more      one more of them
 --     can_take, with_larger      a larger member can come into all of them; with those that have it they are the first sets
 --     larger_set, lacks_larger      the mask of a set with a larger member, which it lacked
 use Rattle.std.proofs.Common.{◌≡◌, ℕ, zero, suc, ◌+◌, ◌*◌, ◌%◌, ◌^◌, ◌<◌, ltb, List, Option, None, Some, IfSome, is_some, [], ◌∷◌, ◌++◌, map, length, get_or, false, sym, ap, ◌∙◌, arith, bit_or, zero-mul}
 use Rattle.std.specs.List.{All, range_with_len}
 use Rattle.std.specs.Borrow.{Bor}
+use Rattle.std.specs.Option.{option_copied, unwrap_or}
 use Rattle.std.proofs.Math.Nat.{mod-eq_of_lt}
 use Rattle.std.proofs.lemmas.Bool.{ltb-true}
 use Rattle.std.proofs.lemmas.Nat.{one_shl, or_disjoint}
@@ -26,35 +26,15 @@ pub first_set : (p : TruthTables) (tables : List ClassesOf) (i : ℕ) (d : Class
 first_set p tables i d h lt =
     ap (λ ts. get_or ts i d) h ∙ get_or-map-range_with_len (classes_of p) 0 (length tables) i i d lt (omega arith)
 
--- a place that has a table is inside
-pub within : (tables : List ClassesOf) (i : ℕ) (found : Option (Bor ClassesOf)) → is_some found ≡ ltb i (length tables) →
-    IfSome found (λ t. i < length tables)
-within tables i None e = tt
-within tables i (Some t) e = ltb-true i (length tables) (sym e)
+-- the last table that was made, or the one to begin with
+abbrev pub latest : Option ClassesOf → ClassesOf → ClassesOf
+latest None first = first
+latest (Some table) first = table
 
--- the table at a place, if there is one
-pub looked_up : (p : TruthTables) (tables : List ClassesOf) (i : ℕ) (found : Option (Bor ClassesOf)) → AreOfFirstSets p tables →
-    IfSome found (λ t. t.now ≡ get_or tables i t.now) → IfSome found (λ t. i < length tables) → IfSome found (λ t. t.now ≡ classes_of p i)
-looked_up p tables i None h e lt = tt
-looked_up p tables i (Some t) h e lt = e ∙ first_set p tables i t.now h lt
-
--- the table of a set without its largest member
-pub earlier_set : (p : TruthTables) (tables : List ClassesOf) (largest without : ℕ) (t : ClassesOf) → largest < 16 →
-    without < 1 * 2 ^ largest % 2 ^ 64 → length tables ≡ 2 ^ largest + without → AreOfFirstSets p tables → t ≡ get_or tables without t →
-    (without < 2 ^ largest) × (t ≡ classes_of p without)
-earlier_set p tables largest without t q lt l h e =
-    let o = one_shl largest 64 (omega arith) in
-    (omega arith, e ∙ first_set p tables without t h (omega arith))
-
--- one more of them
-pub one_set_more : (p : TruthTables) (tables : List ClassesOf) (t : ClassesOf) → AreOfFirstSets p tables → t ≡ classes_of p (length tables) →
-    AreOfFirstSets p (tables ++ t ∷ [])
-one_set_more p tables t h e =
-    (λ i. h i ++ (e i ∷ [])) ∙ sym (map-range_with_len_more (classes_of p) 0 (length tables) (length tables) (omega arith))
-    ∙ (λ i. map (classes_of p) (range_with_len 0 (length_append_one i)))
-  where
-    length_append_one : length tables + 1 ≡ length (tables ++ t ∷ [])
-    length_append_one = sym (length-append tables (t ∷ []))
+pub latest_of : (made : Option ClassesOf) (found : Option (Bor ClassesOf)) (first table : Bor ClassesOf) → option_copied found ≡ made →
+    table ≡ unwrap_or found first → table.now ≡ latest made first.now
+latest_of made None first table e u = ap (λ (b : Bor ClassesOf). b.now) u ∙ ap (λ m. latest m first.now) e
+latest_of made (Some t) first table e u = ap (λ (b : Bor ClassesOf). b.now) u ∙ ap (λ m. latest m first.now) e
 
 -- the mask of a set with a larger member
 pub larger_set : (set x : ℕ) → set < 2 ^ x → bit_or set (2 ^ x) ≡ 2 ^ x + set

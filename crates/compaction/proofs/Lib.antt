@@ -12,7 +12,6 @@ pub mod StripTables
 pub mod HeldStrips
 pub mod UsedNumbers
 pub mod AllDistinct
-pub mod HeldBytes
 pub mod FirstSets
 pub mod OrderedStrips
 pub mod ImageRows

@@ -8,9 +8,8 @@
 --     AreDistinct t count      all subfunctions are distinct and depend on the whole set
 --     HoldsStripTable      either of them
 --     AreOfFirstSets p tables      the tables of the first sets, in the order of their masks
+--     AreKnownTables p tables known      the tables of all sets of the first `known` variables
 --     CanTakeLow x t      the variable is a low one outside the table's set
---     HoldsBytes t low outer bytes rows masks      strips whose entries stand in rows, which bytes name: a row has an entry for each
---         assignment of the variables below 3 outside the set
 use Rattle.std.specs.Prelude.{◌≡◌, ℕ, ◌+◌, ◌*◌, ◌^◌, ◌<◌, ◌≤◌, Bool, IsFalse, IsTrue, min, List, Option, None, Some, map, length, reverse, slice_index, nat_eq}
 use Rattle.std.specs.List.{filter, range_with_len}
 use Rattle.definitions.specs.Orders.{has, variables}
@@ -23,7 +22,7 @@ use Rattle.subfunction_classes.specs.Places.{pairs}
 use Rattle.subfunction_classes.specs.Dependence.{dependence}
 use Rattle.subfunction_classes.specs.Table.{ClassesOf, classes_of, functions_of, set_of, free_below}
 use Rattle.pair_numbering.specs.Keys.{AreUsed, TellsPairs}
-use Rattle.subfunction_classes.specs.Strips.{AreNamed, unrolled}
+use Rattle.subfunction_classes.specs.Strips.{unrolled}
 use Rattle.value_strips.specs.ValueStrips.{AreStrips}
 
 -- how many variables run inside a strip of the empty set
@@ -90,16 +89,15 @@ HoldsStripTable t low None all_used outer numbers masks = HoldsStrips t low oute
     × (IsTrue all_used → AreUsed numbers masks)
 HoldsStripTable t low (Some count) all_used outer numbers masks = AreDistinct t count
 
--- the strips' entries stand in rows, which `bytes` name
-pub record HoldsBytes (t : ClassesOf) (low : ℕ) (outer bytes rows masks : List ℕ) : Type 0 where
-  pub named : AreNamed bytes rows (2 ^ free_below t.set 3)
-  pub strips : HoldsStrips t low outer (unrolled bytes rows (2 ^ free_below t.set 3)) masks
-  pub below : AllBelow rows (length masks)
-  pub few_rows : length rows ≤ 2 ^ 11
-
 -- the tables of the first sets, in the order of their masks
 abbrev pub AreOfFirstSets : TruthTables → List ClassesOf → Type 0
 AreOfFirstSets p tables = tables ≡ map (classes_of p) (range_with_len 0 (length tables))
+
+-- the tables of all sets of the first `known` variables, which are low
+pub record AreKnownTables (p : TruthTables) (tables : List ClassesOf) (known : ℕ) : Type 0 where
+  pub low : known ≤ low_variables p
+  pub many : length tables ≡ 2 ^ known
+  pub first : AreOfFirstSets p tables
 
 -- the variable is a low one outside the table's set
 abbrev pub CanTakeLow : ℕ → ClassesOf → Type 0

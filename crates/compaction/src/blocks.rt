@@ -124,7 +124,7 @@ pub fn block_widths(
     ensures ok { OnOk result (tally.new ≡ tally.old + wanted_count needed.now) }
     ensures err { OnErr result (tally.new ≡ tally.old) }
 {
-    let shared = SharedTables::bare(alloc, problem);
+    let shared = SharedTables::bare(alloc, problem)?;
     shared.block_widths(alloc, block, needed, tally)
 }
 
@@ -198,6 +198,6 @@ pub fn all_widths(
     ensures ok { OnOk result (tally.new ≡ tally.old + wanted_count (block_masks block.now)) }
     ensures err { OnErr result (tally.new ≡ tally.old) }
 {
-    let shared = SharedTables::bare(alloc, problem);
+    let shared = SharedTables::bare(alloc, problem)?;
     shared.all_widths(alloc, block, tally)
 }

@@ -1,6 +1,6 @@
 //! A walk over the high variables, from the class table of a low byte.
 
-ghost use Rattle.std.specs.Prelude.{◌≡◌, ℕ, ◌+◌, ◌-◌, ◌^◌, ◌<◌, ◌≤◌, length, IfOk, IfSome, IsNone, OnOk, bit_or};
+ghost use Rattle.std.specs.Prelude.{◌≡◌, ℕ, ◌+◌, ◌-◌, ◌%◌, ◌^◌, ◌<◌, ◌≤◌, length, IfOk, IfSome, IsNone, OnOk, bit_or};
 ghost use Rattle.std.specs.Int.{bit_at};
 ghost use Rattle.subfunction_classes.specs.Table.{classes_of, free_below};
 ghost use Rattle.compaction.specs.Rows.{AreByteRows, HoldsRows, most_compactions, most_walked};
@@ -8,7 +8,6 @@ ghost use Rattle.compaction.specs.Strips.{low_variables as low_of};
 ghost use Rattle.compaction.specs.Walks.{AreWanted, FillsOwn, FillsRows, HasDecided};
 
 use crate::high_bytes::HighBytes;
-use crate::low_tables::low_strips;
 use crate::names::AllNamePairs;
 use crate::request::WidthRequest;
 use crate::shared_tables::SharedTables;
@@ -180,8 +179,35 @@ fn walk_from(
     Ok(count)
 }
 
-/// Writes the rows of the wanted sets. The class table of their low byte is made here if it wasn't
-/// beforehand. Returns how many class tables were compacted from that one on.
+/// The class table of `low`, a set of low variables, made from `first`, that of its members below
+/// `from`. None if it has no others.
+fn with_members<'a>(
+    alloc: Global,
+    first: &Strips<'a>,
+    low: Mask,
+    from: u8,
+) -> Result<Option<Strips<'a>>, AllocError>
+    requires from { from ≤ low_of first.now.problem }
+    requires first { first.now ≡ classes_of first.now.problem (low % 2 ^ from) }
+    requires low { low < 2 ^ low_of first.now.problem }
+    ensures made { IfOk result (λ made. IfSome made (λ t. t ≡ classes_of first.now.problem low)) }
+    ensures none { IfOk result
+        (λ made. IsNone made → first.now ≡ classes_of first.now.problem low) }
+{
+    let mut made: Option<Strips<'a>> = None;
+    for y in from..first.low_variables() {
+        if contains(low, y) {
+            let table = made.as_ref().unwrap_or(&*first);
+            let more = table.add_low(alloc, y)?;
+            made = Some(more);
+        }
+    }
+    Ok(made)
+}
+
+/// Writes the rows of the wanted sets. The class table of their low byte is made from that of its
+/// lowest members, which `shared` has. Returns how many class tables were compacted from the low
+/// byte's on.
 fn fill_rows(
     alloc: Global,
     shared: &SharedTables<'_>,
@@ -195,11 +221,10 @@ fn fill_rows(
     ensures compactions { IfOk result (λ count. count + 1 ≤ most_walked shared.now) }
 {
     let low = Mask::from(request.low);
-    if let Some(table) = shared.table(low) {
-        return walk_from(alloc, shared, table, request, rows);
-    }
-    let table = low_strips(alloc, shared, low)?;
-    walk_from(alloc, shared, &table, request, rows)
+    let (first, known) = shared.first_table(low);
+    let made = with_members(alloc, first, low, known)?;
+    let table = made.as_ref().unwrap_or(&*first);
+    walk_from(alloc, shared, table, request, rows)
 }
 
 /// The rows of sets with one low byte: at a set's high byte, the widths of those of its members

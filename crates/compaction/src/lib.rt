@@ -4,13 +4,11 @@
 mod add_variable;
 mod ahead;
 mod blocks;
-mod bytes;
 mod found_rows;
 mod high_bytes;
 mod high_walk;
 mod image_rows;
 mod low_choice;
-mod low_tables;
 mod names;
 mod preparation;
 mod request;

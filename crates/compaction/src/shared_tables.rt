@@ -1,12 +1,11 @@
 //! Class tables that are made once a search and read by all walks.
 
-ghost use Rattle.std.specs.Prelude.{◌≡◌, ◌<◌, ◌≤◌, map, IfOk, IfSome};
+ghost use Rattle.std.specs.Prelude.{◌≡◌, ◌%◌, ◌^◌, ◌≤◌, map, IfOk};
 ghost use Rattle.std.specs.List.{All};
 ghost use Rattle.subfunction_classes.specs.Table.{classes_of, with_variable};
-ghost use Rattle.compaction.specs.Strips.{AreOfFirstSets, CanTakeLow};
+ghost use Rattle.compaction.specs.Strips.{AreKnownTables, CanTakeLow, low_variables as low_of};
 ghost use Rattle.compaction.specs.Joining.{AreJoined};
 
-use crate::bytes::ByteKeys;
 use crate::names::AllNamePairs;
 use crate::strips::{Strips, low_variables};
 use order_model::{Mask, Problem, VarIx, Workers};
@@ -15,31 +14,33 @@ use std::marker::Model;
 use std::thread;
 use std::thread::Threads;
 
-/// The class tables of all sets of low variables are made beforehand if the truth tables have at
-/// most so many distinct strips: they take 6,561 class numbers a strip.
-const MOST_STRIPS: usize = 1 << 10;
+/// The class tables of all sets of low variables are made beforehand if the strips of the truth
+/// tables have at most so many points, a class number each: all tables take 26 times as many.
+const MOST_POINTS: usize = 1 << 18;
 
-/// What all walks share: the class tables of all sets of low variables if they are small, else
-/// those of the sets of the lowest three, in `keys`; and the pairs of names for the sets of high
-/// variables. They are made once a search.
+/// With more points the class tables of the sets of so many variables are made beforehand.
+const FEWEST_KNOWN: u8 = 3;
+
+/// What all walks share: the class tables of the sets of the lowest variables, and the pairs of
+/// names for the sets of high variables. They are made once a search.
 #[derive(Drop)]
 pub struct SharedTables<'a> {
     problem: &'a Problem,
+    /// The class tables of all sets of the lowest `known` variables, by rising mask.
     tables: Vec<Strips<'a>>,
-    keys: Vec<ByteKeys<'a>>,
+    known: u8,
     names: AllNamePairs,
 }
 
 impl<'a> Model for SharedTables<'a> {
     ghost use Rattle.definitions.specs.Problems.{TruthTables};
-    ghost use Rattle.compaction.specs.Strips.{AreOfFirstSets};
+    ghost use Rattle.compaction.specs.Strips.{AreKnownTables};
 
     ghost Value = { TruthTables };
 
     ghost view = { λ b. b.problem.now };
 
-    ghost invariant = { λ b. AreOfFirstSets b.problem.now b.tables.items
-        × AreOfFirstSets b.problem.now b.keys.items };
+    ghost invariant = { λ b. AreKnownTables b.problem.now b.tables.items b.known };
 }
 
 /// Class tables, or an error if memory was refused.
@@ -139,85 +140,49 @@ impl<'r, R: Threads + Sync> TableMaker for WorkerThreads<'r, R> {
     }
 }
 
-/// The class tables of all sets of low variables by rising mask, made from `empty`, that of the
-/// empty set. There are none if `empty` is none.
+/// The class tables of all sets of the lowest `known` variables by rising mask, made from `empty`,
+/// that of the empty set.
 fn tables_of_low_sets<'a, M: TableMaker>(
     maker: &M,
     alloc: Global,
-    problem: &'a Problem,
-    empty: Option<Strips<'a>>,
+    empty: Strips<'a>,
+    known: u8,
 ) -> Result<Vec<Strips<'a>>, AllocError>
     requires ready { M.ready maker.now }
-    requires empty { IfSome empty (λ t. t ≡ classes_of problem.now 0) }
-    ensures { IfOk result (λ v. AreOfFirstSets problem.now v.items) }
+    requires empty { empty ≡ classes_of empty.problem 0 }
+    requires known { known ≤ low_of empty.problem }
+    ensures { IfOk result (λ v. AreKnownTables empty.entry.problem v.items known) }
 {
     let mut tables = Vec::new(alloc);
-    if let Some(empty) = empty {
-        tables.push(empty)?;
-        for largest in 0..low_variables(problem) {
-            let mut larger = maker.with_low(alloc, &tables, largest)?;
-            tables.append(&mut larger)?;
-        }
+    tables.push(empty)?;
+    for largest in 0..known {
+        let mut larger = maker.with_low(alloc, &tables, largest)?;
+        tables.append(&mut larger)?;
     }
     Ok(tables)
 }
 
-/// The class tables of the sets of the lowest three variables by rising mask, made from `empty`,
-/// that of the empty set.
-fn keys_of_low_sets<'a>(
+/// The shared tables of a problem, with all that serves several walks, by the maker.
+fn made_by<'a, M: TableMaker>(
+    maker: &M,
     alloc: Global,
     problem: &'a Problem,
-    empty: ByteKeys<'a>,
-) -> Result<Vec<ByteKeys<'a>>, AllocError>
-    requires inputs { 8 ≤ problem.now.inputs }
-    requires empty { empty ≡ classes_of problem.now 0 }
-    ensures { IfOk result (λ v. AreOfFirstSets problem.now v.items) }
+) -> Result<SharedTables<'a>, AllocError>
+    requires { M.ready maker.now }
+    ensures { IfOk result (λ b. b ≡ problem.now) }
 {
-    let mut keys = Vec::with_capacity(alloc, 8)?;
-    keys.push(empty)?;
-    for largest in 0..3u8 {
-        for without in 0..1usize << largest {
-            let more = keys[without].add(alloc, largest)?;
-            keys.push(more)?;
-        }
-    }
-    Ok(keys)
-}
-
-/// What shared tables are made from: the class table of the empty set if those of all sets of low
-/// variables are to be made, else in `keys` those of the sets of the lowest three; and the pairs of
-/// names.
-#[derive(Drop)]
-struct Basis<'a> {
-    empty: Option<Strips<'a>>,
-    keys: Vec<ByteKeys<'a>>,
-    names: AllNamePairs,
-}
-
-/// What the shared tables of a problem are made from.
-fn basis_of<'a>(alloc: Global, problem: &'a Problem) -> Result<Basis<'a>, AllocError>
-    ensures empty { IfOk result (λ b. IfSome b.empty (λ t. t ≡ classes_of problem.now 0)) }
-    ensures keys { IfOk result (λ b. AreOfFirstSets problem.now b.keys.items) }
-{
-    if problem.inputs() < 8 {
-        return Ok(Basis {
-            empty: Some(Strips::of_problem(alloc, problem)?),
-            keys: Vec::new(alloc),
-            names: AllNamePairs::none(alloc),
-        });
-    }
-    let keys = ByteKeys::of_problem(alloc, problem)?;
-    let names = AllNamePairs::of(alloc, keys.names(), problem.inputs() - 8)?;
-    if keys.strips() <= MOST_STRIPS {
-        return Ok(Basis {
-            empty: Some(keys.write_out(alloc)?),
-            keys: Vec::new(alloc),
-            names,
-        });
-    }
-    Ok(Basis {
-        empty: None,
-        keys: keys_of_low_sets(alloc, problem, keys)?,
+    let low = low_variables(problem);
+    let empty = Strips::of_problem(alloc, problem)?;
+    let names = AllNamePairs::of(alloc, empty.names(), problem.inputs() - low)?;
+    let known = if empty.stored() <= MOST_POINTS {
+        low
+    } else {
+        low.min(FEWEST_KNOWN)
+    };
+    Ok(SharedTables {
+        problem,
+        tables: tables_of_low_sets(maker, alloc, empty, known)?,
+        known,
         names,
     })
 }
@@ -227,13 +192,7 @@ impl<'a> SharedTables<'a> {
     pub fn of(alloc: Global, problem: &'a Problem) -> Result<SharedTables<'a>, AllocError>
         ensures { IfOk result (λ b. b ≡ problem.now) }
     {
-        let Basis { empty, keys, names } = basis_of(alloc, problem)?;
-        Ok(SharedTables {
-            problem,
-            tables: tables_of_low_sets(&CallingThread, alloc, problem, empty)?,
-            keys,
-            names,
-        })
+        made_by(&CallingThread, alloc, problem)
     }
 
     /// The shared tables of a problem, with all that serves several walks, by the workers.
@@ -245,26 +204,21 @@ impl<'a> SharedTables<'a> {
     ) -> Result<SharedTables<'a>, AllocError>
         ensures { IfOk result (λ b. b ≡ problem.now) }
     {
-        let Basis { empty, keys, names } = basis_of(alloc, problem)?;
-        let threads = WorkerThreads { rt, workers };
-        Ok(SharedTables {
-            problem,
-            tables: tables_of_low_sets(&threads, alloc, problem, empty)?,
-            keys,
-            names,
-        })
+        made_by(&WorkerThreads { rt, workers }, alloc, problem)
     }
 
-    /// The shared tables of a problem with nothing made beforehand, for a single walk.
-    pub(crate) fn bare(alloc: Global, problem: &'a Problem) -> SharedTables<'a>
-        ensures { result ≡ problem.now }
+    /// The shared tables of a problem for a single walk: the class table of the empty set alone.
+    pub(crate) fn bare(alloc: Global, problem: &'a Problem) -> Result<SharedTables<'a>, AllocError>
+        ensures { IfOk result (λ b. b ≡ problem.now) }
     {
-        SharedTables {
+        let mut tables = Vec::new(alloc);
+        tables.push(Strips::of_problem(alloc, problem)?)?;
+        Ok(SharedTables {
             problem,
-            tables: Vec::new(alloc),
-            keys: Vec::new(alloc),
+            tables,
+            known: 0,
             names: AllNamePairs::none(alloc),
-        }
+        })
     }
 
     /// The problem that the tables are of.
@@ -279,17 +233,13 @@ impl<'a> SharedTables<'a> {
         &self.names
     }
 
-    /// The class table of a set of the lowest three variables, if it was made beforehand.
-    pub(crate) fn keys(&self, set: Mask) -> Option<&ByteKeys<'a>>
-        ensures { IfSome result (λ k. k.now ≡ classes_of self.now set) }
+    /// The class table of those members of `set` that are among the lowest variables, of which all
+    /// sets' tables were made beforehand.
+    pub(crate) fn first_table(&self, set: Mask) -> (&Strips<'a>, u8)
+        ensures known { result.1 ≤ low_of self.now }
+        ensures table { result.0.now ≡ classes_of self.now (set % 2 ^ result.1) }
     {
-        self.keys.get(usize::from(set))
-    }
-
-    /// The class table of a set of low variables, if it was made beforehand.
-    pub(crate) fn table(&self, set: Mask) -> Option<&Strips<'a>>
-        ensures { IfSome result (λ t. t.now ≡ classes_of self.now set) }
-    {
-        self.tables.get(usize::from(set))
+        let place = usize::from(set) % (1usize << self.known);
+        (&self.tables[place], self.known)
     }
 }

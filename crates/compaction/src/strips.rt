@@ -15,7 +15,7 @@ use pair_numbering::{MaskedPairs, label_pairs};
 use std::alloc::{AllocError, Global};
 use std::marker::Model;
 use subfunction_classes::{count_with, rank_of};
-use value_strips::{ValueStrips, whole_strips};
+use value_strips::{ValueStrips, value_strips};
 
 /// The class table of a set in strips. A strip has a class number for each assignment of the low
 /// variables outside the set. If all subfunctions are distinct and depend on the whole set, only
@@ -199,7 +199,7 @@ impl<'a> Strips<'a> {
         prove!(problem.inputs() <= 16);
         prove!(problem.outputs() <= 16);
         let masks = vec![in alloc; 0; 2]?;
-        let ValueStrips { outer, numbers } = whole_strips(alloc, problem, low_variables(problem))?;
+        let ValueStrips { outer, numbers } = value_strips(alloc, problem)?;
         let parts = StripParts::new(outer, numbers, masks);
         Ok(Strips::of_parts(alloc, problem, 0, parts))
     }
@@ -209,6 +209,17 @@ impl<'a> Strips<'a> {
         ensures { result ≡ low_variables self.now.problem }
     {
         low_variables(self.problem)
+    }
+
+    /// For each assignment of the high variables outside the set, function by function, the name of
+    /// its strip. There are none if only a count is kept.
+    pub(crate) fn names(&self) -> &[u32] {
+        self.outer.as_slice()
+    }
+
+    /// How many class numbers are stored: those of the strips, if not only a count is kept.
+    pub(crate) fn stored(&self) -> usize {
+        self.numbers.len()
     }
 
     /// The set that the table is of, as a mask.

@@ -11,4 +11,4 @@ mod values;
 
 pub use masks::{count_with, join_mask};
 pub use ranks::rank_of;
-pub use values::{no_dependence, value_numbers};
+pub use values::{no_dependence, number_of_value, value_numbers};

@@ -10,7 +10,7 @@ use definitions::{Mask, Problem};
 use std::alloc::{AllocError, Global};
 
 /// The class number of a value: 0 if it is the value `first`, else 1.
-fn number_of_value(value: bool, first: bool) -> u32
+pub fn number_of_value(value: bool, first: bool) -> u32
     ensures { result ≡ number first value }
 {
     if value == first { 0 } else { 1 }

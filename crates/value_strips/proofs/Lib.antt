@@ -1,3 +1,3 @@
 pub mod UnrolledTables
 pub mod StripNumbers
-pub mod KeptRuns
+pub mod NamedStrips

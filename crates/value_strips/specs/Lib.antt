@@ -1,2 +1,2 @@
 pub mod ValueStrips
-pub mod Columns
+pub mod NamedStrips

@@ -1,6 +1,6 @@
-//! The numbers of a problem's values in strips, from which class tables start.
+//! The class numbers of a problem's values in strips, from which class tables start.
 #![tactic(auto)]
 
-mod columns;
+mod strips;
 
-pub use columns::{ByteStrips, ValueStrips, byte_strips, whole_strips};
+pub use strips::{ValueStrips, value_strips};

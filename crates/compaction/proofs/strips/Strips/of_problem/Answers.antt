@@ -1,5 +1,4 @@
-use Rattle.std.proofs.Common.{◌^◌, sym, subst, arith}
-use Rattle.value_strips.specs.ValueStrips.{HoldsValues}
+use Rattle.std.proofs.Common.{sym, subst, arith}
 use Rattle.compaction.specs.Strips.{HoldsStrips, low_variables}
 use Rattle.subfunction_classes.specs.Table.{classes_of}
 use Rattle.compaction.proofs.HeldStrips.{holds_values}
@@ -13,11 +12,10 @@ of_parts-requires c =
     let m = c.outputs.ensures.value in
     let g = c.outputs.ensures.few in
     let h = c.outputs.ensures.some in
-    let l = c.low_variables.ensures in
     let outer = c.in_ok-outer.field-0.outer.items in
     let numbers = c.in_ok-outer.field-0.numbers.items in
     rw (c.new-parts.ensures.outer, c.new-parts.ensures.numbers, c.new-parts.ensures.masks)
     (subst (HoldsStrips (classes_of p 0) (low_variables p) outer numbers)
     (sym (c.in_ok-masks.ensures.items_if_clones_equal (λ y e. e)))
     (holds_values p (omega arith) (omega arith) (omega arith) (low_variables p) outer numbers
-    (subst (λ k. HoldsValues p outer numbers (2 ^ k)) l c.in_ok-outer.ensures)))
+    c.in_ok-outer.ensures))
