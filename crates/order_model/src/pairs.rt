@@ -259,12 +259,13 @@ impl Pairs {
     pub fn lawful(&self, set: Mask) -> bool
         ensures { result ≡ is_lawful self.now.pairs (members self.now.inputs set) }
     {
+        let mut lacking: Mask = 0;
         for (a, below) in self.below.iter().enumerate() {
-            if contains(set, a as VarIx) && *below & !set != 0 {
-                return false;
+            if contains(set, a as VarIx) {
+                lacking |= *below & !set;
             }
         }
-        true
+        lacking == 0
     }
 
     /// The smallest variable that may stand on top of a lawful set: the smallest member without
