@@ -8,7 +8,7 @@ ghost use Rattle.compaction.specs.Requests.{AreMembersOf};
 ghost use Rattle.compaction.specs.Rows.{HoldsRows, IsWidthRow};
 
 use crate::high_walk::ByteRows;
-use order_model::{Mask, VarIx, WidthRow, contains};
+use order_model::{Mask, VarIx, WidthRow, contains, next_member};
 use symmetries::Image;
 
 /// The entry of `row` at x; 0 if x is not below 16.
@@ -26,13 +26,13 @@ fn asks_for(asked: Mask, variables: &[VarIx; 16], needed: Mask) -> bool
     ensures { IsTrue result → (x : ℕ) → x < 16 → bit_at needed x ≡ 1 →
         bit_at asked (slice_index variables.now x) ≡ 1 }
 {
-    for x in 0..16u8 {
-        if contains(needed, x) {
-            let variable = variables[x as usize];
-            if variable >= 16 || !contains(asked, variable) {
-                return false;
-            }
+    let mut from = 0;
+    while let Some(x) = next_member(needed, from) {
+        let variable = variables[x as usize];
+        if variable >= 16 || !contains(asked, variable) {
+            return false;
         }
+        from = x + 1;
     }
     true
 }
@@ -44,10 +44,10 @@ fn members_moved(row: &WidthRow, variables: &[VarIx; 16], needed: Mask) -> Width
         (if bit_at needed x == 1 then slice_index row.now (slice_index variables.now x) else 0) }
 {
     let mut found = [0; 16];
-    for x in 0..16u8 {
-        if contains(needed, x) {
-            found[x as usize] = width_at(row, variables[x as usize]);
-        }
+    let mut from = 0;
+    while let Some(x) = next_member(needed, from) {
+        found[x as usize] = width_at(row, variables[x as usize]);
+        from = x + 1;
     }
     found
 }

@@ -20,4 +20,4 @@ pub use listed_cells::ListedCell;
 pub use problem::Problem;
 pub use refs::{Node, Ref};
 pub use terms::Term;
-pub use variables::{Mask, VarIx, WidthRow, Workers, contains};
+pub use variables::{Mask, VarIx, WidthRow, Workers, contains, next_member};

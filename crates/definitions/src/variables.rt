@@ -1,6 +1,6 @@
 //! Variables, sets of variables, and the number of workers.
 
-ghost use Rattle.std.specs.Prelude.{◌≡◌, ◌<◌, ◌≤◌, ℕ, ◌↔◌, IsTrue, IsSome, IfSome};
+ghost use Rattle.std.specs.Prelude.{◌≡◌, ◌<◌, ◌≤◌, ℕ, ◌↔◌, IsTrue, IsNone, IsSome, IfSome};
 ghost use Rattle.std.specs.Int.{bit_at};
 
 use std::marker::Model;
@@ -22,6 +22,22 @@ pub fn contains(set: Mask, x: VarIx) -> bool
     ensures { IsTrue result ↔ (bit_at set x ≡ 1) }
 {
     (set >> x) & 1 == 1
+}
+
+/// The smallest member of a set that is at least `from`. None if all members are smaller.
+#[inline(always)]
+pub fn next_member(set: Mask, from: VarIx) -> Option<VarIx>
+    requires { from ≤ 16 }
+    ensures member { IfSome result (λ x. (from ≤ x) × (x < 16) × (bit_at set x ≡ 1)) }
+    ensures first { IfSome result (λ x. (y : ℕ) → from ≤ y → y < x → bit_at set y ≡ 0) }
+    ensures none { IsNone result → (y : ℕ) → from ≤ y → bit_at set y ≡ 0 }
+{
+    let rest = u32::from(set) >> from;
+    if rest == 0 {
+        None
+    } else {
+        Some(from + rest.trailing_zeros() as u8)
+    }
 }
 
 /// A number of workers: 1 to 64.

@@ -9,7 +9,7 @@ ghost use Rattle.definitions.specs.Problems.{functions, outputs_of};
 ghost use Rattle.definitions.specs.Widths.{essential_mask, essentials_outside};
 ghost use Rattle.definitions.specs.LowerBounds.{support};
 
-use definitions::{LowerBound, Mask, Problem, VarIx, WidthRow, contains};
+use definitions::{LowerBound, Mask, Problem, VarIx, WidthRow, contains, next_member};
 use std::marker::Model;
 
 /// Lower bounds on the nodes above the sets of a problem's variables.
@@ -150,7 +150,8 @@ impl<'a> LowerBounds<'a> {
     /// The largest number of nodes above the set `mask` that the width of one of its members
     /// requires, or `least` if that is larger. `widths` has the widths of all members.
     fn most_asked(&self, mask: Mask, widths: &WidthRow, least: u64) -> u64
-        requires { least < 2 ^ 33 }
+        requires within { mask < 2 ^ self.now.problem.inputs }
+        requires least { least < 2 ^ 33 }
         ensures few { result < 2 ^ 33 }
         ensures most { AreMembersWidths self.now.problem mask widths.now →
             result ≡ fold max least (map
@@ -158,10 +159,10 @@ impl<'a> LowerBounds<'a> {
             (members self.now.problem.inputs mask)) (members self.now.problem.inputs mask)) }
     {
         let mut most = least;
-        for x in 0..self.problem.inputs() {
-            if contains(mask, x) {
-                most = most.max(self.nodes_for_width(mask, x, widths[x as usize]));
-            }
+        let mut from = 0;
+        while let Some(x) = next_member(mask, from) {
+            most = most.max(self.nodes_for_width(mask, x, widths[x as usize]));
+            from = x + 1;
         }
         most
     }

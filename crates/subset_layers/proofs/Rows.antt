@@ -1,5 +1,5 @@
 -- Rows of numbers by variables, written for the members of a set one after the other.
---     row_written, row_passed      one variable more: its entry is written, or it is no member
+--     row_written      one member more: its entry is written
 use Rattle.std.proofs.Common.{◌≡◌, ℕ, ◌+◌, ◌<◌, List, length, inl, inr, set, get_or, sym, ap, ◌∙◌, subst, arith, get_or-set_other, get_or-set_same}
 use Rattle.std.proofs.lemmas.Bool.{cases_lt}
 
@@ -11,11 +11,4 @@ module _ (P : ℕ → Type 0) (wanted : ℕ → ℕ) (row : List ℕ) (x : ℕ) 
         | inr a ↦
             let s : y ≡ x = omega arith in
             ap (λ k. get_or (set row x v) k 0) s ∙ get_or-set_same row x v 0 lt ∙ e ∙ ap wanted (sym s)
-      ]
-
-  pub row_passed : (P x → ⊥) → (y : ℕ) → y < x + 1 → P y → get_or row y 0 ≡ wanted y
-  row_passed none y l m =
-      elim (cases_lt y x) [
-        | inl a ↦ before y a m
-        | inr a ↦ absurd (none (let s : y ≡ x = omega arith in subst P s m))
       ]

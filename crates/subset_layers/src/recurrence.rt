@@ -9,7 +9,7 @@ ghost use Rattle.subset_layers.specs.Costs.{cost_without, as_pair, IsCellFrom, I
 ghost use Rattle.subset_layers.specs.Sums.{IsBest};
 
 use crate::costs::{Cell, Costs};
-use order_model::{LowerBounds, Mask, Pairs, VarIx, WidthRow, contains};
+use order_model::{LowerBounds, Mask, Pairs, VarIx, WidthRow, next_member};
 
 /// The cost of a set without its member `variable` plus this member's width.
 #[derive(Clone, Copy)]
@@ -34,7 +34,8 @@ fn smaller(best: Option<Sum>, next: Sum) -> Sum
 /// it. `below[x]` is the cost of the set without x, and `widths[x]` the width of x. Members with
 /// `below[x]` above the bound are left out; None if all are.
 fn best_sum(mask: Mask, inputs: u8, below: &[u32; 16], widths: &WidthRow, bound: u32) -> Option<Sum>
-    requires { inputs ≤ 16 }
+    requires few { inputs ≤ 16 }
+    requires within { mask < 2 ^ inputs }
     ensures best { IfSome result
         (λ s. IsBest (λ x. IsTrue (has (members inputs mask) x)) bound (slice_index below.now)
         (slice_index widths.now) s.sum s.variable) }
@@ -42,14 +43,14 @@ fn best_sum(mask: Mask, inputs: u8, below: &[u32; 16], widths: &WidthRow, bound:
         bound < slice_index below.now y }
 {
     let mut best: Option<Sum> = None;
-    for x in 0..inputs {
-        if contains(mask, x) {
-            let cost = below[x as usize];
-            if cost <= bound {
-                let sum = cost as u64 + widths[x as usize] as u64;
-                best = Some(smaller(best, Sum { sum, variable: x }));
-            }
+    let mut from = 0;
+    while let Some(x) = next_member(mask, from) {
+        let cost = below[x as usize];
+        if cost <= bound {
+            let sum = cost as u64 + widths[x as usize] as u64;
+            best = Some(smaller(best, Sum { sum, variable: x }));
         }
+        from = x + 1;
     }
     best
 }
@@ -137,11 +138,11 @@ fn costs_below(mask: Mask, costs: &Costs) -> [u32; 16]
         slice_index result x ≡ cost_without costs.now mask x }
 {
     let mut below = [0; 16];
-    for x in 0..costs.inputs() {
-        if contains(mask, x) {
-            let cost = costs.cost_of(mask - (1 << x)).unwrap();
-            below[x as usize] = cost;
-        }
+    let mut from = 0;
+    while let Some(x) = next_member(mask, from) {
+        let cost = costs.cost_of(mask - (1 << x)).unwrap();
+        below[x as usize] = cost;
+        from = x + 1;
     }
     below
 }

@@ -3,6 +3,7 @@
 --     sorted_in      the sorted list of pairs that the masks have
 --     leads_same      what leads where depends on which pairs there are alone
 --     holds_masks      masks that a struct may hold
+--     bit_inside, small_mask      the bits of a mask below 2 ^ n are those of variables
 --     some_bit, both_bits, and_bit      bits of a mask, and of what two masks share
 use Rattle.std.proofs.Common.{◌≡◌, ◌≢◌, ◌↔◌, ℕ, zero, suc, ◌+◌, ◌*◌, ◌/◌, ◌%◌, ◌^◌, ◌<◌, ◌≤◌, pow_pos, replicate, Bool, true, ◌⊎◌, inl, inr, List, [], ◌∷◌, map, length, get_or, refl, sym, ap, ap₂, ◌∙◌, subst, arith, nat_eq, eqb, eqb-true, eq-eqb, ◌++◌, bit_and, w16}
 use Rattle.std.specs.Int.{bit_at}
@@ -156,6 +157,13 @@ pub and_bit : (m k i : ℕ) → bit_at m i ≡ 1 → bit_at k i ≡ 1 → bit_an
 and_bit m k i e f z = omega (arith, bit_at_and m k i)
 
 -- a mask whose bits are below n
+-- a bit of a mask below 2 ^ n is a variable's
+pub bit_inside : (n m b : ℕ) → m < 2 ^ n → bit_at m b ≡ 1 → b < n
+bit_inside n m b small bit = elim (cases_lt b n) [
+  | inl lt ↦ lt
+  | inr le ↦ absurd (omega (arith, bit_at_above m n b small le))
+]
+
 pub small_mask : (n m : ℕ) → ((b : ℕ) → bit_at m b ≡ 1 → b < n) → m < 2 ^ n
 small_mask n m low =
     let r : m % 2 ^ n < 2 ^ n = mod-lt m (pow_pos n) in

@@ -1,7 +1,13 @@
-use Rattle.std.proofs.Common.{slice_index, cond, eqb}
+use Rattle.std.proofs.Common.{◌-◌, ◌≤◌, slice_index, cond, eqb}
 use Rattle.std.specs.Int.{bit_at}
 use Rattle.compaction.proofs.RowSteps.{IsRowBelow}
 use Rattle.compaction.proofs.image_rows.members_moved.Given as goal
 
 abbrev pub invariant-loop-x : goal.invariant-loop-x
-invariant-loop-x l = IsRowBelow (λ x. cond (eqb (bit_at l.needed x) 1) (slice_index l.row (slice_index l.variables x)) 0) l.found l.x
+invariant-loop-x l = record {
+  small : l.from ≤ 16;
+  row : IsRowBelow (λ x. cond (eqb (bit_at l.needed x) 1) (slice_index l.row (slice_index l.variables x)) 0) l.found l.from;
+}
+
+abbrev pub decreases-loop-x : goal.decreases-loop-x
+decreases-loop-x l = 16 - l.from

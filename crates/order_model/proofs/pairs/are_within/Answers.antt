@@ -3,22 +3,18 @@ use Rattle.std.specs.Int.{bit_at}
 use Rattle.std.proofs.lemmas.Bool.{cases_lt, false≢true}
 use Rattle.std.proofs.lemmas.Nat.{one_shl}
 use Rattle.std.proofs.lemmas.Nat.Bits.{bit_at_above}
-use Rattle.definitions.proofs.Precedence.Masks.{row_small, some_bit, not_one_from_zero, within_16}
+use Rattle.definitions.proofs.Precedence.Masks.{bit_inside, row_small, some_bit, not_one_from_zero, within_16}
 use Rattle.order_model.proofs.pairs.are_within.Goals as goal
 use Rattle.order_model.proofs.pairs.are_within.Goals.{then-a-n, else-a-n}
 
 limit_is : (n : ℕ) → n ≤ 16 → (1 * 2 ^ n) % 2 ^ 32 ≡ 2 ^ n
 limit_is n h = one_shl n 32 (omega arith)
 
--- a mask below the limit has bits below n
-bit_low : (n m b : ℕ) → m < 2 ^ n → bit_at m b ≡ 1 → b < n
-bit_low n m b h e = elim (cases_lt b n) [ inl l ↦ l | inr l ↦ absurd (not_one_from_zero m b (bit_at_above m n b h l) e) ]
-
 pub loop-a-init : goal.loop-a-init
 loop-a-init c a b h = absurd (omega arith)
 
 pub loop-a-preserved : goal.loop-a-preserved
-loop-a-preserved c a b h bit = grind (arith, bit_low)
+loop-a-preserved c a b h bit = grind (arith, bit_inside)
 
 pub returns : goal.returns
 returns c = grind (arith, within_16)
