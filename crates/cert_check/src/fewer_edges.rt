@@ -1,6 +1,6 @@
-//! Some of the edges, of which one fails if any edge does. Where variables may be exchanged without
-//! a change of any function, value or judged edge, a set and its image have edges of equal widths,
-//! and one set of each orbit need be judged: the greatest.
+//! Fewer edges to judge, of which one fails if any edge does. Where variables may be exchanged
+//! without a change of any function, value or judged edge, a set and its image have edges of equal
+//! widths. So only the edges into one set of each orbit need be judged: the greatest.
 
 ghost use Rattle.std.specs.Prelude.{◌≡◌, ◌<◌, ◌^◌, ◌++◌, ◌⊎◌, ℕ, [], ◌∷◌, IfOk, IfSome, IsTrue, OnOk, length, slice_index};
 ghost use Rattle.std.specs.List.{All};
@@ -12,8 +12,9 @@ use order_model::{Mask, Pairs};
 use std::alloc::{AllocError, Global};
 use symmetries::{Exchange, exchanges_of};
 
-/// Whether each set and its image have equal values, and edges are judged into the image by the
-/// partners of the variables by which they are judged into the set.
+/// Whether an exchange keeps values and judged edges: each set and its image have equal values, and
+/// edges are judged into the image by the partners of the variables by which they are judged into
+/// the set. `images` has the image of each set.
 fn keeps_edges(edges: Edges, images: &[Mask]) -> bool
     requires long { length images.now ≡ 2 ^ edges.problem.now.inputs }
     requires inside { (S : ℕ) → S < length images.now →
@@ -34,7 +35,7 @@ fn keeps_edges(edges: Edges, images: &[Mask]) -> bool
     true
 }
 
-/// The exchanges under which no function, no value and no judged edge changes.
+/// The exchanges of variables under which no function, no value and no judged edge changes.
 fn guides_of(alloc: Global, edges: Edges) -> Result<Vec<Exchange>, AllocError>
     ensures { IfOk result (λ v. AreAllGuides edges.entry v.items) }
 {
@@ -48,7 +49,7 @@ fn guides_of(alloc: Global, edges: Edges) -> Result<Vec<Exchange>, AllocError>
     Ok(guides)
 }
 
-/// Whether one of the exchanges takes `set` to a greater mask.
+/// Whether an exchange in `guides` takes `set` to a greater mask.
 fn has_greater_image(edges: Edges, guides: &[Exchange], set: Mask) -> bool
     requires guides { AreAllGuides edges guides.now }
     requires set { set < 2 ^ edges.problem.now.inputs }
@@ -62,7 +63,7 @@ fn has_greater_image(edges: Edges, guides: &[Exchange], set: Mask) -> bool
     false
 }
 
-/// Leaves out of `fewer` the edges into sets that an exchange takes to greater ones.
+/// Leaves out of `fewer` the edges into sets that an exchange in `guides` takes to greater ones.
 fn leave_out(edges: Edges, guides: &[Exchange], fewer: &mut Vec<u16>)
     requires guides { AreAllGuides edges guides.now }
     requires fewer { AreEnough edges fewer.old.items }
@@ -75,17 +76,17 @@ fn leave_out(edges: Edges, guides: &[Exchange], fewer: &mut Vec<u16>)
     }
 }
 
-/// The sets that exchanges reach.
+/// The sets that exchanges reach, orbit by orbit.
 #[derive(Drop)]
 struct Reached {
-    /// For each set whether it was reached, from this orbit or one before.
+    /// For each set whether it was reached, in the present orbit or one before.
     seen: Vec<bool>,
-    /// The sets of this orbit that were reached.
+    /// The sets of the present orbit that were reached.
     sets: Vec<Mask>,
 }
 
 impl Reached {
-    /// Adds a set to those of this orbit, unless it was reached before.
+    /// Adds `set` to the sets of the present orbit, unless it was reached before.
     fn add(&mut self, set: Mask) -> Result<(), AllocError>
         ensures { OnOk result
             ((self.new.sets.items ≡ self.old.sets.items)
@@ -102,8 +103,8 @@ impl Reached {
     }
 }
 
-/// Adds to `reached` the sets to which exchanges take `set`, which is of the orbit of `first`.
-/// Leaves out of `fewer` the edges into those of them below `first`.
+/// Adds to `reached` the sets to which exchanges take `set`, and leaves out of `fewer` the edges
+/// into those of them below `first`. Requires that `set` is of the orbit of `first`.
 fn step_from(
     edges: Edges,
     guides: &[Exchange],
@@ -129,7 +130,7 @@ fn step_from(
     Ok(())
 }
 
-/// Leaves out of `fewer` the edges into the sets of the orbit of `first` that are below it.
+/// Leaves out of `fewer` the edges into those sets of the orbit of `first` that are below `first`.
 fn leave_out_orbit(
     edges: Edges,
     guides: &[Exchange],
@@ -154,7 +155,7 @@ fn leave_out_orbit(
     Ok(())
 }
 
-/// Leaves out of `fewer` the edges into all sets of each orbit but the greatest.
+/// Leaves out of `fewer` the edges into all sets of each orbit but its greatest.
 fn leave_out_orbits(
     alloc: Global,
     edges: Edges,
@@ -177,7 +178,7 @@ fn leave_out_orbits(
     Ok(())
 }
 
-/// Into how many sets an edge is judged. `judged` has the variables of the edges into each set.
+/// Into how many sets some edge is judged. `judged` has the variables of the edges into each set.
 pub(crate) fn count_judged(judged: &[Mask]) -> usize {
     let mut count = 0usize;
     for edges in judged {
@@ -186,10 +187,10 @@ pub(crate) fn count_judged(judged: &[Mask]) -> usize {
     count
 }
 
-/// So many steps of an orbit take about as long as the edges into one set.
+/// How many steps along orbits take about as long as judging the edges into one set.
 const STEPS_OF_A_SET: usize = 512;
 
-/// For each set the variables by which edges are still judged into it; nothing if no exchange is
+/// For each set the variables by which edges are still to be judged into it; None if no exchange is
 /// found. Edges into sets that an exchange takes to greater ones are left out. Chains of exchanges
 /// are followed if many sets are left that no single exchange takes to a greater one.
 pub(crate) fn fewer_edges(alloc: Global, edges: Edges) -> Result<Option<Vec<u16>>, AllocError>

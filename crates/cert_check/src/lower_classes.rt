@@ -1,5 +1,5 @@
 //! Lower bounds on the widths after adding one variable. Distinct lower classes belong to distinct
-//! pairs, so there are at least as many pairs as lower classes, and no pair is numbered.
+//! pairs, so there are at least as many pairs as lower classes, and pairs need not be numbered.
 
 ghost use Rattle.std.specs.Prelude.{◌≡◌, ℕ, ◌<◌, ◌≤◌, ◌^◌, length, slice_index, IfOk, IsTrue};
 ghost use Rattle.subfunction_classes.specs.PairTables.{IsPairTable};
@@ -11,8 +11,8 @@ use pair_buckets::pair_at;
 use std::alloc::{AllocError, Global};
 use subfunction_classes::{count_with, join_mask};
 
-/// For each class the joined masks of the pairs whose lower class it is, as one mask. `numbers` has
-/// the entries, which are paired by x, and `masks` the mask of each class.
+/// For each class the union of the joined masks of the pairs whose lower class it is. `numbers` has
+/// a table's entries, which are paired by `x`, and `masks` the mask of each class.
 fn lower_masks(
     alloc: Global,
     numbers: &[u32],
@@ -33,8 +33,8 @@ fn lower_masks(
 }
 
 /// Whether the lower classes show that, for each variable y, at least `needed[y]` distinct pairs
-/// have y in their joined masks. `numbers` has the entries, which are paired by x, and `masks` the
-/// mask of each class.
+/// have y in their joined masks; false shows nothing. `numbers` has a table's entries, which are
+/// paired by `x`, and `masks` the mask of each class.
 pub(crate) fn are_wide(
     alloc: Global,
     numbers: &[u32],

@@ -15,17 +15,18 @@ use rayon::prelude::*;
 use std::alloc::{AllocError, Global};
 use std::thread::Threads;
 
-/// The sets that agree in so many highest variables are the share of one task.
+/// How many highest variables the sets of one task agree in.
 const PART_VARIABLES: u8 = 6;
 
-/// The class tables of the sets of so many highest variables are made once for all tasks.
+/// The class tables of the sets of this many highest variables are made once for all tasks.
 const SHARED_VARIABLES: u8 = 2;
 
-/// If edges are judged into at most so many sets, one thread walks over them alone.
+/// If edges are judged into at most this many sets, one thread walks over them alone.
 const SETS_FOR_ONE: usize = 32;
 
-/// The part at a place, both below 2^end. Parts of few variables take longest; laying the low bits
-/// of the place over the high ones spreads them evenly over neighbouring places.
+/// The part that the task at `place` takes, as a set of the `end` highest variables, the lowest of
+/// them in bit 0. Parts of few variables take longest; laying the low bits of the place over the
+/// high ones spreads them evenly over neighbouring places. Requires that `place` is below 2^end.
 #[tactic(auto, unfolding(crate::specs::Edges::part_at), using(crate::proofs::Places::part_within))]
 fn part_of(place: usize, end: u8) -> Mask
     requires end { end ≤ 6 }
@@ -37,7 +38,8 @@ fn part_of(place: usize, end: u8) -> Mask
     (mixed & ((1 << end) - 1)) as Mask
 }
 
-/// The first of the edges that the parts found, if any; an error if a part lacked memory.
+/// The first of the edges that the parts found, None if they found none; an error if memory was
+/// refused to a part.
 fn first_of_parts(parts: &[Result<Option<Edge>, AllocError>]) -> Result<Option<Edge>, AllocError>
     ensures { IfOk result (IsFirstOfParts parts.now) }
 {
@@ -51,9 +53,9 @@ fn first_of_parts(parts: &[Result<Option<Edge>, AllocError>]) -> Result<Option<E
     Ok(first)
 }
 
-/// The first edge that fails, of all that are judged. Each task walks over the sets that agree in
-/// the `end` highest variables. `tops` has the class tables of sets of variables from y on, and
-/// `root` stands at the empty set.
+/// The first judged edge that fails; None if none does. Each task walks over the sets that agree in
+/// the `end` highest variables. `tops` has the class tables of sets of variables from `y` on.
+/// Requires that `root` stands at the empty set.
 fn first_by_tasks<R: Threads + Sync>(
     rt: &R,
     alloc: Global,
@@ -90,7 +92,7 @@ pub(crate) trait Walker {
     // What a walk requires.
     ghost ready: { Self → Type 0 };
 
-    /// The first edge that fails, of all that are judged; nothing if none does.
+    /// The first judged edge that fails; None if none does.
     fn first_of_all(&self, alloc: Global, edges: Edges) -> Result<Option<Edge>, AllocError>
         requires { ready self.now }
         ensures { IfOk result (IsFirstEdge (FailsAmong edges.entry)) };
@@ -143,9 +145,9 @@ impl Walker for CallingThread {
     }
 }
 
-/// The first edge that fails, of all that are judged; nothing if none does. If variables may be
-/// exchanged without a change, fewer edges are judged first. If one of these fails, the first of
-/// all leads from the same set or a smaller mask.
+/// The first judged edge that fails; None if none does. If variables may be exchanged without a
+/// change, fewer edges are judged first. If one of these fails, the first failing edge of all leads
+/// from the same set or a smaller mask.
 pub(crate) fn first_failure<W: Walker>(
     walker: &W,
     alloc: Global,

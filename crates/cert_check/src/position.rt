@@ -1,4 +1,4 @@
-//! What a walk is over, and where it stands.
+//! What a walk over sets judges, and where the walk stands.
 
 ghost use Rattle.cert_check.specs.Edges.{AreEdgeTables};
 ghost use Rattle.cert_check.specs.Blocks.{StandsAt};
@@ -9,17 +9,19 @@ use order_model::{Mask, Problem, VarIx};
 /// An edge: the mask of the set from which it leads, and the variable that it adds.
 pub(crate) type Edge = (Mask, VarIx);
 
-/// What a walk is over: the value of each set, and for each set the variables by which edges are
-/// judged into it.
+/// What a walk judges: the edges between sets.
 #[derive(Clone, Copy)]
 pub(crate) struct Edges<'a> {
     pub(crate) problem: &'a Problem,
+    /// The value of each set, at its mask.
     pub(crate) values: &'a [u32],
+    /// For each set the variables by which edges are judged into it.
     pub(crate) judged: &'a [Mask],
     ghost tables: { AreEdgeTables problem.now.inputs values.now judged.now },
 }
 
-/// Where a walk stands: at the table's set with any variables below `free` added. These are free.
+/// Where a walk stands: before the sets that are the table's set with any variables below `free`
+/// added. These variables are free.
 #[derive(Clone, Copy)]
 pub(crate) struct Position<'a, 't> {
     pub(crate) edges: Edges<'a>,

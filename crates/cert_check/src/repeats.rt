@@ -6,7 +6,7 @@ ghost use Rattle.cert_check.specs.Rows.{AreWholeRows, IsShortened};
 use order_model::VarIx;
 use std::alloc::{AllocError, Global};
 
-/// An odd number whose multiples spread over the words of 64 bits.
+/// The factor of Fibonacci hashing: 2^64 divided by the golden ratio, rounded down.
 const SPREAD: u64 = 0x9E37_79B9_7F4A_7C15;
 
 /// The bucket of a row: a hash of its entries. `buckets` is a power of two.
@@ -28,7 +28,8 @@ fn bucket_of(row: &[u32], buckets: usize) -> usize
     (key >> 40) as usize & (buckets - 1)
 }
 
-/// Whether `row` is the row of `kept` at `place`, counted from 1. No row is at place 0.
+/// Whether `row` is the row of `kept` at `place`, counted from 1; false at place 0. All rows have
+/// as many entries as `row`.
 fn is_kept(kept: &[u32], place: usize, row: &[u32]) -> bool
     requires some { 0 < length row.now }
     ensures { IsTrue result → (front : List ℕ) × (between : List ℕ) × (rows : ℕ)
@@ -65,8 +66,8 @@ fn has_repeat(alloc: Global, numbers: &[u32], y: VarIx) -> Result<bool, AllocErr
 }
 
 /// Appends the rows of 2^y entries of `numbers` to `kept`, mostly each once, by first occurrence.
-/// `kept` is empty before. `places` has for each bucket the place of its last row in `kept`,
-/// counted from 1, or 0.
+/// Requires that `kept` is empty before. `places` has for each bucket the place of its last row in
+/// `kept`, counted from 1, or 0.
 fn keep_rows(
     numbers: &[u32],
     y: VarIx,
@@ -92,8 +93,8 @@ fn keep_rows(
     Ok(())
 }
 
-/// The rows of 2^y entries of `numbers`, mostly each once, by first occurrence. Nothing if in the
-/// first half no row is found to come again.
+/// The rows of 2^y entries of `numbers`, mostly each once, by first occurrence. None if no row is
+/// found to come again in the first half.
 pub(crate) fn without_repeats(
     alloc: Global,
     numbers: &[u32],

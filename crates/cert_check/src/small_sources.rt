@@ -17,8 +17,8 @@ fn smallest_source(set: Mask) -> Mask
     set - (1 << highest)
 }
 
-/// The judged edges, without those into sets into which all edges lead from masks above `last`. For
-/// each set there is the mask of its edges' variables.
+/// `judged` without the edges into those sets into which every edge leads from a mask above `last`.
+/// At each set stands the mask of the variables of the judged edges into it.
 pub(crate) fn edges_up_to(
     alloc: Global,
     judged: &[Mask],

@@ -12,8 +12,8 @@ use crate::walk::{first_in_part, has_upper_judged, upper_table};
 use order_model::{Mask, VarIx};
 use std::alloc::{AllocError, Global};
 
-/// The class table of the set where the walk stands, with its highest free variable added. Nothing
-/// if no edge is judged into that set or into it with other free variables added.
+/// The class table of the set where the walk stands, with the highest free variable added. None if
+/// no edge is judged into the larger set, or into it with other free variables added.
 fn judged_upper_table<'t>(
     alloc: Global,
     at: Position<'_, 't>,
@@ -29,8 +29,8 @@ fn judged_upper_table<'t>(
     Ok(Some(larger))
 }
 
-/// Appends to `tops` the class tables with the highest free variable added: to the set of `root`,
-/// and to those of the tables in `tops`. Tables that no judged edge needs are left out.
+/// Appends to `tops` the class tables with the highest free variable of `root` added: to the set of
+/// `root`, and to those of the tables in `tops`. Tables that no judged edge needs are left out.
 fn add_variable<'t>(
     alloc: Global,
     root: Position<'_, 't>,
@@ -60,7 +60,8 @@ fn add_variable<'t>(
 }
 
 /// The class tables of the non-empty sets of variables from `y` on that the walk needs: an edge is
-/// judged into the set, or into it with smaller variables added. `root` stands at the empty set.
+/// judged into the set, or into it with smaller variables added. `root` is to stand at the empty
+/// set.
 pub(crate) fn top_tables<'t>(
     alloc: Global,
     root: Position<'_, 't>,
@@ -82,9 +83,10 @@ pub(crate) fn top_tables<'t>(
     Ok(tops)
 }
 
-/// The first edge that fails among those into the sets of a part: `part` with any variables below
-/// `end` added. The walk begins at the table in `tops` of the variables of `part` from y on, or at
-/// `root`, which stands at the empty set, if there is none.
+/// The first edge that fails among the judged edges into the sets of a part: `part` with any
+/// variables below `end` added. None if none fails. The walk begins at the table in `tops` of those
+/// variables of `part` that are not below `y`, or at `root` if there is none. Requires that `root`
+/// stands at the empty set.
 pub(crate) fn first_from_tops(
     alloc: Global,
     root: Position,

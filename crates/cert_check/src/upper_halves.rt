@@ -1,5 +1,5 @@
-//! Blocks of sets that a walk need not enter, because the table of a smaller set shows that no edge
-//! into them fails. The upper half are the sets where a walk stands that have the highest free
+//! Sets that a walk need not enter, because the class table of a smaller set shows that no edge
+//! into them fails. The upper half of the sets where a walk stands are those with the highest free
 //! variable.
 
 ghost use Rattle.std.specs.Prelude.{◌≡◌, ℕ, ◌+◌, ◌-◌, ◌^◌, ◌<◌, ◌≤◌, false, None, length, slice_index, IfOk, IsTrue};
@@ -12,8 +12,8 @@ use crate::walk::{has_judged, has_upper_judged};
 use order_model::{Mask, VarIx, contains};
 use std::alloc::{AllocError, Global};
 
-/// For each variable y by which an edge is judged into `set`, by how much the value rises along it:
-/// the width that y needs. 0 for the others.
+/// For each variable y the width that the edge by y into `set` needs: how much the value rises
+/// along that edge. 0 if the edge is not judged.
 fn needed_widths(alloc: Global, edges: Edges, set: Mask) -> Result<Vec<u32>, AllocError>
     requires { set < 2 ^ edges.problem.now.inputs }
     ensures long { IfOk result (λ v. length v.items ≡ edges.entry.problem.now.inputs) }
@@ -34,7 +34,8 @@ fn needed_widths(alloc: Global, edges: Edges, set: Mask) -> Result<Vec<u32>, All
     Ok(needed)
 }
 
-/// Whether an edge is judged into one of the 2^y sets from `set` on, but for `set` itself.
+/// Whether an edge is judged into one of the 2^y sets from `set` on, but for `set` itself. `judged`
+/// has for each set the variables of the judged edges into it.
 fn has_later(judged: &[Mask], set: Mask, y: VarIx) -> bool
     requires variable { y ≤ 16 }
     requires within { set + 2 ^ y ≤ length judged.now }
@@ -49,8 +50,9 @@ fn has_later(judged: &[Mask], set: Mask, y: VarIx) -> bool
     false
 }
 
-/// Whether the value of `set` is so high that the set is most likely not listed. The widths into a
-/// listed set are mostly no greater than needed, so its lower classes seldom decide.
+/// Whether the value of `set` is so high that the set is most likely not listed. If it is listed,
+/// the widths into it are mostly no greater than needed, and lower classes seldom show that they
+/// suffice.
 fn is_hardly_listed(edges: Edges, set: Mask) -> bool
     requires { set < 2 ^ edges.problem.now.inputs }
 {
@@ -60,9 +62,9 @@ fn is_hardly_listed(edges: Edges, set: Mask) -> bool
     u64::from(edges.values[set as usize]) + u64::from(outside) >= u64::from(total)
 }
 
-/// Whether the lower classes of the table show that no edge into a set of the upper half fails: one
-/// that has the highest free variable. They are tried only if edges are judged into the smallest of
-/// these sets alone.
+/// Whether the lower classes of the table show that no edge into the upper half fails. They are
+/// tried only if edges are judged into the smallest of its sets alone, and that set is hardly
+/// listed. False shows nothing.
 fn passes_by_lower_classes(alloc: Global, at: Position) -> Result<bool, AllocError>
     requires { 0 < at.free }
     ensures { IfOk result (λ none. IsTrue none → IsFirstEdge (FailsInUpper at.entry) None) }
@@ -77,8 +79,8 @@ fn passes_by_lower_classes(alloc: Global, at: Position) -> Result<bool, AllocErr
     table.tells_wide(alloc, x, &needed)
 }
 
-/// Whether it shows, without another table, that no edge fails into a set of the upper half: one
-/// that has the highest free variable.
+/// Whether it can be shown without another table that no edge into the upper half fails. False
+/// shows nothing.
 pub(crate) fn upper_half_passes(alloc: Global, at: Position) -> Result<bool, AllocError>
     requires { 0 < at.free }
     ensures { IfOk result (λ passes. IsTrue passes → IsFirstEdge (FailsInUpper at.entry) None) }

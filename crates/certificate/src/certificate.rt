@@ -133,7 +133,7 @@ impl Certificate {
         })
     }
 
-    /// The format of its text, 1 or 2.
+    /// The format of the certificate's text, 1 or 2.
     pub fn format(&self) -> u8
         ensures { result ≡ self.now.format }
     {
@@ -157,8 +157,8 @@ impl Certificate {
         self.parts.outputs
     }
 
-    /// The order, top first. It may lack a variable, and have another one twice: the checker tests
-    /// this.
+    /// The order, top first. It may lack a variable and have another one twice: the checker tests
+    /// for this.
     pub fn order(&self) -> &[VarIx]
         ensures { result.now ≡ self.now.order }
     {

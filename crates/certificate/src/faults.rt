@@ -15,7 +15,7 @@ pub enum LineFault {
     /// A number or mask isn't written as the format has it, or is out of its bounds.
     #[error("BadNumber")]
     BadNumber,
-    /// A pair, or the mask of a listed set, isn't larger than that of the line before. Pairs are
+    /// A pair, or the mask of a listed set, isn't larger than the one on the line before. Pairs are
     /// compared by first and then second variable.
     #[error("NotRising")]
     NotRising,

@@ -1,4 +1,4 @@
-//! The certificate of an order.
+//! The certificate that an order has the fewest nodes.
 
 ghost use Rattle.std.specs.Prelude.{◌≡◌, IfOk, map, string_bytes};
 ghost use Rattle.certificate.specs.Faults.{Spells};
@@ -12,8 +12,9 @@ use crate::laws::orders_have_certificates;
 use order_model::{ListedCell, Pairs, Problem, SizedOrder};
 use std::alloc::{AllocError, Global};
 
-/// The text, in format 2, of the certificate of an order. `found` has the order with its level
-/// counts and their sum, and `cells` the sets that this certificate lists, with their costs.
+/// The text, in format 2, of the certificate that the order in `found` has the fewest nodes among
+/// those that keep `pairs`. `found` has its level counts and their sum, too. Requires that `cells`
+/// are the sets that this certificate lists, with their costs.
 pub fn certificate_text(
     alloc: Global,
     problem: &Problem,

@@ -17,7 +17,7 @@ use std::alloc::Global;
 /// The most bytes of a text that is read as a certificate.
 pub const MOST_BYTES: usize = 1_048_576;
 
-/// The numbers of a list, each of at most 15, as variables.
+/// `numbers` as variables. Requires that each is at most 15.
 fn variables(alloc: Global, numbers: &[u32]) -> Result<Vec<VarIx>, CertFault>
     requires { All (λ k. k ≤ 15) numbers.now }
     ensures same { IfOk result (λ v. v.items ≡ numbers.now) }

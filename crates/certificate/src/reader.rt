@@ -105,8 +105,8 @@ impl<'a> Lines<'a> {
         Some(line)
     }
 
-    /// Takes the next line, and returns what `read` makes of it. Its fault is reported with the
-    /// line's number; if there is no next line, the fault is `MissingLine`.
+    /// Takes the next line, and returns what `read` makes of it. A fault of the line is reported
+    /// with its number; if there is no next line, the fault is `MissingLine`.
     fn take<V, F: FnOnce(&[u8]) -> Result<V, LineFault>>(&mut self, read: F) -> Result<V, CertFault>
         requires small { FitsCount self.old }
         requires readable { F.IsAlwaysCallable read }

@@ -14,7 +14,7 @@ use std::alloc::{AllocError, Global};
 use std::thread::Threads;
 use truth_table::Tables;
 
-/// The fault of a check whose certificate can't be read.
+/// The fault of a check whose certificate can't be read, for the reason `refused`.
 fn fault_of_bytes(refused: Refused) -> Fault
     ensures { result ≡ bytes_fault refused }
 {
@@ -25,8 +25,8 @@ fn fault_of_bytes(refused: Refused) -> Fault
     }
 }
 
-/// The certificate that the reader `cert` has, read to its end; a fault if it can't be read or is
-/// none.
+/// Reads the reader `cert` to its end, and returns the certificate that its text is; a fault if it
+/// can't be read, or if the text is no certificate.
 fn read_certificate<C: CountedRead>(alloc: Global, cert: &mut C) -> Result<Certificate, Fault>
     ensures cert { IfOk result (λ c. IfSome (C.remaining cert.old) (λ text. SpellsWithin text c)) }
     ensures refused { IfErr result
@@ -44,8 +44,8 @@ fn read_certificate<C: CountedRead>(alloc: Global, cert: &mut C) -> Result<Certi
     }
 }
 
-/// The outcome of a check, and the line that it writes. The certificate is checked for the
-/// functions of the cover.
+/// The outcome of a check, and the line that it writes. `cert` is checked for the functions of
+/// `cover`.
 fn verdict_on<R: Threads + Sync>(
     rt: &R,
     alloc: Global,
@@ -61,8 +61,9 @@ fn verdict_on<R: Threads + Sync>(
     }
 }
 
-/// Reads a PLA file and a certificate, and writes the verdict: `valid N`, `valid N pairs q` if it
-/// has pairs, or `invalid` and the first reason that applies.
+/// Reads a PLA file and a certificate, and writes the verdict to `out`: `valid N` for a certificate
+/// with the total N, `valid N pairs q` if it has q pairs, or `invalid` and the first reason why the
+/// certificate is not good.
 ///
 /// The file is read and decided first, then the certificate. The line is made whole before its
 /// first byte is written. Many threads share the work.

@@ -9,7 +9,7 @@ use certificate::Certificate;
 use std::alloc::{AllocError, Global};
 use std::fmt::Write;
 
-/// The longest line: two numbers of at most 6 digits and the words.
+/// Bytes that are enough for the longest line: its words and two numbers of at most 6 digits.
 const LONGEST_LINE: usize = 32;
 
 /// Appends the words of a reason to `text`.

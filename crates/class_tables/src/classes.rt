@@ -17,14 +17,15 @@ use std::alloc::{AllocError, Global};
 use std::marker::Model;
 use subfunction_classes::{count_with, no_dependence, rank_of, value_numbers};
 
-/// The class table of a set: which subfunctions over it are equal. Each assignment of the other
-/// variables has an entry in each function's part of the table, assignments rising, and equal
-/// subfunctions have one class number, by first occurrence.
+/// The class table of a set: which subfunctions over it are equal.
 #[derive(Drop)]
 pub struct Classes<'a> {
     problem: &'a Problem,
     set: Mask,
+    /// The class number of each subfunction, by first occurrence: function by function, assignments
+    /// of the variables outside the set rising.
     numbers: Vec<u32>,
+    /// For each class number, the mask of the variables that its subfunctions depend on.
     masks: Vec<Mask>,
 }
 
@@ -84,8 +85,8 @@ impl<'a> Classes<'a> {
         x < self.problem.inputs() && !contains(self.set, x)
     }
 
-    /// The class number of each entry, by first occurrence: function by function, assignments of
-    /// the variables outside the set rising, the lowest variable in the lowest bit.
+    /// The class number of each subfunction, by first occurrence: function by function, assignments
+    /// of the variables outside the set rising, the lowest variable in the lowest bit.
     pub fn numbers(&self) -> &[u32]
         ensures { result.now ≡ class_numbers self.now.problem.inputs (functions_of self.now)
             (set_of self.now) }
@@ -93,7 +94,7 @@ impl<'a> Classes<'a> {
         self.numbers.as_slice()
     }
 
-    /// The width of x over the set. The tally rises by one.
+    /// The width of `x` over the set. The tally rises by one, unless memory is refused.
     pub fn width(&self, alloc: Global, x: VarIx, tally: &mut Tally) -> Result<u32, AllocError>
         requires inside { x < self.now.problem.inputs }
         requires new { IsFalse (has (set_of self.now) x) }
@@ -155,7 +156,7 @@ impl<'a> Classes<'a> {
     }
 
     /// The class table of the set with x added. Pairs of class numbers are numbered in an
-    /// `IndexSet`. Slower than `compact`: only tests call it, to compare.
+    /// `IndexSet`. It is slower than `compact`, and serves tests for comparison.
     pub fn compact_indexed(&self, alloc: Global, x: VarIx) -> Result<Classes<'a>, AllocError>
         requires inside { x < self.now.problem.inputs }
         requires new { IsFalse (has (set_of self.now) x) }

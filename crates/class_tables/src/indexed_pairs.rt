@@ -11,7 +11,8 @@ use indexmap::IndexSet;
 use pair_numbering::{EntryPairs, MaskedNumbers, MaskedPairs, join_masks, number_with_masks};
 use std::alloc::{AllocError, Global};
 
-/// The number of each pair of entries by first occurrence, found in an `IndexSet`.
+/// Numbers the pairs of a class table's entries by first occurrence, with an `IndexSet`: the number
+/// of each pair.
 fn index_pairs(alloc: Global, entries: &EntryPairs<'_>) -> Result<Vec<u32>, AllocError>
     ensures { IfOk result (λ v. v.items ≡
         ranks same_pair (places.pairs entries.now.numbers (2 ^ entries.now.rank))) }
@@ -26,8 +27,8 @@ fn index_pairs(alloc: Global, entries: &EntryPairs<'_>) -> Result<Vec<u32>, Allo
     Ok(out)
 }
 
-/// The distinct pairs of entries, by their numbers. `numbered` has the number of each pair by first
-/// occurrence.
+/// The distinct pairs of a class table's entries, by rising number. `numbered` has the number of
+/// each pair by first occurrence.
 fn distinct_pairs(
     alloc: Global,
     entries: &EntryPairs<'_>,
@@ -47,8 +48,9 @@ fn distinct_pairs(
     Ok(pairs)
 }
 
-/// The number of each pair by first occurrence, found in an `IndexSet`, and for each number the
-/// mask of the variables that its functions depend on.
+/// Numbers the pairs of a class table's entries by first occurrence, with an `IndexSet`: the number
+/// of each pair, and for each number the mask of the variables that the functions of its pair
+/// depend on.
 fn number_pairs_by_index(
     alloc: Global,
     pairs: &MaskedPairs<'_>,
@@ -65,8 +67,9 @@ fn number_pairs_by_index(
     })
 }
 
-/// The number of each pair by first occurrence, and for each number the mask of the variables that
-/// its functions depend on. Found in an `IndexSet` if `indexed` is true, else in the fastest way.
+/// Numbers the pairs of a class table's entries by first occurrence: the number of each pair, and
+/// for each number the mask of the variables that the functions of its pair depend on. If `indexed`
+/// is true the pairs are found in an `IndexSet`, else as `number_with_masks` does.
 pub(crate) fn number_by(
     alloc: Global,
     pairs: &MaskedPairs<'_>,

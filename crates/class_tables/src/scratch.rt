@@ -11,17 +11,17 @@ use std::alloc::{AllocError, Global};
 use std::marker::Model;
 use subfunction_classes::join_mask;
 
-/// Working memory for counts of pairs in a problem's class tables: five words for each entry of the
-/// largest table.
+/// Working memory to count the pairs of entries in a problem's class tables: five words for each
+/// entry of the largest table, that of the empty set.
 #[derive(Drop)]
 pub struct Scratch {
     /// For each lower class its first pair.
     heads: Vec<u32>,
     /// For each pair the next one with the same lower class.
     next: Vec<u32>,
-    /// For each upper class with which lower class it was met last.
+    /// For each upper class, one more than the lower class with which it was met last, or 0.
     stamps: Vec<u32>,
-    /// For each upper class the first pair with it and that lower class.
+    /// For each upper class, the first pair with it and the lower class that its stamp stands for.
     marks: Vec<u32>,
     /// For each pair the first pair that is equal to it.
     first: Vec<u32>,
@@ -54,8 +54,8 @@ impl Scratch {
         })
     }
 
-    /// How many distinct pairs have the variable by which they are paired in their joined masks:
-    /// the width of that variable.
+    /// Counts the distinct pairs whose joined mask has the variable by which they are paired: the
+    /// width of that variable.
     pub fn count_joined(&mut self, pairs: &MaskedPairs<'_>) -> u32
         requires few { length pairs.now.masks.now ≤ length pairs.now.entries.numbers }
         requires long { length pairs.now.entries.numbers ≤ self.old }
@@ -74,8 +74,8 @@ impl Scratch {
     }
 }
 
-/// How many distinct pairs have the variable by which they are paired in their joined masks. The
-/// rows are working memory, long enough for the pairs.
+/// Counts the distinct pairs whose joined mask has the variable by which they are paired. The
+/// slices are working memory, long enough for the pairs.
 fn count_in(
     pairs: &MaskedPairs<'_>,
     heads: &mut [u32],
@@ -102,7 +102,7 @@ fn count_in(
     count_firsts(pairs, first)
 }
 
-/// How many distinct pairs have the variable by which they are paired in their joined masks.
+/// Counts the distinct pairs whose joined mask has the variable by which they are paired.
 /// `first[j]` is the first pair that is equal to pair j, so a distinct pair is counted at the j
 /// with `first[j] = j`.
 fn count_firsts(pairs: &MaskedPairs<'_>, first: &[u32]) -> u32

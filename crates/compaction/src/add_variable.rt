@@ -12,11 +12,12 @@ use pair_numbering::{MaskedPairs, PairKeys, label_pairs};
 use std::alloc::{AllocError, Global};
 use std::marker::Model;
 
-/// A class table in strips, and by which variable above those inside a strip the names of its
-/// strips are to be paired. The name of a strip is its number.
+/// A class table in strips, and the variable by which its strips are to be paired, one of those
+/// outside the strips. The name of a strip is its number.
 #[derive(Drop)]
 pub(crate) struct StripTable<'a> {
-    /// For each assignment of the variables above those inside a strip, the name of its strip.
+    /// Function by function, for each assignment of the variables above those inside a strip, the
+    /// name of its strip.
     pub(crate) outer: &'a [u32],
     /// How many of the variables of `outer` are below the one that pairs the names: names 2^rank
     /// apart are a pair.
@@ -58,7 +59,7 @@ pub(crate) struct StripParts {
 }
 
 impl StripParts {
-    /// The parts of a table, whose masks may be those of class numbers that don't occur.
+    /// The parts of a table of which it isn't known whether all class numbers occur.
     pub(crate) fn new(outer: Vec<u32>, numbers: Vec<u32>, masks: Vec<Mask>) -> StripParts
         ensures outer { result.outer ≡ outer }
         ensures numbers { result.numbers ≡ numbers }
@@ -99,9 +100,9 @@ fn first_numbers(alloc: Global, count: usize) -> Result<Vec<u32>, AllocError>
     Ok(numbers)
 }
 
-/// The names, and the class numbers with their masks, of the table with x added, a variable above
-/// those inside a strip. The names of `table` are 0, 1, 2 and so on: all its entries stand one
-/// behind the other, and are paired as they stand.
+/// The names, and the class numbers with their masks, of the table with `x` added, a variable above
+/// those inside a strip. Requires that the names of `table` are 0, 1, 2 and so on: then all entries
+/// stand one behind the other, and are paired as they stand.
 fn add_in_order(
     alloc: Global,
     table: &StripTable<'_>,
@@ -120,9 +121,9 @@ fn add_in_order(
     Ok((outer, labels))
 }
 
-/// The names, and the class numbers with their masks, of the table with x added, a variable above
-/// those inside a strip. Each distinct pair of strips becomes a strip. `known` may have the pairs
-/// of these names, numbered beforehand.
+/// The names, and the class numbers with their masks, of the table with `x` added, a variable above
+/// those inside a strip. Each distinct pair of strips becomes a strip. If `known` has numbered the
+/// pairs of these names, they are read from there.
 fn add_by_pairs(
     alloc: Global,
     table: &StripTable<'_>,
@@ -142,8 +143,8 @@ fn add_by_pairs(
     Ok((runs.numbers, labels))
 }
 
-/// The parts of the class table with x added, a variable above those inside a strip. `known` may
-/// have the pairs of the names, numbered beforehand.
+/// The parts of the class table with `x` added, a variable above those inside a strip. If `known`
+/// has numbered the pairs of the table's names, they are read from there.
 pub(crate) fn add_above(
     alloc: Global,
     table: &StripTable<'_>,

@@ -15,7 +15,8 @@ pub(crate) struct WidthsAhead<'a> {
     problem: &'a Problem,
     /// The size of the largest sets of which rows are to be found.
     end: u8,
-    /// The rows of one low byte each. Of two with one low byte the last one counts.
+    /// Rows of widths, one low byte after another. If two entries have the same low byte, the last
+    /// one counts.
     bytes: Vec<ByteRows>,
 }
 
@@ -72,14 +73,15 @@ impl<'a> WidthsAhead<'a> {
     }
 }
 
-/// For each low byte, the place of its last rows in a `WidthsAhead`, if it has some.
+/// For each low byte, the place of its last entry in a `WidthsAhead`; None if it has none.
 #[derive(Clone, Copy)]
 pub(crate) struct Places {
+    /// At each low byte the place of its last entry.
     of: [Option<usize>; 256],
 }
 
 impl Places {
-    /// The place of each low byte's last rows in `found`.
+    /// The place of each low byte's last entry in `found`.
     pub(crate) fn of(found: &WidthsAhead<'_>) -> Places {
         let mut places = Places { of: [None; 256] };
         for (place, byte) in found.bytes.iter().enumerate() {
@@ -90,7 +92,8 @@ impl Places {
 }
 
 impl<'a> WidthsAhead<'a> {
-    /// The rows of the low byte `low`, at its place in `places`; none if none were found.
+    /// The rows of the low byte `low`, which stand at its place in `places`; None if none were
+    /// found.
     pub(crate) fn rows_at(&self, places: &Places, low: u8) -> Option<&ByteRows>
         ensures rows { IfSome result (λ b. HoldsRows self.now.problem b.now) }
         ensures low { IfSome result (λ b. b.now.low ≡ low) }

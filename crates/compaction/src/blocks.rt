@@ -15,10 +15,10 @@ use std::alloc::{AllocError, Global};
 use std::marker::Model;
 use subset_layers::Block;
 
-/// The widths of the sets of a block: a row for each set, and how many class tables were compacted
-/// for them.
+/// The widths of the sets of a block, and how many class tables were compacted to find them.
 #[derive(Drop)]
 pub struct BlockWidths {
+    /// A row for each set, in the order of the block's sets.
     rows: Vec<WidthRow>,
     compactions: u32,
 }
@@ -32,7 +32,8 @@ impl Model for BlockWidths {
 }
 
 impl BlockWidths {
-    /// The widths with these rows, for which `compactions` class tables were compacted.
+    /// The widths of a block whose rows are `rows`, found with `compactions` compacted class
+    /// tables.
     pub(crate) fn new(rows: Vec<WidthRow>, compactions: u32) -> BlockWidths
         ensures rows { result.rows ≡ rows.items }
         ensures compactions { result.compactions ≡ compactions }
@@ -40,8 +41,8 @@ impl BlockWidths {
         BlockWidths { rows, compactions }
     }
 
-    /// The row of the set at place i of the block: at each member whose width was needed this
-    /// width, over the set without the member, and 0 elsewhere.
+    /// The row of the set at place `i` of the block: at each needed member its width over the set
+    /// without the member, and 0 elsewhere.
     pub fn row(&self, i: usize) -> WidthRow
         requires { i < length self.now.rows }
         ensures { slice_get self.now.rows i ≡ Some result }
@@ -56,7 +57,8 @@ impl BlockWidths {
         self.rows
     }
 
-    /// How many class tables were compacted, those that were made beforehand included.
+    /// How many class tables were compacted, counting those of low variables even if they were made
+    /// beforehand.
     pub fn compactions(&self) -> u32
         ensures { result ≡ self.now.compactions }
     {
@@ -79,8 +81,8 @@ fn members_only(row: WidthRow, members: Mask) -> WidthRow
 }
 
 impl<'a> SharedTables<'a> {
-    /// For each set of the block, the widths of its members in `needed`, and 0 elsewhere. They are
-    /// read from `byte`, the rows of the block's low byte.
+    /// A row for each set of the block: the widths of its members in its mask of `needed`, and 0
+    /// elsewhere. They are read from `byte`, the rows of the block's low byte.
     pub(crate) fn rows_of_block(
         &self,
         alloc: Global,
@@ -105,8 +107,9 @@ impl<'a> SharedTables<'a> {
     }
 }
 
-/// For each set of the block, the widths of its members in `needed`, and 0 elsewhere, by a walk
-/// that has no tables to begin with. The tally rises by the number of these widths.
+/// Computes a row for each set of the block: the widths of its members in its mask of `needed`, and
+/// 0 elsewhere. The walk begins at the class table of the empty set. The tally rises by the number
+/// of these widths.
 pub fn block_widths(
     alloc: Global,
     problem: &Problem,
@@ -129,8 +132,9 @@ pub fn block_widths(
 }
 
 impl<'a> SharedTables<'a> {
-    /// For each set of the block, the widths of its members in `needed`, and 0 elsewhere, by a walk
-    /// that begins with the shared tables. The tally rises by the number of these widths.
+    /// Computes a row for each set of the block: the widths of its members in its mask of `needed`,
+    /// and 0 elsewhere. The walk begins at a shared table. The tally rises by the number of these
+    /// widths.
     pub fn block_widths(
         &self,
         alloc: Global,

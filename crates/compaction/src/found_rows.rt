@@ -17,6 +17,7 @@ use std::thread::Threads;
 /// The low bytes, which threads take one after another: those with the largest tables first.
 #[derive(Drop)]
 struct Turns {
+    /// All low bytes, in the order in which they are taken.
     bytes: [u8; 256],
     /// How often a thread came for a byte.
     taken: AtomicU64,
@@ -46,7 +47,7 @@ impl Turns {
         }
     }
 
-    /// The next low byte, or none if all are taken.
+    /// Takes the next low byte; None if all are taken.
     fn next(&self) -> Option<u8> {
         let turn = self.taken.fetch_add(1, Ordering::SeqCst);
         if turn < 256 {
@@ -58,7 +59,7 @@ impl Turns {
 }
 
 impl<'a> SharedTables<'a> {
-    /// The rows of the sets with one low byte: the widths that `request` needs.
+    /// Computes the rows of the sets with the low byte of `request`: the widths that it needs.
     fn rows_of(&self, alloc: Global, request: &WidthRequest) -> Result<ByteRows, AllocError>
         requires { request.now.inputs ≡ self.now.inputs }
         ensures { IfOk result (HoldsRows self.now) }
@@ -68,8 +69,9 @@ impl<'a> SharedTables<'a> {
         Ok(byte)
     }
 
-    /// The rows that are requested for those low bytes that the calling thread takes from `turns`.
-    /// `end` is noted as the size of the largest sets of which rows are to be found.
+    /// Takes low bytes from `turns` until none is left, and computes the rows that are requested
+    /// for them. The result keeps `end` as the size of the largest sets of which rows are to be
+    /// found.
     fn rows_by_turns(
         &self,
         alloc: Global,
@@ -95,8 +97,8 @@ impl<'a> SharedTables<'a> {
         Ok(found)
     }
 
-    /// The rows that are requested, by the calling thread. `end` is noted as the size of the
-    /// largest sets of which rows are to be found.
+    /// Computes the rows that are requested, by the calling thread. The result keeps `end` as the
+    /// size of the largest sets of which rows are to be found.
     pub(crate) fn rows_alone(
         &self,
         alloc: Global,
@@ -109,8 +111,8 @@ impl<'a> SharedTables<'a> {
     }
 }
 
-/// The rows that all threads found; an error if a thread ran out of memory. `end` is noted as the
-/// size of the largest sets of which rows are to be found.
+/// Joins the rows that all threads found; an error if a thread ran out of memory. The result keeps
+/// `end` as the size of the largest sets of which rows are to be found.
 fn collect<'a>(
     alloc: Global,
     problem: &'a Problem,
@@ -129,8 +131,8 @@ fn collect<'a>(
 }
 
 impl<'a> SharedTables<'a> {
-    /// The rows that are requested, by the workers; none if `end` is 0. `end` is noted as the size
-    /// of the largest sets of which rows are to be found.
+    /// Computes the rows that are requested, by the threads of `workers` workers; none if `end` is
+    /// 0. The result keeps `end` as the size of the largest sets of which rows are to be found.
     pub(crate) fn rows_by_workers<R: Threads + Sync>(
         &self,
         rt: &R,

@@ -10,10 +10,11 @@ use order_model::packed::lower_half;
 /// A set of high bytes: a bit for each of the 256.
 #[derive(Clone, Copy)]
 pub(crate) struct HighBytes {
+    /// Bit h % 64 of word h / 64 is 1 if the high byte h is in the set.
     words: [u64; 4],
 }
 
-/// A bit for each of the 64 bytes from 64 i on that lacks bit y.
+/// A word with a bit for each of the 64 bytes from `64 * i` on: 1 if the byte lacks bit `y`.
 fn bits_without(i: usize, y: u8) -> u64
     requires place { i < 4 }
     requires bit { y < 8 }
@@ -29,7 +30,7 @@ fn bits_without(i: usize, y: u8) -> u64
 }
 
 impl HighBytes {
-    /// The high bytes of the wanted sets: those at which `needed` has a member.
+    /// The high bytes of the wanted sets: those h for which `needed[h]` is not empty.
     pub(crate) fn wanted(needed: &[Mask]) -> HighBytes
         requires { length needed.now ≤ 256 }
         ensures { (h : ℕ) → h < length needed.now → slice_index needed.now h ≢ 0 →

@@ -16,15 +16,16 @@ use order_model::{Mask, Problem, VarIx, WidthRow, contains};
 use std::alloc::{AllocError, Global};
 use std::marker::Model;
 
-/// Where a walk stands: the variables of which it is decided whether its table's set has them, and
-/// the high bytes of the wanted sets that agree with this set in them.
+/// How far a walk has come at the class table where it stands.
 #[derive(Clone, Copy)]
 struct Branch {
+    /// The variables of which it is decided whether the sets to come have them.
     decided: Mask,
+    /// The high bytes of the wanted sets that agree with the table's set in the decided variables.
     wanted: HighBytes,
 }
 
-/// The lowest of the `inputs` variables that is not in `decided`; nothing if all are.
+/// The lowest of the `inputs` variables that is not in `decided`; None if all are.
 fn first_undecided(inputs: u8, decided: Mask) -> Option<VarIx>
     requires { inputs ≤ 16 }
     ensures undecided { IfSome result (λ y. (y < inputs) × (bit_at decided y ≡ 0)) }
@@ -49,9 +50,9 @@ impl Branch {
         self.wanted.with(y % 8).count()
     }
 
-    /// The undecided variable that most of the wanted sets have; nothing if all are decided. Tables
-    /// halve with each variable, so the one that most sets share is added first. Of the last two
-    /// the lower one is taken.
+    /// The undecided variable that most of the wanted sets have; None if all are decided. Tables
+    /// halve with each variable, so the one that most sets share is added first. If only two are
+    /// undecided, the lower one is taken.
     fn next_variable(&self, inputs: u8) -> Option<VarIx>
         requires { inputs ≤ 16 }
         ensures undecided { IfSome result
@@ -84,8 +85,8 @@ fn with_member(set: Mask, y: VarIx) -> Mask
     set | (1 << y)
 }
 
-/// Writes the row of the table's own set: the widths of its needed members, and 0 elsewhere.
-/// Nothing is written if the request is for another low byte.
+/// Writes the row of the table's own set to `rows`, at the set's high byte: the widths of its
+/// needed members, and 0 elsewhere. Nothing is written if the request is for another low byte.
 fn fill_row(
     alloc: Global,
     table: &Strips<'_>,
@@ -104,9 +105,9 @@ fn fill_row(
     Ok(())
 }
 
-/// Writes the rows of the wanted sets that agree with the table's set in the decided variables, by
-/// a walk over the others. `names` has the pairs of names that were numbered beforehand. Returns
-/// how many class tables were compacted.
+/// Writes to `rows` the rows of the wanted sets that agree with the table's set in the decided
+/// variables, by a walk over the undecided ones. `names` has the pairs of strip names that were
+/// numbered beforehand. Returns how many class tables were compacted.
 fn walk(
     alloc: Global,
     table: &Strips<'_>,
@@ -155,8 +156,9 @@ fn low_mask(problem: &Problem) -> Mask
     (1 << low_variables(problem)) - 1
 }
 
-/// Writes the rows of the wanted sets. `table` is the class table of their low byte. Returns how
-/// many class tables were compacted.
+/// Writes the rows of the wanted sets to `rows`, by a walk from `table`. Requires that this is the
+/// class table of the set of low variables that the request's low byte stands for. Returns how many
+/// class tables were compacted.
 fn walk_from(
     alloc: Global,
     shared: &SharedTables<'_>,
@@ -179,8 +181,8 @@ fn walk_from(
     Ok(count)
 }
 
-/// The class table of `low`, a set of low variables, made from `first`, that of its members below
-/// `from`. None if it has no others.
+/// The class table of `low`, a set of low variables, made from `first`, the table of its members
+/// below `from`. None if `low` has no other members, so that `first` is its table.
 fn with_members<'a>(
     alloc: Global,
     first: &Strips<'a>,
@@ -205,9 +207,9 @@ fn with_members<'a>(
     Ok(made)
 }
 
-/// Writes the rows of the wanted sets. The class table of their low byte is made from that of its
-/// lowest members, which `shared` has. Returns how many class tables were compacted from the low
-/// byte's on.
+/// Writes the rows of the wanted sets to `rows`. The walk begins at a shared table, and adds the
+/// other members of the low byte first. Returns how many class tables were compacted after that of
+/// the low byte.
 fn fill_rows(
     alloc: Global,
     shared: &SharedTables<'_>,
@@ -227,8 +229,8 @@ fn fill_rows(
     walk_from(alloc, shared, table, request, rows)
 }
 
-/// The rows of sets with one low byte: at a set's high byte, the widths of those of its members
-/// that the request needs.
+/// The rows of the sets with one low byte, that of `request`: `rows` has at a set's high byte the
+/// widths of those of its members that the request needs.
 #[derive(Drop)]
 pub(crate) struct ByteRows {
     pub(crate) request: WidthRequest,
@@ -251,9 +253,9 @@ impl Model for ByteRows {
     ghost invariant = { λ b. IsRequest b.request.inputs b.request.low b.request.needed.items };
 }
 
-/// The rows of the wanted sets, and how many class tables were compacted for them. The table of the
-/// low byte is made once, and the others by a walk over the high variables that shares common
-/// beginnings. If nothing is needed no table is made.
+/// The rows that `request` needs, and how many class tables were compacted for them. The table of
+/// the low byte is made once, and the others by a walk over the high variables that shares common
+/// beginnings. If no width is needed no table is made.
 pub(crate) fn walked_rows(
     alloc: Global,
     shared: &SharedTables<'_>,

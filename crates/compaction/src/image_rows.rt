@@ -53,13 +53,15 @@ fn members_moved(row: &WidthRow, variables: &[VarIx; 16], needed: Mask) -> Width
 }
 
 impl ByteRows {
-    /// Whether the widths of all members of a set with this low byte were found.
+    /// Whether the widths of all members of `set` were found. `set` is one with the low byte of
+    /// these rows.
     pub(crate) fn is_whole(&self, set: Mask) -> bool {
         self.request.needed.get(usize::from(set >> 8)) == Some(&set)
     }
 
-    /// The widths of a set's members in `needed`, and 0 elsewhere, from the row of its image, which
-    /// has this low byte. None if one of these widths was not requested.
+    /// The widths of a set's members in `needed`, and 0 elsewhere, read from the row of `image`,
+    /// the set's image, which has the low byte of these rows. None if one of these widths was not
+    /// requested.
     pub(crate) fn row_by_image(&self, image: &Image, needed: Mask) -> Option<WidthRow>
         ensures { (p q : TruthTables) (set : ℕ) → p.inputs ≤ 16 → HoldsRows q self.now →
             TakesWidths p q set image.now.set image.now.variables →

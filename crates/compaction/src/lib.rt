@@ -1,4 +1,5 @@
-//! Class tables: which subfunctions over a set of variables are equal, and the widths that follow.
+//! The solver's class tables, which say what subfunctions over a set of variables are equal, and
+//! the widths that are counted in them.
 #![tactic(auto)]
 
 mod add_variable;

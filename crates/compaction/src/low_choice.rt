@@ -8,13 +8,14 @@ use order_model::{Mask, Problem, VarIx};
 use std::alloc::{AllocError, Global};
 use symmetries::Renaming;
 
-/// An odd number whose multiples spread over the words of 64 bits.
+/// The factor of Fibonacci hashing: 2^64 divided by the golden ratio, rounded down.
 const SPREAD: u64 = 0x9E37_79B9_7F4A_7C15;
 
 /// The most exchanges of two variables that are made.
 const MOST_CHANGES: u8 = 8;
 
-/// With so few distinct strips class tables are small whichever variables are the lowest.
+/// With at most this many distinct strips class tables are small whichever variables are the
+/// lowest.
 const FEW_STRIPS: u32 = 16;
 
 /// The hash of `hash` and one more word.
@@ -28,14 +29,14 @@ fn joined(first: u64, second: u64) -> u64 {
     mixed(mixed(0, first), second)
 }
 
-/// Which values the upper 14 bits of some hashes have, a bit for each of 16,384.
+/// A set of values that the upper 14 bits of hashes have: a bit for each of the 16,384 values.
 #[derive(Clone, Copy)]
 struct Seen {
     words: [u64; 256],
 }
 
 impl Seen {
-    /// Adds the value of a hash.
+    /// Adds the value that the upper 14 bits of `hash` have.
     fn add(&mut self, hash: u64) {
         let value = hash >> 50;
         if let Some(word) = self.words.get_mut((value / 64) as usize) {
@@ -43,7 +44,7 @@ impl Seen {
         }
     }
 
-    /// How many distinct values there are.
+    /// How many distinct values were added.
     fn count(&self) -> u32 {
         let mut count = 0u32;
         for word in &self.words {
@@ -53,16 +54,18 @@ impl Seen {
     }
 }
 
-/// For each strip a hash of its half where some low variable is 0, and one of its half where it is
-/// 1.
+/// Hashes of the two halves of each strip, which differ in one low variable.
 #[derive(Drop)]
 struct Halves {
+    /// For each strip the hash of the half where the variable is 0.
     lower: Vec<u64>,
+    /// For each strip the hash of the half where the variable is 1.
     upper: Vec<u64>,
 }
 
 impl Halves {
-    /// The hashes for all strips, of four words each. Their halves differ in the variable `low`.
+    /// The hashes of the halves of all strips in `words`, packed truth tables with four words a
+    /// strip. The halves of a strip differ in the variable `low`.
     fn of(alloc: Global, words: &[u64], low: VarIx) -> Result<Halves, AllocError>
         requires { low < 8 }
     {
@@ -118,19 +121,22 @@ impl Halves {
     }
 }
 
-/// The truth tables of a problem with exchanged variables.
+/// The packed truth tables of a problem with exchanged variables.
 #[derive(Drop)]
 struct Tables {
     words: Vec<u64>,
-    /// The variable at each place.
+    /// The problem's variable at each place of the packed truth tables.
     variables: [VarIx; 16],
 }
 
-/// An exchange of the variables at two places, and about how many distinct strips it leaves.
+/// An exchange of the variables at two places.
 #[derive(Clone, Copy)]
 struct Change {
+    /// The low place, below 8.
     low: VarIx,
+    /// The high place, 8 or above.
     high: VarIx,
+    /// About how many distinct strips the exchange leaves.
     strips: u32,
     ghost is_low: { low < 8 },
     ghost is_high: { high < 16 },
@@ -149,8 +155,8 @@ impl Tables {
         })
     }
 
-    /// The exchange of a low and a high variable that leaves the fewest distinct strips, as far as
-    /// they are estimated; nothing if no variable is high.
+    /// The exchange of a low and a high place that leaves the fewest distinct strips, as far as
+    /// they are estimated; None if `inputs` is at most 8, so that no place is high.
     fn best_change(&self, alloc: Global, inputs: u8) -> Result<Option<Change>, AllocError>
         requires { inputs ≤ 16 }
     {
@@ -187,7 +193,7 @@ impl Tables {
     }
 }
 
-/// Exchanges a low variable and a high one in packed truth tables.
+/// Exchanges the variables `low` and `high` in the packed truth tables `words`.
 fn exchange(words: &mut [u64], low: VarIx, high: VarIx)
     requires low { low < 8 }
     requires high { high < 16 }
@@ -216,8 +222,8 @@ fn exchange(words: &mut [u64], low: VarIx, high: VarIx)
 }
 
 /// The mask of eight variables to be the lowest ones, if they leave at most about three quarters of
-/// the distinct strips; else nothing. They are found by one exchange after another, each the best
-/// at its time.
+/// the distinct strips; else None. They are found by one exchange after another, each the best at
+/// its time.
 fn lowest_of(alloc: Global, problem: &Problem) -> Result<Option<Mask>, AllocError>
     requires { problem.now.inputs ≤ 16 }
 {

@@ -10,10 +10,11 @@ use order_model::{Mask, VarIx, contains};
 use pair_numbering::{EntryPairs, NumberedPairs, number_entries};
 use std::alloc::{AllocError, Global};
 
-/// With more names than these their pairs aren't numbered beforehand.
+/// The most strip names of a table whose pairs are numbered beforehand.
 const MOST_NAMES: usize = 1 << 12;
 
-/// Names of strips, and the numbers of their pairs by one variable. Names 2^rank apart are a pair.
+/// The names of a table's strips, and the numbers of the pairs of names by one variable. Names
+/// 2^rank apart are a pair.
 #[derive(Drop)]
 pub(crate) struct NamePairs {
     names: Vec<u32>,
@@ -49,7 +50,7 @@ fn are_whole_blocks(count: usize, rank: u32) -> bool
 impl NamePairs {
     /// The pairs of names 2^rank apart, numbered. None if they aren't worth keeping: if there are
     /// too many names, or if the names are 0, 1, 2 and so on. None, too, if some name has no
-    /// partner or isn't below their count.
+    /// partner, or is no less than the number of names.
     fn of(alloc: Global, names: &[u32], rank: u32) -> Result<Option<NamePairs>, AllocError>
         requires rank { rank < 16 }
     {
@@ -81,8 +82,8 @@ impl NamePairs {
     }
 }
 
-/// The pairs of names 2^rank apart, numbered by first occurrence. All names are below `count`. If
-/// `known` has the pairs of these names, their numbers are copied from there.
+/// The pairs of names 2^rank apart, numbered by first occurrence. If `known` has the pairs of these
+/// names, their numbers are copied from there. Requires that all names are below `count`.
 pub(crate) fn number_names(
     alloc: Global,
     names: &[u32],
@@ -102,16 +103,19 @@ pub(crate) fn number_names(
     number_entries(alloc, &EntryPairs::of_table(names, rank), count)
 }
 
-/// The pairs of names for each set of high variables, by each variable outside it. Those for a set
-/// and the variable `8 + y` stand at eight times the set's high byte plus y.
+/// The pairs of strip names in the class table of each set of high variables, by each variable
+/// outside the set.
 #[derive(Drop)]
 pub(crate) struct AllNamePairs {
+    /// At eight times the set's high byte plus y, the pairs for the set and the variable `8 + y`;
+    /// None if they aren't numbered beforehand.
     steps: Vec<Option<NamePairs>>,
 }
 
-/// The pairs of names for a set, by y outside it, both counted from the first high variable.
-/// `names` are those of the empty set. Those of another set are the numbers of the pairs, in
-/// `steps`, of the set without its lowest member by that member; none if they are missing.
+/// The pairs of strip names in the class table of `set`, by the variable `y` outside it. In `set`
+/// and `y` the first high variable is 0. `names` has the names in the table of the empty set.
+/// Another set's names are the numbers of the pairs that `steps` has for the set without its lowest
+/// member, by that member. None if these are missing, or if the pairs aren't worth keeping.
 fn step_of(
     alloc: Global,
     names: &[u32],
@@ -135,8 +139,8 @@ fn step_of(
 }
 
 impl AllNamePairs {
-    /// The pairs of names for all sets of the `high` high variables. `names` are those of a
-    /// problem's strips.
+    /// The pairs of strip names for all sets of the `high` high variables. `names` has the strip
+    /// names in the class table of the empty set.
     pub(crate) fn of(alloc: Global, names: &[u32], high: u8) -> Result<AllNamePairs, AllocError>
         requires { high ≤ 8 }
     {
@@ -161,8 +165,8 @@ impl AllNamePairs {
         }
     }
 
-    /// The pairs of names for the high members of `set`, by the variable y, which is 8 or more and
-    /// outside `set`; nothing if they were not numbered beforehand.
+    /// The pairs of strip names for the high members of `set`, by the variable `y`, which is 8 or
+    /// more and outside `set`; None if they were not numbered beforehand.
     pub(crate) fn at(&self, set: Mask, y: VarIx) -> Option<&NamePairs> {
         match self
             .steps

@@ -1,5 +1,6 @@
-//! What a search begins with, and adds to from layer to layer. It does not depend on the bound;
-//! pairs decide only of which sets rows are found, because rows are facts about the functions.
+//! A search's preparation: what it begins with, and adds to from layer to layer. It does not depend
+//! on the bound. Pairs decide only of which sets rows are found; the rows themselves depend on the
+//! functions alone.
 
 ghost use Rattle.std.specs.Prelude.{◌≡◌, ◌<◌, ◌^◌, IfOk};
 ghost use Rattle.symmetries.specs.Orbits.{TakesWidths};
@@ -17,18 +18,19 @@ use std::marker::Model;
 use std::thread::Threads;
 use symmetries::{Image, Orbits, Renaming};
 
-/// What serves all layers of a search: the class tables that walks share, of the functions with
-/// renamed variables; the orbits of their sets, if variables may be exchanged; and the rows of
-/// first sets of orbits that were found, up to some size.
+/// What serves all layers of a search.
 #[derive(Drop)]
 pub struct Preparation<'a> {
+    /// The problem, and the renaming of its variables that makes class tables small.
     renaming: &'a Renaming<'a>,
+    /// The class tables that all walks share, of the renamed problem.
     shared: SharedTables<'a>,
+    /// The orbits of the renamed problem's sets; None if no variables may be exchanged.
     orbits: Option<Orbits<'a>>,
     /// The pairs that orders are likely to keep, of the renamed variables: they say which sets are
     /// lawful.
     pairs: Pairs,
-    /// The rows that were found so far.
+    /// The rows of widths that were found so far, of sets of the renamed problem.
     found: WidthsAhead<'a>,
 }
 
@@ -47,7 +49,7 @@ impl<'a> Model for Preparation<'a> {
 }
 
 impl<'a> Preparation<'a> {
-    /// The preparation with these class tables and without rows. The pairs say which sets are
+    /// A preparation with the class tables `shared`, and without rows. `pairs` say which sets are
     /// lawful.
     fn with_tables(
         alloc: Global,
@@ -70,7 +72,7 @@ impl<'a> Preparation<'a> {
         })
     }
 
-    /// The preparation without rows, by the calling thread. The pairs say which sets are lawful.
+    /// A preparation without rows, made by the calling thread. `pairs` say which sets are lawful.
     pub fn of(
         alloc: Global,
         renaming: &'a Renaming<'a>,
@@ -83,8 +85,9 @@ impl<'a> Preparation<'a> {
         Preparation::with_tables(alloc, renaming, shared, pairs)
     }
 
-    /// The preparation with rows, by the workers: of the sets of at most `end` variables that are
-    /// lawful by the pairs, and of each orbit the first alone. There are no rows if `end` is 0.
+    /// A preparation with rows, made by the threads of `workers` workers. The rows are those of the
+    /// sets of at most `end` variables that are lawful by `pairs`, of each orbit the first set
+    /// alone. There are no rows if `end` is 0.
     pub fn by_workers<R: Threads + Sync>(
         rt: &R,
         alloc: Global,
@@ -125,8 +128,9 @@ impl<'a> Preparation<'a> {
         &self.found
     }
 
-    /// The image whose row has the widths of a set: the renaming takes the set to the renamed
-    /// problem, and exchanges from there to the first set of its orbit.
+    /// The image whose row has the widths of `set`, a set of the problem before the renaming. The
+    /// renaming takes `set` to the renamed problem, and exchanges take it from there to the first
+    /// set of its orbit.
     pub fn image_of(&self, set: Mask) -> Image
         requires { set < 2 ^ self.now.problem.inputs }
         ensures { TakesWidths self.now.problem (renamed_of self.now.problem self.now.renamed) set
@@ -140,13 +144,14 @@ impl<'a> Preparation<'a> {
         }
     }
 
-    /// Requests for this problem in which nothing is needed yet.
+    /// Requests for this problem in which no width is needed yet.
     pub fn requests(&self, alloc: Global) -> Result<Requests, AllocError> {
         prove!(self.renaming.problem().inputs() <= 16);
         Requests::none(alloc, self.renaming.problem().inputs())
     }
 
-    /// The lawful sets of `first` to `last` variables, and of each orbit the first alone.
+    /// The lawful sets of at least `first` and at most `last` variables, of each orbit the first
+    /// alone.
     fn wanted(&self, first: u8, last: u8) -> Wanted<'_, '_> {
         Wanted {
             pairs: &self.pairs,
@@ -156,15 +161,16 @@ impl<'a> Preparation<'a> {
         }
     }
 
-    /// Adds all members of the lawful sets of `first` to `last` variables, of each orbit the first
-    /// alone, to the requests of the low bytes for which something is needed already. The class
-    /// tables on the way serve all.
+    /// Adds to `requests` the widths of all members of the lawful sets of at least `first` and at
+    /// most `last` variables, of each orbit the first alone. Only low bytes for which some width is
+    /// needed already are taken: one walk then serves these widths, too.
     pub fn add_larger(&self, requests: &mut Requests, first: u8, last: u8) {
         requests.add_sets(&self.wanted(first, last), false);
     }
 
-    /// Adds rows to those that were found, or puts them in their place if they go to larger sets.
-    /// If memory is refused nothing changes.
+    /// Takes over newly found rows. If `found` goes to larger sets than the rows that the
+    /// preparation has, it replaces them; else it is appended. If memory is refused nothing
+    /// changes.
     fn take(&mut self, found: WidthsAhead<'a>) -> Result<(), AllocError>
         requires { found.problem ≡ renamed_of self.old.problem self.old.renamed }
         ensures { self.new.problem ≡ self.old.problem }
@@ -176,8 +182,9 @@ impl<'a> Preparation<'a> {
         self.found.append(found)
     }
 
-    /// Finds the rows that are requested, by the calling thread. `end` is noted as the size of the
-    /// largest sets of which rows were found; if it is larger than before, the rows of before go.
+    /// Finds the rows that are requested, by the calling thread. If `end` is larger than
+    /// `self.end()`, these rows replace the earlier ones, and `end` becomes the size of the largest
+    /// sets of which rows were found; else they are appended.
     pub fn find_alone(
         &mut self,
         alloc: Global,
@@ -190,9 +197,9 @@ impl<'a> Preparation<'a> {
         self.take(found)
     }
 
-    /// Finds the rows that are requested, by the workers; none if `end` is 0. `end` is noted as the
-    /// size of the largest sets of which rows were found; if it is larger than before, the rows of
-    /// before go.
+    /// Finds the rows that are requested, by the threads of `workers` workers; none if `end` is 0.
+    /// If `end` is larger than `self.end()`, these rows replace the earlier ones, and `end` becomes
+    /// the size of the largest sets of which rows were found; else they are appended.
     pub fn find<R: Threads + Sync>(
         &mut self,
         rt: &R,
@@ -209,7 +216,7 @@ impl<'a> Preparation<'a> {
         self.take(found)
     }
 
-    /// Where the widths of blocks come from: the rows that were found so far.
+    /// The source of the widths of blocks: the rows that were found so far, or else a walk.
     pub fn source(&self) -> WidthSource<'_>
         ensures { result ≡ self.now.problem }
     {

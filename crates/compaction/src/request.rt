@@ -11,8 +11,9 @@ use std::alloc::{AllocError, Global};
 use subset_layers::Block;
 use symmetries::Orbits;
 
-/// For each set of `inputs` variables with the low byte `low` the members whose widths are needed:
-/// they stand in `needed` at the set's high byte.
+/// The widths that are needed of the sets with the low byte `low`, in a problem of `inputs`
+/// variables. `needed` has at a set's high byte the mask of those of its members whose widths are
+/// needed.
 #[derive(Drop)]
 pub(crate) struct WidthRequest {
     pub(crate) inputs: u8,
@@ -22,8 +23,9 @@ pub(crate) struct WidthRequest {
     ghost request: { IsRequest inputs low needed.items },
 }
 
-/// The sets of which rows are to be found: the lawful ones of `first` to `last` variables, and of
-/// each orbit the first alone. Which sets these are decides time alone.
+/// The sets of which rows are to be found: those of at least `first` and at most `last` variables
+/// that are lawful by `pairs` and, if there are `orbits`, the first of their orbit. The choice
+/// affects time alone, not results.
 #[derive(Clone, Copy)]
 pub(crate) struct Wanted<'a, 'b> {
     pub pairs: &'a Pairs,
@@ -33,7 +35,7 @@ pub(crate) struct Wanted<'a, 'b> {
 }
 
 impl<'a, 'b> Wanted<'a, 'b> {
-    /// Whether a set is one of the wanted ones.
+    /// Whether `set` is one of these sets.
     fn has(&self, set: Mask) -> bool {
         let size = set.count_ones();
         if size < self.first || self.last < size {
@@ -47,7 +49,8 @@ impl<'a, 'b> Wanted<'a, 'b> {
 }
 
 impl WidthRequest {
-    /// The request in which nothing is needed.
+    /// A request for the sets with the low byte `low`, in a problem of `inputs` variables, in which
+    /// no width is needed yet.
     pub(crate) fn none(alloc: Global, inputs: u8, low: u8) -> Result<WidthRequest, AllocError>
         requires inputs { inputs ≤ 16 }
         requires low { low < 2 ^ inputs }
@@ -75,7 +78,8 @@ impl WidthRequest {
         })
     }
 
-    /// Adds `members`, which are members of `set`, to those whose widths are needed.
+    /// Adds `members` to the members of `set` whose widths are needed. Requires that `set` has this
+    /// request's low byte, and that `members` are some of its members.
     pub(crate) fn add(&mut self, set: Mask, members: Mask)
         requires set { set < 2 ^ self.old.inputs }
         requires byte { set % 256 ≡ self.old.low }
@@ -91,8 +95,9 @@ impl WidthRequest {
         self.needed[usize::from(set >> 8)] |= members;
     }
 
-    /// Adds the members in `needed`, a mask for each set of the block, to those whose widths are
-    /// needed.
+    /// For each set of the block, adds its mask of `needed` to the members whose widths are needed.
+    /// Requires that the block has this request's low byte, and that each mask has only members of
+    /// its set.
     pub(crate) fn add_block(&mut self, block: &Block, needed: &[Mask])
         requires inputs { block.now.inputs ≡ self.old.inputs }
         requires low { block.now.low ≡ self.old.low }
@@ -110,20 +115,22 @@ impl WidthRequest {
         }
     }
 
-    /// Adds those of `variables` that are members of `set` to the members whose widths are needed.
-    /// Nothing changes if the set has another low byte or a variable beyond the last one.
+    /// Adds those members of `set` that are in `variables` to the members whose widths are needed.
+    /// Nothing changes if `set` has another low byte than this request, or a variable that is not
+    /// below `inputs`.
     pub(crate) fn add_members(&mut self, set: Mask, variables: Mask) {
         if u32::from(set) < 1u32 << self.inputs && set % 256 == Mask::from(self.low) {
             self.add(set, variables & set);
         }
     }
 
-    /// Whether nothing is needed.
+    /// Whether no width is needed.
     pub(crate) fn is_empty(&self) -> bool {
         self.needed.iter().all(|members| *members == 0)
     }
 
-    /// Adds all members of each wanted set that has the low byte.
+    /// Adds all members of each wanted set with this request's low byte to those whose widths are
+    /// needed.
     pub(crate) fn add_sets(&mut self, wanted: &Wanted<'_, '_>) {
         for high in 0..self.needed.len().min(256) as Mask {
             let set = high * 256 + Mask::from(self.low);

@@ -7,13 +7,16 @@ use order_model::{Mask, contains};
 use std::alloc::{AllocError, Global};
 use symmetries::Image;
 
-/// For each low byte the request for the sets of n variables that have it.
+/// The widths that are needed of a problem's sets, of any sizes: for each low byte the request for
+/// the sets that have it.
 #[derive(Drop)]
 pub struct Requests {
+    /// The request for each low byte, at the byte's place. With fewer than eight variables there
+    /// are fewer low bytes.
     bytes: Vec<WidthRequest>,
 }
 
-/// The mask of the variables to which `members` go by the image.
+/// The variables to which `image` takes the variables in `members`, as a mask.
 fn members_of_image(image: &Image, members: Mask) -> Mask {
     let mut found: Mask = 0;
     for x in 0..16u8 {
@@ -26,7 +29,7 @@ fn members_of_image(image: &Image, members: Mask) -> Mask {
 }
 
 impl Requests {
-    /// Requests for the sets of `inputs` variables in which nothing is needed.
+    /// Requests for a problem of `inputs` variables in which no width is needed yet.
     pub(crate) fn none(alloc: Global, inputs: u8) -> Result<Requests, AllocError>
         requires { inputs ≤ 16 }
     {
@@ -39,13 +42,13 @@ impl Requests {
         Ok(Requests { bytes })
     }
 
-    /// Whether nothing is needed.
+    /// Whether no width is needed.
     pub fn is_empty(&self) -> bool {
         self.bytes.iter().all(|request| request.is_empty())
     }
 
-    /// Adds all members of the wanted sets: of all low bytes if `all` is true, else of those for
-    /// which something is needed already.
+    /// Adds all members of the wanted sets to those whose widths are needed. If `all` is false,
+    /// only for low bytes for which some width is needed already.
     pub(crate) fn add_sets(&mut self, wanted: &Wanted<'_, '_>, all: bool) {
         for request in &mut self.bytes {
             if all || !request.is_empty() {
@@ -54,15 +57,15 @@ impl Requests {
         }
     }
 
-    /// Adds the variables to which `members` go by the image to those that are needed of the
-    /// image's set. Nothing changes if its low byte has no request.
+    /// Adds those members of the image's set to which `image` takes `members` to the members whose
+    /// widths are needed. Nothing changes if there is no request for the low byte of that set.
     pub fn add_image(&mut self, image: &Image, members: Mask) {
         if let Some(request) = self.bytes.get_mut(usize::from(image.set % 256)) {
             request.add_members(image.set, members_of_image(image, members));
         }
     }
 
-    /// The request for a low byte, if something is needed there.
+    /// The request for the low byte `low`; None if no width is needed there.
     pub(crate) fn of_byte(&self, low: u8) -> Option<&WidthRequest> {
         match self.bytes.get(usize::from(low)) {
             Some(request) if !request.is_empty() => Some(request),

@@ -14,21 +14,25 @@ use std::marker::Model;
 use std::thread;
 use std::thread::Threads;
 
-/// The class tables of all sets of low variables are made beforehand if the strips of the truth
-/// tables have at most so many points, a class number each: all tables take 26 times as many.
+/// The most points, counted over the distinct strips of the truth tables, with which the class
+/// tables of all sets of low variables are made beforehand. These tables take 26 times as many
+/// class numbers.
 const MOST_POINTS: usize = 1 << 18;
 
-/// With more points the class tables of the sets of so many variables are made beforehand.
+/// With more points than `MOST_POINTS` only the class tables of the sets of this many lowest
+/// variables are made beforehand.
 const FEWEST_KNOWN: u8 = 3;
 
-/// What all walks share: the class tables of the sets of the lowest variables, and the pairs of
-/// names for the sets of high variables. They are made once a search.
+/// What all walks share, made once a search: the class tables of the sets of the lowest variables,
+/// and numbered pairs of strip names for the sets of high variables.
 #[derive(Drop)]
 pub struct SharedTables<'a> {
     problem: &'a Problem,
     /// The class tables of all sets of the lowest `known` variables, by rising mask.
     tables: Vec<Strips<'a>>,
+    /// How many of the lowest variables have class tables for all their sets.
     known: u8,
+    /// The pairs of strip names that are numbered beforehand, for the sets of high variables.
     names: AllNamePairs,
 }
 
@@ -74,7 +78,8 @@ fn concatenate<'a>(
     Ok(all)
 }
 
-/// The class tables with the low variable x added to each set, made by the workers.
+/// The class tables with the low variable `x` added to each table's set, made by the threads of
+/// `workers` workers.
 fn with_low_by_threads<'a, R: Threads + Sync>(
     rt: &R,
     alloc: Global,
@@ -99,7 +104,7 @@ fn with_low_by_threads<'a, R: Threads + Sync>(
     concatenate(alloc, parts)
 }
 
-/// Who makes the class tables of larger sets: the calling thread, or workers.
+/// Who makes the class tables of larger sets: the calling thread, or worker threads.
 trait TableMaker {
     // What the maker requires.
     ghost ready: { Self → Type 0 };
@@ -140,8 +145,8 @@ impl<'r, R: Threads + Sync> TableMaker for WorkerThreads<'r, R> {
     }
 }
 
-/// The class tables of all sets of the lowest `known` variables by rising mask, made from `empty`,
-/// that of the empty set.
+/// The class tables of all sets of the lowest `known` variables, by rising mask. `empty` is the
+/// class table of the empty set.
 fn tables_of_low_sets<'a, M: TableMaker>(
     maker: &M,
     alloc: Global,
@@ -162,7 +167,7 @@ fn tables_of_low_sets<'a, M: TableMaker>(
     Ok(tables)
 }
 
-/// The shared tables of a problem, with all that serves several walks, by the maker.
+/// A problem's shared tables for several walks. `maker` makes the class tables.
 fn made_by<'a, M: TableMaker>(
     maker: &M,
     alloc: Global,
@@ -188,14 +193,14 @@ fn made_by<'a, M: TableMaker>(
 }
 
 impl<'a> SharedTables<'a> {
-    /// The shared tables of a problem, with all that serves several walks, by the calling thread.
+    /// A problem's shared tables for several walks, made by the calling thread.
     pub fn of(alloc: Global, problem: &'a Problem) -> Result<SharedTables<'a>, AllocError>
         ensures { IfOk result (λ b. b ≡ problem.now) }
     {
         made_by(&CallingThread, alloc, problem)
     }
 
-    /// The shared tables of a problem, with all that serves several walks, by the workers.
+    /// A problem's shared tables for several walks, made by the threads of `workers` workers.
     pub fn by_threads<R: Threads + Sync>(
         rt: &R,
         alloc: Global,
@@ -207,7 +212,8 @@ impl<'a> SharedTables<'a> {
         made_by(&WorkerThreads { rt, workers }, alloc, problem)
     }
 
-    /// The shared tables of a problem for a single walk: the class table of the empty set alone.
+    /// A problem's shared tables for a single walk: the class table of the empty set, and no
+    /// numbered pairs of names.
     pub(crate) fn bare(alloc: Global, problem: &'a Problem) -> Result<SharedTables<'a>, AllocError>
         ensures { IfOk result (λ b. b ≡ problem.now) }
     {
@@ -228,13 +234,14 @@ impl<'a> SharedTables<'a> {
         self.problem
     }
 
-    /// The pairs of names that were numbered beforehand.
+    /// The pairs of strip names that were numbered beforehand.
     pub(crate) fn names(&self) -> &AllNamePairs {
         &self.names
     }
 
-    /// The class table of those members of `set` that are among the lowest variables, of which all
-    /// sets' tables were made beforehand.
+    /// The class table with which a walk to `set` begins, and a number k. It is the table of those
+    /// members of `set` that are among the k lowest variables, the ones with tables made
+    /// beforehand.
     pub(crate) fn first_table(&self, set: Mask) -> (&Strips<'a>, u8)
         ensures known { result.1 ≤ low_of self.now }
         ensures table { result.0.now ≡ classes_of self.now (set % 2 ^ result.1) }

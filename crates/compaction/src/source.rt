@@ -15,11 +15,12 @@ use std::alloc::{AllocError, Global};
 use std::marker::Model;
 use subset_layers::Block;
 
-/// Where the widths of a layer's blocks come from: the rows that were found ahead, each of which
-/// serves the sets that have its set as image; or else a walk.
+/// Where the widths of a layer's blocks come from: rows that were found ahead, or else a walk. A
+/// row that was found ahead is that of a set, and serves all sets whose image it is.
 #[derive(Drop)]
 pub struct WidthSource<'a> {
     prepared: &'a Preparation<'a>,
+    /// The place of each low byte's rows among those that `prepared` has found.
     places: Places,
 }
 
@@ -32,7 +33,7 @@ impl<'a> Model for WidthSource<'a> {
 }
 
 impl<'a> WidthSource<'a> {
-    /// The source with the rows that the preparation has.
+    /// The source of widths for the problem of `prepared`, with the rows that `prepared` has found.
     pub(crate) fn new(prepared: &'a Preparation<'a>) -> WidthSource<'a>
         ensures { result ≡ prepared.now.problem }
     {
@@ -42,7 +43,7 @@ impl<'a> WidthSource<'a> {
         }
     }
 
-    /// Whether the widths of all members of a set of the renamed problem were found ahead.
+    /// Whether the widths of all members of `set`, a set of the renamed problem, were found ahead.
     pub fn is_found(&self, set: Mask) -> bool {
         match self
             .prepared
@@ -54,8 +55,8 @@ impl<'a> WidthSource<'a> {
         }
     }
 
-    /// The widths of a set's members in `needed`, and 0 elsewhere, from the row of its image. None
-    /// if one of them was not found ahead.
+    /// The row of `set`: the widths of its members in `needed`, and 0 elsewhere, read from the row
+    /// of its image. None if one of these widths was not found ahead.
     fn row_of(&self, set: Mask, needed: Mask) -> Option<WidthRow>
         requires set { set < 2 ^ self.now.inputs }
         requires members { AreMembersOf self.now.inputs set needed }
@@ -73,8 +74,9 @@ impl<'a> WidthSource<'a> {
         byte.row_by_image(&image, needed)
     }
 
-    /// For each set of the block, the widths of its members in `needed`, and 0 elsewhere, from the
-    /// rows that were found ahead. None if a width is missing.
+    /// A row for each set of the block: the widths of its members in its mask of `needed`, and 0
+    /// elsewhere, read from the rows that were found ahead. `Ok(None)` if one of these widths was
+    /// not found ahead.
     fn rows_found(
         &self,
         alloc: Global,
@@ -95,9 +97,9 @@ impl<'a> WidthSource<'a> {
         Ok(Some(rows))
     }
 
-    /// For each set of the block, the widths of its members in `needed`, and 0 elsewhere. If a row
-    /// is missing that was to be found ahead, a walk computes all of them. The tally rises by the
-    /// number of widths.
+    /// A row for each set of the block: the widths of its members in its mask of `needed`, and 0
+    /// elsewhere. If one of these widths was not found ahead, a walk computes all of them. The
+    /// tally rises by the number of widths.
     pub fn block_rows(
         &self,
         alloc: Global,

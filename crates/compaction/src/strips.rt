@@ -26,15 +26,14 @@ pub(crate) struct Strips<'a> {
     set: Mask,
     /// How many subfunctions there are, if only their count is kept.
     distinct: Option<u32>,
-    /// If true, each mask is that of a class number that occurs.
+    /// If true, each entry of `masks` is that of a class number that occurs in `numbers`.
     all_used: bool,
-    /// For each assignment of the high variables outside the set, function by function, the name of
-    /// its strip, which is its number.
+    /// Function by function, for each assignment of the high variables outside the set, the name of
+    /// its strip: the strip's number among those in `numbers`.
     outer: Vec<u32>,
     /// The class numbers in the strips, one strip after the other.
     numbers: Vec<u32>,
-    /// For each class number that occurs, the mask of the variables that its subfunctions depend
-    /// on.
+    /// For each class number, the mask of the variables that its subfunctions depend on.
     masks: Vec<Mask>,
 }
 
@@ -88,7 +87,8 @@ fn numbers_in_use(alloc: Global, numbers: &[u32], count: usize) -> Result<Vec<bo
     Ok(used)
 }
 
-/// The masks of the class numbers that occur in `numbers`.
+/// The masks of the class numbers that occur in `numbers`, by rising number. `masks` has the mask
+/// of each class number.
 fn used_masks(alloc: Global, numbers: &[u32], masks: &[Mask]) -> Result<Vec<Mask>, AllocError>
     requires below { AllBelow numbers.now (length masks.now) }
     ensures { IfOk result (λ v. v.items ≡ masks_in_use numbers.now masks.now) }
@@ -115,8 +115,8 @@ fn are_all(masks: &[Mask], mask: Mask) -> bool
     true
 }
 
-/// Whether all entries are distinct and each has the mask of the whole set. Distinct names and
-/// numbers are 0, 1, 2 and so on.
+/// Whether the names `outer` and the class numbers `numbers` are 0, 1, 2 and so on, so that all
+/// entries are distinct, and each class number has the mask `set`.
 fn all_distinct(outer: &[u32], numbers: &[u32], masks: &[Mask], set: Mask) -> bool
     ensures exact { IsTrue result → length masks.now ≡ length numbers.now }
     ensures outer { IsTrue result → AreOwn outer.now }
@@ -148,7 +148,7 @@ impl<'a> Strips<'a> {
     ghost use Rattle.compaction.specs.Strips.{AreDistinct, HoldsStrips, low_variables};
     ghost use Rattle.subfunction_classes.specs.Table.{set_of, with_variable, classes_of};
 
-    /// The class table of a set from its parts. Only the count of the subfunctions is kept if all
+    /// The class table of `set` from its parts. Only the count of the subfunctions is kept if all
     /// are distinct and depend on the whole set.
     pub(crate) fn of_parts(
         alloc: Global,
@@ -174,8 +174,8 @@ impl<'a> Strips<'a> {
         }
     }
 
-    /// The class table of a set that has `count` subfunctions, all of them distinct and dependent
-    /// on the whole set.
+    /// The class table of `set`, of which only `count` is kept. Requires that the set has `count`
+    /// subfunctions, all distinct and dependent on the whole set.
     fn of_count(alloc: Global, problem: &'a Problem, set: Mask, count: u32) -> Strips<'a>
         requires { AreDistinct (classes_of problem.now set) count }
         ensures { result ≡ classes_of problem.now set }
@@ -191,8 +191,8 @@ impl<'a> Strips<'a> {
         }
     }
 
-    /// The class table of the empty set: the problem's first value has class number 0, the other
-    /// one 1.
+    /// The class table of the empty set: the value of the first function at point 0 has class
+    /// number 0, the other value 1.
     pub(crate) fn of_problem(alloc: Global, problem: &'a Problem) -> Result<Strips<'a>, AllocError>
         ensures { IfOk result (λ c. c ≡ classes_of problem.now 0) }
     {
@@ -211,13 +211,13 @@ impl<'a> Strips<'a> {
         low_variables(self.problem)
     }
 
-    /// For each assignment of the high variables outside the set, function by function, the name of
-    /// its strip. There are none if only a count is kept.
+    /// Function by function, for each assignment of the high variables outside the set, the name of
+    /// its strip. Empty if only a count is kept.
     pub(crate) fn names(&self) -> &[u32] {
         self.outer.as_slice()
     }
 
-    /// How many class numbers are stored: those of the strips, if not only a count is kept.
+    /// How many class numbers are stored: the entries of all strips, or 0 if only a count is kept.
     pub(crate) fn stored(&self) -> usize {
         self.numbers.len()
     }
@@ -254,8 +254,8 @@ impl<'a> Strips<'a> {
         }
     }
 
-    /// The class table of the set with the high variable x added. `known` may have the pairs of
-    /// names by x, numbered beforehand.
+    /// The class table of the set with the high variable `x` added. If `known` has numbered the
+    /// pairs of this table's strip names by `x`, they are read from there.
     pub(crate) fn add_high(
         &self,
         alloc: Global,

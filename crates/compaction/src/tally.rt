@@ -1,4 +1,4 @@
-//! A count of the widths that cells took.
+//! A count of widths that are supplied for cells.
 
 ghost use Rattle.std.specs.Prelude.{◌≡◌, ◌+◌, ◌*◌, ◌^◌, ◌<◌, ◌≤◌, length};
 ghost use Rattle.compaction.specs.Rows.{wanted_count};
@@ -6,7 +6,7 @@ ghost use Rattle.compaction.specs.Rows.{wanted_count};
 use order_model::Mask;
 use std::marker::Model;
 
-/// A count of the widths that cells took.
+/// A count of widths that are supplied for cells.
 #[derive(Drop)]
 pub struct Tally {
     count: u64,

@@ -18,7 +18,7 @@ pub(crate) struct AbovePair {
     pub below: u8,
 }
 
-/// The pairs (above, below) that a call is given.
+/// `given`, the pairs that a call is given, as pairs (above, below) of variables.
 fn numbers_of(alloc: Global, given: &[AbovePair]) -> Result<Vec<(VarIx, VarIx)>, AllocError>
     ensures { IfOk result (λ v. v.items ≡ pairs_given given.now) }
 {
@@ -30,7 +30,8 @@ fn numbers_of(alloc: Global, given: &[AbovePair]) -> Result<Vec<(VarIx, VarIx)>,
     Ok(pairs)
 }
 
-/// The pairs that a call is given. Refused if no order of n variables keeps them.
+/// The pairs that a call is given, which an order of `n` variables has to keep. Refused if no order
+/// keeps them, or if one has another variable.
 pub(crate) fn kept_pairs(alloc: Global, given: &[AbovePair], n: u8) -> Result<Pairs, Refusal>
     requires some { 1 ≤ n }
     requires few { n ≤ 16 }

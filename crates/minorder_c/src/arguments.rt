@@ -11,8 +11,8 @@ use order_model::{BadOrder, Order};
 use std::alloc::Global;
 use truth_table::Tables;
 
-/// The truth tables that a call is given: words, and the numbers of inputs and outputs. The words
-/// need not be truth tables.
+/// What a call is given as truth tables: words, and the numbers of inputs and outputs. The numbers
+/// may be out of range, and the words too few or too many.
 #[derive(Clone, Copy, Debug)]
 pub(crate) struct GivenTables<'a> {
     pub words: &'a [u64],
@@ -49,8 +49,8 @@ pub(crate) fn are_tables(given: &GivenTables) -> bool
         && given.words.len() == given.outputs as usize * words_per_table(given.inputs as u8)
 }
 
-/// Whether a call is given truth tables, and its room for variables (`places`) and for level counts
-/// (`counts`) is one for each input.
+/// Whether a call is given truth tables, and both `places`, its room for an order's variables, and
+/// `counts`, its room for level counts, are one for each input.
 pub(crate) fn has_call_shape(given: &GivenTables, places: usize, counts: usize) -> bool
     ensures { IsTrue result ↔ HasCallShape given.now places counts }
 {
@@ -73,8 +73,8 @@ pub(crate) fn tables_of(alloc: Global, given: &GivenTables) -> Result<Tables, Re
     }
 }
 
-/// The truth tables that a call is given. Refused if the call has none, or if the room for
-/// variables (`places`) or for level counts (`counts`) isn't one for each input.
+/// The truth tables that a call is given. Refused if the call has none, or if `places`, its room
+/// for an order's variables, or `counts`, its room for level counts, isn't one for each input.
 pub(crate) fn tables_for(
     alloc: Global,
     given: &GivenTables,
@@ -91,8 +91,8 @@ pub(crate) fn tables_for(
     tables_of(alloc, given)
 }
 
-/// The order that a call is given as a list of variables, top first. Refused if the list doesn't
-/// have each variable once.
+/// The order that a call is given as `variables`, top first. Refused if these are not each variable
+/// once.
 fn order_of(alloc: Global, variables: &[u8]) -> Result<Order, Refusal>
     requires some { 1 ≤ length variables.now }
     requires few { length variables.now ≤ 16 }
@@ -109,7 +109,7 @@ fn order_of(alloc: Global, variables: &[u8]) -> Result<Order, Refusal>
     }
 }
 
-/// Truth tables, and an order of their variables.
+/// The truth tables that a call is given, and an order of their variables.
 #[derive(Drop)]
 pub(crate) struct Arguments {
     pub(crate) tables: Tables,

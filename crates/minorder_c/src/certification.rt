@@ -70,8 +70,9 @@ fn certificate(alloc: Global, given: &GivenTables, above: &[AbovePair]) -> Resul
 
 /// Writes the certificate of the first order of the fewest nodes among those that keep the pairs
 /// `above` to `text`, as `minorder --cert` writes it, and its length to `size`. If `text` is too
-/// short only the length is written; a call that is refused otherwise writes nothing. Returns a
-/// status.
+/// short only the length is written; a call that is refused otherwise writes nothing. Returns 0 if
+/// the text is written, `SHORT_ROOM` if there is too little room, or the status of the refusal: 2,
+/// 4 or 8.
 #[unsafe(no_mangle)]
 pub extern "C" fn minorder_certify_with_pairs(
     alloc: Global,

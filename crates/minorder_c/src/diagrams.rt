@@ -16,8 +16,8 @@ use order_model::{Diagram, Node, Ref, VarIx};
 use std::alloc::{AllocError, Global};
 use truth_table::reduced_diagram;
 
-/// A node in C: its variable, and its children where that is 0 and where it is 1. 0 and 1 are the
-/// terminals, k + 2 is the node at place k.
+/// A node in C: its variable, and the numbers of its children where that variable is 0 (`low`) and
+/// where it is 1 (`high`). 0 and 1 are the terminals, k + 2 is the node at place k.
 #[repr(C)]
 #[derive(Clone, Copy, Debug)]
 pub(crate) struct DiagramNode {
@@ -26,14 +26,14 @@ pub(crate) struct DiagramNode {
     pub high: u32,
 }
 
-/// A diagram in C: its nodes, and the number of each function's root.
+/// A diagram in C: its nodes, level by level from below, and the number of each function's root.
 #[derive(Drop)]
 struct DiagramForC {
     nodes: Vec<DiagramNode>,
     roots: Vec<u32>,
 }
 
-/// The number in C of a ref: 0 and 1 for the terminals, k + 2 for the node at place k.
+/// The number in C of a node or terminal: 0 and 1 for the terminals, k + 2 for the node at place k.
 fn number_of(r: Ref) -> u32
     requires { IsBefore (2 ^ 20) r }
     ensures { ref_named result ≡ r }
@@ -45,7 +45,7 @@ fn number_of(r: Ref) -> u32
     }
 }
 
-/// The nodes of a diagram, in C.
+/// The nodes of a diagram, as nodes in C.
 fn nodes_of(alloc: Global, diagram: &Diagram) -> Result<Vec<DiagramNode>, AllocError>
     requires { length diagram.now.graph.nodes ≤ 2 ^ 20 }
     ensures { IfOk result (λ v. map node_for v.items ≡ diagram.now.graph.nodes) }
@@ -110,7 +110,8 @@ fn diagram_of(
 
 /// Writes the nodes of the reduced diagram under `order` to `nodes`, level by level from below,
 /// each function's root to `roots` and the number of nodes to `count`. If `nodes` is too short only
-/// the number is written; a call that is refused otherwise writes nothing. Returns a status.
+/// the number is written; a call that is refused otherwise writes nothing. Returns 0 if all is
+/// written, `SHORT_ROOM` if there is too little room, or the status of the refusal: 2, 4 or 5.
 #[unsafe(no_mangle)]
 pub extern "C" fn minorder_diagram_with_lengths(
     alloc: Global,

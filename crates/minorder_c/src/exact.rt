@@ -17,8 +17,8 @@ use small_search::{SmallSearch, Workspace, are_few, write_optimum};
 use std::alloc::{AllocError, Global};
 use truth_table::Tables;
 
-/// The first order of the fewest nodes among those that keep the pairs, from a search by layers.
-/// The size of a sifted order bounds the search.
+/// The first order of the fewest nodes among those that keep the pairs, with its level counts and
+/// its size, found by a search by layers. The size of a sifted order bounds the search.
 fn searched(alloc: Global, given: &GivenTables, pairs: Pairs) -> Result<SizedOrder, AllocError>
     requires tables { AreTables given.now }
     requires pairs { pairs.inputs ≡ given.now.inputs }
@@ -31,8 +31,8 @@ fn searched(alloc: Global, given: &GivenTables, pairs: Pairs) -> Result<SizedOrd
 }
 
 /// Writes the first order of the fewest nodes among those that keep the pairs to `order` and its
-/// level counts to `levels`, and returns its size. `workspace` is memory for small problems.
-/// Without memory nothing is written.
+/// level counts to `levels`, and returns its size. `workspace` is working memory for small
+/// problems. If memory is refused nothing is written.
 pub(crate) fn optimum(
     alloc: Global,
     given: &GivenTables,
@@ -117,7 +117,8 @@ fn exact_above(
 }
 
 /// Writes the first order of the fewest nodes to `order`, its level counts to `levels` and its size
-/// to `total`. A call that is refused writes nothing. Returns a status.
+/// to `total`. A call that is refused writes nothing. Returns 0, or the status of the refusal: 2 or
+/// 4.
 #[unsafe(no_mangle)]
 pub extern "C" fn minorder_exact_with_lengths(
     alloc: Global,
@@ -148,7 +149,8 @@ pub extern "C" fn minorder_exact_with_lengths(
 
 /// Writes the first order of the fewest nodes among those that keep the pairs `above` to `order`,
 /// its level counts to `levels` and its size to `total`. Pairs that no order keeps, or of other
-/// variables, are refused; a call that is refused writes nothing. Returns a status.
+/// variables, are refused; a call that is refused writes nothing. Returns 0, or the status of the
+/// refusal: 2, 4 or 8.
 #[unsafe(no_mangle)]
 pub extern "C" fn minorder_exact_above_with_lengths(
     alloc: Global,

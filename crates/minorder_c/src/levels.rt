@@ -33,7 +33,7 @@ fn level_counts_of(
 }
 
 /// Writes the level counts under `order` to `levels`, top first. A call that is refused writes
-/// nothing. Returns a status.
+/// nothing. Returns 0, or the status of the refusal: 2, 4 or 5.
 #[unsafe(no_mangle)]
 pub extern "C" fn minorder_levels_with_lengths(
     alloc: Global,

@@ -13,11 +13,14 @@ use order_model::packed::{block, words_per_table};
 use small_search::Workspace;
 use std::alloc::{AllocError, Global};
 
-/// The answers for many problems, one behind the other: orders, level counts and sizes.
+/// The answers for many problems, one problem behind the other.
 #[derive(Drop)]
 struct Answers {
+    /// The first order of the fewest nodes of each problem, top first.
     orders: Vec<u8>,
+    /// The level counts of each of these orders, top first.
     levels: Vec<u32>,
+    /// The size of each of these orders.
     totals: Vec<u32>,
 }
 
@@ -31,8 +34,9 @@ fn is_length(length: usize, many: usize, size: usize) -> bool
     }
 }
 
-/// Whether a call is given the truth tables of `many` problems, and its room for variables
-/// (`places`) and for level counts (`counts`) is one for each input of each problem.
+/// Whether a call is given the truth tables of `many` problems, and both `places`, its room for the
+/// variables of orders, and `counts`, its room for level counts, are one for each input of each
+/// problem.
 fn is_shape(given: &GivenTables, places: usize, counts: usize, many: usize) -> bool
     ensures { IsTrue result ↔ HasManyShape given.now places counts many }
 {
@@ -46,7 +50,8 @@ fn is_shape(given: &GivenTables, places: usize, counts: usize, many: usize) -> b
 }
 
 /// Appends the first order of the fewest nodes of one problem, its level counts and its size to
-/// `answers`. `workspace` is memory for small problems.
+/// `answers`. `workspace` is working memory for small problems. Requires that `given` has the truth
+/// tables of this one problem.
 fn put(
     alloc: Global,
     given: &GivenTables,
@@ -105,7 +110,7 @@ fn optima_of(alloc: Global, given: &GivenTables, many: usize) -> Result<Answers,
 /// Writes for each of many problems the first order of the fewest nodes to `orders`, its level
 /// counts to `levels` and its size to `totals`, which has a place for each problem. The truth
 /// tables stand one problem behind the other, and so do the answers. A call that is refused writes
-/// nothing. Returns a status.
+/// nothing. Returns 0, or the status of the refusal: 2 or 4.
 #[unsafe(no_mangle)]
 pub extern "C" fn minorder_exact_many_with_lengths(
     alloc: Global,

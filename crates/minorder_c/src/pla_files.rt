@@ -16,25 +16,27 @@ use pla_reader::{
 use std::alloc::{AllocError, Global};
 use truth_table::cover_words;
 
-/// The status of a text that is no PLA file.
+/// The status of a call whose text is no PLA file: `MINORDER_BAD_PLA` in C.
 const BAD_PLA: u32 = 9;
 
-/// The number in C of the fault of a text that is too long.
+/// The kind, in C, of the fault of a text that is too long. The faults of lines have the kinds 1 to
+/// 14.
 const TOO_LONG: u32 = 15;
 
-/// How many places there are for names of inputs, and for those of outputs.
+/// How many places a caller has for names of inputs, and how many for those of outputs.
 const NAME_PLACES: usize = 16;
 
-/// What is wrong with a text that is no PLA file: the number of its first faulty line, and the
-/// number in C of the fault.
+/// What is wrong with a text that is no PLA file, in C.
 #[repr(C)]
 #[derive(Clone, Copy, Debug)]
 pub(crate) struct PlaFault {
+    /// The number of the first faulty line, counted from 1; 0 if the text is empty or too long.
     pub line: usize,
+    /// The kind of the fault: 1 to 14 as `kind_of` gives it, or `TOO_LONG`.
     pub kind: u32,
 }
 
-/// Why a text isn't read: the fault by which it is no PLA file, or a lack of memory.
+/// Why a text isn't read: a fault by which it is no PLA file, or memory was refused.
 #[derive(Clone, Copy)]
 enum Unread {
     Fault(PlaFault),
@@ -52,18 +54,23 @@ impl From<AllocError> for Unread {
     }
 }
 
-/// What a PLA file states, in C: the numbers of inputs and outputs, where their names stand in the
-/// text, and the truth tables.
+/// What a PLA file states, in C.
 #[derive(Drop)]
 struct PlaForC {
+    /// The number of inputs.
     inputs: u32,
+    /// The number of outputs.
     outputs: u32,
+    /// Where in the text the names of the inputs stand, filled up to `NAME_PLACES` places.
     input_names: Vec<TextPlace>,
+    /// Where in the text the names of the outputs stand, filled up to `NAME_PLACES` places.
     output_names: Vec<TextPlace>,
+    /// The packed truth tables, one output behind the other.
     words: Vec<u64>,
 }
 
-/// The number in C of a line's fault.
+/// The kind, in C, of a line's fault: 1 to 14, in the order of the words of `minorder_fault_text`
+/// in include/minorder.h.
 fn kind_of(fault: LineFault) -> u32
     ensures { result ≡ fault_kind fault }
 {
@@ -107,8 +114,8 @@ fn cover_of(alloc: Global, text: &[u8]) -> Result<Cover, Unread>
     }
 }
 
-/// Where in a text the names of the inputs, or of the outputs, stand; `names` says which. The list
-/// is filled up to 16 places. `cover` is what the text states.
+/// Where in `text` the names of the inputs, or of the outputs, stand; `names` says which. The list
+/// is filled up to 16 places with empty ones. Requires that `cover` is what the text states.
 fn names_of(
     alloc: Global,
     text: &[u8],
@@ -154,8 +161,11 @@ fn pla_of(alloc: Global, text: &[u8]) -> Result<PlaForC, Unread>
 }
 
 /// Reads the text of a PLA file, and writes its numbers of inputs and outputs, where their names
-/// stand in the text, and the truth tables. If `tables` is too short for these, all else is
-/// written; of a text that is no PLA file only its first fault is written. Returns a status.
+/// stand in the text, and the truth tables. Returns 0 if all is written. If `tables` is too short,
+/// all but the truth tables is written, and `SHORT_ROOM` returned. Of a text that is no PLA file
+/// only the first fault is written, and `BAD_PLA` returned. A call that is refused otherwise writes
+/// nothing, and returns 2 unless there are 16 places for names of inputs and 16 for those of
+/// outputs, or 4 if memory is refused.
 #[unsafe(no_mangle)]
 pub extern "C" fn minorder_read_pla_with_lengths(
     alloc: Global,

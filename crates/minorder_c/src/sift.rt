@@ -26,8 +26,9 @@ fn levels_of(alloc: Global, sifted: &Sifted) -> Result<Vec<u32>, AllocError>
     counts[..sifted.order().len()].to_vec(alloc)
 }
 
-/// The order after one pass of sifting from `order`. Refused if `order` is no order of the inputs,
-/// or if `counts`, the caller's room for level counts, isn't one for each input.
+/// The order after one pass of sifting from `order`, with its level counts and its size. Refused if
+/// `order` is no order of the inputs, or if `counts`, the caller's room for level counts, isn't one
+/// for each input.
 fn sifted_order(
     alloc: Global,
     given: &GivenTables,
@@ -54,7 +55,8 @@ fn sifted_order(
 }
 
 /// Replaces `order` by the order after one pass of sifting from it, and writes its level counts to
-/// `levels` and its size to `total`. A call that is refused writes nothing. Returns a status.
+/// `levels` and its size to `total`. A call that is refused writes nothing. Returns 0, or the
+/// status of the refusal: 2, 4 or 5.
 #[unsafe(no_mangle)]
 pub extern "C" fn minorder_sift_with_lengths(
     alloc: Global,

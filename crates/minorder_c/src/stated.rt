@@ -1,4 +1,4 @@
-//! The checker of certificates, with what they state.
+//! The checker of certificates, for callers that also want a certificate's total and pairs.
 
 ghost use Rattle.std.specs.Prelude.{◌≡◌, ◌≢◌};
 ghost use Rattle.minorder_c.specs.Answers.{AreTables, given};
@@ -12,7 +12,7 @@ use crate::verdicts::{ReturnedVerdict, judgement_on, verdict_for_c};
 use order_model::VarIx;
 use std::alloc::Global;
 
-/// Writes the first of the pairs to `place`, as many as it has room for.
+/// Writes the first of `pairs` to `place`, as many as there is room for.
 fn put_pairs(place: &mut [AbovePair], pairs: &[(VarIx, VarIx)])
     ensures { AreFront pairs.now place.old place.new }
 {
@@ -22,9 +22,10 @@ fn put_pairs(place: &mut [AbovePair], pairs: &[(VarIx, VarIx)])
     }
 }
 
-/// Writes the verdict on a certificate for some functions to `verdict`, the certificate's total to
-/// `total`, how many pairs it has to `count`, and as many of these as fit to `pairs`. A call that
-/// is refused writes nothing. Returns a status.
+/// Writes the verdict on `certificate`, a text, for the functions of `tables` to `verdict`, the
+/// certificate's total to `total`, how many pairs it has to `count`, and as many of these as fit to
+/// `pairs`. A call that is refused writes nothing. Returns 0 whatever the verdict, or the status of
+/// the refusal: 2, 3 or 4.
 #[unsafe(no_mangle)]
 pub extern "C" fn minorder_check_total_with_pairs(
     alloc: Global,

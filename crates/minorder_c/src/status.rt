@@ -15,14 +15,14 @@ pub(crate) enum Refusal {
     Certificate,
     /// An allocation was refused.
     OutOfMemory,
-    /// A list is no order.
+    /// A list that is to be an order doesn't have each variable once.
     Order,
-    /// Pairs that no order can keep.
+    /// No order keeps the pairs, or one has another variable.
     Pairs,
 }
 
 impl Refusal {
-    /// The number that a refused call returns.
+    /// The number that a refused call returns, as include/minorder.h names it.
     pub fn status(self) -> u32
         ensures { result ≡ status_of self }
     {

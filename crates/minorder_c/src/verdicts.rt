@@ -13,7 +13,8 @@ use certificate::{CertFault, Certificate};
 use std::alloc::Global;
 
 /// A verdict in C: `reason` is 0 if the certificate is good, else the number of the first reason
-/// why not. That of an edge has the mask of the edge's set and its variable; else both are 0.
+/// why not, 1 to 8 in the order of `Reason`. For an edge (8) `mask` is the set from which it leads
+/// and `variable` the one that it adds; else both are 0.
 #[repr(C)]
 #[derive(Clone, Copy, Debug)]
 pub(crate) struct ReturnedVerdict {
@@ -22,7 +23,7 @@ pub(crate) struct ReturnedVerdict {
     pub variable: u32,
 }
 
-/// The verdict in C with this reason, which is not that of an edge.
+/// The verdict in C for the reason of number `reason`, which is not that of an edge.
 fn plain(reason: u32) -> ReturnedVerdict
     ensures { result ≡ record { reason = reason; mask = 0; variable = 0 } }
 {
@@ -54,7 +55,7 @@ pub(crate) fn verdict_for_c(verdict: Verdict) -> ReturnedVerdict
     }
 }
 
-/// The certificate that a text is. Refused if it is none.
+/// The certificate that `text` is. Refused if the text is none.
 fn certificate_of(alloc: Global, text: &[u8]) -> Result<Certificate, Refusal>
     ensures spelled { IfOk result (λ cert. text.now ≡ spelling cert) }
     ensures refused { IfErr result (RefusesText (Unit {0}) text.now) }
@@ -74,7 +75,7 @@ pub(crate) struct Judgement {
     pub(crate) verdict: Verdict,
 }
 
-/// The certificate that a text is, and the verdict on it for the truth tables that a call is given.
+/// The certificate that `text` is, and the verdict on it for the truth tables that a call is given.
 /// Refused if the call has no truth tables, or if the text is no certificate.
 pub(crate) fn judgement_on(
     alloc: Global,
@@ -96,8 +97,9 @@ pub(crate) fn judgement_on(
     }
 }
 
-/// Writes the verdict on a certificate for some functions to `verdict`. A call that is refused
-/// writes nothing. Returns a status.
+/// Writes the verdict on `certificate`, a text, for the functions of `tables` to `verdict`. A call
+/// that is refused writes nothing. Returns 0 whatever the verdict, or the status of the refusal: 2,
+/// 3 or 4.
 #[unsafe(no_mangle)]
 pub extern "C" fn minorder_check(
     alloc: Global,

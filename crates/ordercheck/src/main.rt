@@ -10,8 +10,9 @@ use std::process::ExitCode;
 use std::rt::Files;
 use std::thread::Threads;
 
-/// The exit status of the program with the words that it was given; it is an error if these can't
-/// be read.
+/// Runs ordercheck with the words of the command line, and returns its exit status. Err has the
+/// exit status if the program can't run: 2 if a word of the command line isn't UTF-8, 4 if memory
+/// is refused.
 fn ordercheck_status<
     R: Env + Files + AllocGlobal + Threads + Sync,
     W: CountedWrite,

@@ -11,7 +11,7 @@ use itoa::Buffer;
 use order_model::PairsFault;
 use pla_reader::LineFault as FileFault;
 
-/// The programs. Each message begins with the name of its program.
+/// The program that writes a message. Each message begins with its name.
 #[derive(Clone, Copy, Debug, PartialEq, Eq)]
 pub enum Program {
     Minorder,

@@ -1,4 +1,4 @@
-//! What programs do with their words and their messages.
+//! The words of a program's command line, and the messages that it writes.
 
 ghost use Rattle.outcomes.specs.Messages.{Receives, fault_line as line_of, writer};
 ghost use Rattle.outcomes.specs.Programs.{UsageEnds, streams};
@@ -12,14 +12,14 @@ use std::env;
 use std::env::Env;
 use std::io::ErrorKind;
 
-/// The exit status if a word after the program's name is no text.
+/// The exit status if a word after the program's name isn't UTF-8.
 const WORDS_STATUS: u8 = 2;
 
 /// The exit status of a program that is out of memory.
 const MEMORY_STATUS: u8 = 4;
 
-/// The words after a program's name, or its exit status if they can't be had: 2 if one is no text,
-/// 4 out of memory.
+/// The words after a program's name. Err has the exit status if they can't be had: 2 if one isn't
+/// UTF-8, 4 if memory is refused.
 pub fn words_of_program<R: Env + AllocGlobal>(rt: &R) -> Result<Vec<String>, u8> {
     match env::args(rt) {
         Ok(words) => match words.skip(1).collect::<Vec<String>>(rt.alloc()) {
@@ -31,7 +31,7 @@ pub fn words_of_program<R: Env + AllocGlobal>(rt: &R) -> Result<Vec<String>, u8>
     }
 }
 
-/// The words as string slices, or the exit status 4 if memory runs out.
+/// `words` as string slices. Err has the exit status 4, if memory is refused.
 pub fn texts_of<'a>(alloc: Global, words: &'a [String]) -> Result<Vec<&'a str>, u8> {
     let texts = words.iter().map(|word: &String| word.as_str());
     match texts.collect::<Vec<&str>>(alloc) {
@@ -50,8 +50,8 @@ pub fn write_fault<E: CountedWrite>(err: &mut E, program: Program, fault: Fault)
     let _ = write_whole(err, line.as_str().as_bytes());
 }
 
-/// Writes help to `out`, or to `err` why the words after the program's name are refused. A failure
-/// of a writer has no effect. Returns the exit status.
+/// Writes the text that `usage` has: help to `out`, or to `err` why the words after the program's
+/// name are refused. A failure of a writer has no effect. Returns the exit status.
 pub fn write_usage<W: CountedWrite, E: CountedWrite>(
     alloc: Global,
     program: Program,

@@ -11,10 +11,11 @@ use definitions::Mask;
 use std::alloc::{AllocError, Global};
 use subfunction_classes::join_mask;
 
-/// The most numbers that are given: a cell of 16 bits is 0 or one more than a number.
+/// The most numbers that cells can hold: a cell of 16 bits is 0 or one more than a number.
 const MOST_NUMBERS: usize = 65_535;
 
-/// If more than one in so many pairs was new so far, a branch on it would often be mispredicted.
+/// If more than one in this many pairs was new so far, a branch on whether a pair is new would
+/// often be mispredicted.
 const MANY_NEW: usize = 4;
 
 /// Writes the numbers of a block's pairs to `out` and to the pairs' cells, and the masks of new
@@ -59,7 +60,7 @@ fn number_block<const EVENLY: bool>(
     count
 }
 
-// Its loops need all registers, so it isn't inlined.
+// The loops of `number_blocks` need all registers, so it isn't inlined.
 /// Writes the number of each pair to `out`, and the mask of each number to `joined`. Returns how
 /// many numbers there are, or None if they may be too many for cells of 16 bits.
 #[inline(never)]
@@ -91,9 +92,9 @@ fn number_blocks(
     Some(count)
 }
 
-/// The number of each pair by first occurrence, and the mask of each number. `cells` has a 0 for
-/// each two classes; a pair's cell becomes one more than its number. None if there may be more
-/// numbers than a cell can have.
+/// Numbers the pairs by first occurrence: the number of each pair, and the mask of each number.
+/// `cells` has a cell for each pair of classes; requires that all are 0 before. A pair's cell
+/// becomes one more than its number. None if there may be more numbers than a cell can hold.
 pub(crate) fn number_pairs_by_cells(
     alloc: Global,
     pairs: &MaskedPairs<'_>,

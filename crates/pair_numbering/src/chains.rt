@@ -11,7 +11,7 @@ use crate::numbers::NumberedPairs;
 use std::alloc::{AllocError, Global};
 
 /// Pairs of entries, in a chain for each lower class: `heads` has the first pair of each class, and
-/// `next` the pair after each. After the last pair of a chain comes the number of pairs.
+/// `next` the pair after each pair. The number of pairs stands for the end of a chain.
 #[derive(Drop)]
 struct Chains<'e, 'r> {
     entries: &'e EntryPairs<'e>,
@@ -40,9 +40,9 @@ impl<'e, 'r> Chains<'e, 'r> {
     }
 }
 
-/// Chains the pairs by their lower class: writes the first pair of each class to `heads`, and the
-/// next pair with the lower class of each pair to `next`. After the last pair of a chain comes the
-/// number of pairs.
+/// Chains the pairs by their lower class. Writes the first pair of each class to `heads`, and to
+/// `next`, for each pair, the next one with the same lower class. The number of pairs stands for
+/// the end of a chain. Requires that all entries of `heads` are the number of pairs before.
 fn chain(entries: &EntryPairs<'_>, heads: &mut [u32], next: &mut [u32])
     requires paired { IsPaired entries.now.numbers entries.now.rank }
     requires classes { AllBelow entries.now.numbers (length heads.old) }
@@ -61,8 +61,8 @@ fn chain(entries: &EntryPairs<'_>, heads: &mut [u32], next: &mut [u32])
     }
 }
 
-/// The number of each pair by first occurrence, and the pair of each number. `first[j]` is the
-/// first pair that is equal to pair j.
+/// Numbers the pairs by first occurrence: the number of each pair, and the pair of each number.
+/// `first[j]` is the first pair that is equal to pair j.
 pub(crate) fn number_firsts(
     alloc: Global,
     entries: &EntryPairs<'_>,
@@ -92,9 +92,9 @@ pub(crate) fn number_firsts(
     })
 }
 
-/// Writes to `first` the first equal pair of each pair whose lower class is `lower`. In this chain
-/// `marks[u]` is the first pair with the upper class u, if `stamps[u]` is `lower + 1`; a smaller
-/// stamp is left from another chain.
+/// Writes to `first`, for each pair whose lower class is `lower`, the first pair that is equal to
+/// it. In this chain `marks[u]` is the first pair with the upper class u if `stamps[u]` is `lower +
+/// 1`; a smaller stamp is left from another chain.
 #[inline(always)]
 fn walk_chain(
     chains: &Chains<'_, '_>,
@@ -128,8 +128,8 @@ fn walk_chain(
     }
 }
 
-/// Writes to `first`, for each pair, the first pair that is equal to it, chain by chain. `stamps`,
-/// all 0 before, and `marks` are working memory.
+/// Writes to `first`, for each pair, the first pair that is equal to it, chain by chain. `stamps`
+/// and `marks` are working memory; requires that `stamps` is all 0 before.
 #[inline(always)]
 fn first_occurrences(
     chains: &Chains<'_, '_>,
@@ -147,8 +147,9 @@ fn first_occurrences(
     }
 }
 
-/// Writes to `first`, for each pair, the first pair that is equal to it. The other rows are working
-/// memory, which may hold anything before. All classes are below the length of `heads`.
+/// Writes to `first`, for each pair, the first pair that is equal to it. `heads`, `next`, `stamps`
+/// and `marks` are working memory, which may hold anything before. Requires that all classes are
+/// below the length of `heads`.
 pub fn first_pairs(
     entries: &EntryPairs<'_>,
     heads: &mut [u32],
@@ -172,7 +173,7 @@ pub fn first_pairs(
     first_occurrences(&chains, stamps, marks, first);
 }
 
-/// For each pair the first pair that is equal to it. All classes are below `classes`.
+/// For each pair the first pair that is equal to it. Requires that all classes are below `classes`.
 pub(crate) fn find_first_pairs(
     alloc: Global,
     entries: &EntryPairs<'_>,

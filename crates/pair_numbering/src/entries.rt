@@ -8,12 +8,14 @@ ghost use Rattle.pair_numbering.specs.Strips.{strips_at};
 
 use std::marker::Model;
 
-/// The pairs of a class table's entries that differ in one variable alone. The table stands in a
-/// row, or in strips: then `names` has for each block of pairs the two strips where the variable is
-/// 0 and where it is 1, by number.
+/// The pairs of a class table's entries that differ in one variable alone. The table's entries
+/// stand in a row, or in strips, some of which may be equal and are stored once.
 #[derive(Drop)]
 pub struct EntryPairs<'a> {
+    /// The class numbers of the entries, or those in the stored strips, one strip after the other.
     numbers: &'a [u32],
+    /// With strips, the numbers of two strips for each block of pairs: the strip where the variable
+    /// is 0, and the one where it is 1. None without strips.
     names: Option<&'a [(u32, u32)]>,
     /// A block has 2^rank pairs.
     rank: u32,
@@ -41,7 +43,7 @@ pub(crate) struct BlockHalves<'a> {
 }
 
 /// The numbers of the two strips of a block of pairs: where the variable is 0, and where it is 1.
-/// Without `names` they stand side by side.
+/// If `names` is None, they stand side by side.
 #[inline(always)]
 fn strips_of(names: Option<&[(u32, u32)]>, block: usize) -> (usize, usize)
     requires named { IfSome names (λ r. block < length r.now) }
@@ -72,8 +74,8 @@ fn strip_at(numbers: &[u32], rank: u32, name: usize) -> &[u32]
 }
 
 impl<'a> EntryPairs<'a> {
-    /// The pairs of a table by a variable above `rank` of those outside the set: entries 2^rank
-    /// apart are a pair.
+    /// The pairs of entries of the table `numbers` by one variable: entries 2^rank apart are a
+    /// pair. `rank` is how many variables outside the table's set are below that one.
     #[inline(always)]
     pub fn of_table(numbers: &'a [u32], rank: u32) -> EntryPairs<'a>
         requires { IsPaired numbers.now rank }
@@ -87,8 +89,8 @@ impl<'a> EntryPairs<'a> {
         }
     }
 
-    /// The pairs of the entries of two strips each: `names` has the numbers of the two, and
-    /// `numbers` the strips, of 2^bits entries each.
+    /// The pairs of entries of strips that stand in `numbers`, 2^bits entries each. `names` has the
+    /// numbers of two strips for each block of pairs: where the variable is 0, and where it is 1.
     #[inline(always)]
     pub(crate) fn of_strips(
         names: &'a [(u32, u32)],
@@ -130,7 +132,7 @@ impl<'a> EntryPairs<'a> {
         }
     }
 
-    /// The entries of a block of 2^rank pairs, by its number.
+    /// The entries of the 2^rank pairs of block number `block`.
     #[inline(always)]
     pub(crate) fn block(&self, block: usize) -> BlockHalves<'a>
         requires { block < length self.now.numbers / 2 / 2 ^ self.now.rank }
@@ -148,7 +150,7 @@ impl<'a> EntryPairs<'a> {
         }
     }
 
-    /// Pair j: the entry where the variable is 0, and the one where it is 1.
+    /// Pair `j`: the entry where the variable is 0, and the entry where it is 1.
     #[inline(always)]
     pub fn pair(&self, j: usize) -> (u32, u32)
         requires { j < length self.now.numbers / 2 }

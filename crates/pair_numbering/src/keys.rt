@@ -1,6 +1,6 @@
-//! Numbers of pairs that are equal for equal pairs alone, in any order. The joined number of a
-//! pair, its low entry and a base times its high one, costs less than a number by first occurrence.
-//! It is taken as long as there are few.
+//! Numbers of pairs, equal for equal pairs and no others, in any order. The joined number of a
+//! pair, low + base * high, costs less than a number by first occurrence. Pairs get joined numbers
+//! if there are few of these.
 
 ghost use Rattle.std.specs.Prelude.{◌≡◌, ℕ, ◌+◌, ◌*◌, ◌/◌, ◌^◌, ◌<◌, ◌≤◌, map, length, IfOk, IsTrue};
 ghost use Rattle.std.specs.List.{range_with_len};
@@ -15,11 +15,13 @@ use definitions::{Mask, VarIx};
 use std::alloc::{AllocError, Global};
 use subfunction_classes::join_mask;
 
-/// Pairs of more classes than these are numbered by first occurrence.
+/// The most classes whose pairs get joined numbers. Pairs of more classes are numbered by first
+/// occurrence.
 const MOST_JOINED: usize = 16;
 
-/// A number for each pair, equal for equal pairs alone, and the mask of each number. If `all_used`
-/// is true, each mask is that of a number that occurs.
+/// A number for each pair, equal for equal pairs and no others, and the mask of each number: the
+/// variables that the functions of its pair depend on. If `all_used` is true, each entry of `masks`
+/// is that of a number that occurs.
 #[derive(Drop)]
 pub struct PairKeys {
     pub numbers: Vec<u32>,
@@ -27,8 +29,8 @@ pub struct PairKeys {
     pub all_used: bool,
 }
 
-/// Writes the joined number of each pair, low + base * high, to `joined`, block by block. All
-/// entries are below `base`.
+/// Writes the joined number of each pair, low + base * high, to `joined`, block by block. A block
+/// has 2^rank pairs. Requires that all entries are below `base`.
 #[inline(always)]
 fn join_blocks(entries: &EntryPairs<'_>, rank: u32, base: u32, joined: &mut [u32])
     requires rank { rank ≡ entries.now.rank }
@@ -47,8 +49,8 @@ fn join_blocks(entries: &EntryPairs<'_>, rank: u32, base: u32, joined: &mut [u32
     }
 }
 
-/// The joined number of each pair, low + base * high. All entries are below `base`. The small
-/// ranks, which are frequent, have a loop each.
+/// The joined number of each pair, low + base * high. Requires that all entries are below `base`.
+/// The small ranks, which are frequent, have a loop each.
 fn join_keys(alloc: Global, entries: &EntryPairs<'_>, base: u32) -> Result<Vec<u32>, AllocError>
     requires below { AllBelow entries.now.numbers base }
     requires base { base ≤ 256 }
@@ -66,8 +68,8 @@ fn join_keys(alloc: Global, entries: &EntryPairs<'_>, base: u32) -> Result<Vec<u
     Ok(joined)
 }
 
-/// The mask of each joined number low + base * high, where base is the number of `masks`. These are
-/// the masks of the classes, whose pairs differ in x.
+/// The mask of each joined number low + base * high, by rising number. `masks` has the mask of each
+/// class, and base is how many these are. The entries of a pair differ in the variable `x`.
 fn join_key_masks(alloc: Global, masks: &[Mask], x: VarIx) -> Result<Vec<Mask>, AllocError>
     requires variable { x < 16 }
     requires few { length masks.now ≤ 256 }
@@ -85,8 +87,9 @@ fn join_key_masks(alloc: Global, masks: &[Mask], x: VarIx) -> Result<Vec<Mask>, 
     Ok(joined)
 }
 
-/// A number for each pair, equal for equal pairs alone, and the mask of each number. They are
-/// joined numbers if these are few, and no more than the entries, else numbers by first occurrence.
+/// A number for each pair, equal for equal pairs and no others, and the mask of each number. Pairs
+/// get joined numbers if these are few, and no more than the entries, else numbers by first
+/// occurrence.
 pub fn label_pairs(alloc: Global, pairs: &MaskedPairs<'_>) -> Result<PairKeys, AllocError>
     ensures tells { IfOk result
         (λ v. TellsPairs pairs.now.masks.now pairs.now.x

@@ -9,17 +9,17 @@ ghost use Rattle.pair_numbering.specs.LowerClasses.{AreCounted, AreLone};
 use crate::entries::EntryPairs;
 use std::alloc::{AllocError, Global};
 
-/// Pairs of a table's entries, and how many of them have each class as their lower class: 0, 1, or
-/// 2 for two or more. All counts are 0 if the pairs weren't counted.
+/// Pairs of a table's entries, and how many of them have each class as their lower class.
 #[derive(Drop)]
 pub(crate) struct CountedPairs<'e> {
     pub(crate) entries: &'e EntryPairs<'e>,
+    /// At each class 0, 1, or 2 for two or more pairs. All are 0 if the pairs weren't counted.
     pub(crate) counts: &'e [u8],
     ghost classes: { AllBelow entries.now.numbers (length counts.now) },
     ghost lone: { AreLone (places.pairs entries.now.numbers (2 ^ entries.now.rank)) counts.now },
 }
 
-/// Counts the pairs of a block at their lower classes in `counts`: 0, 1, or 2 for two or more.
+/// Adds the pairs of a block to `counts`, each at its lower class: 0, 1, or 2 for two or more.
 #[inline(always)]
 fn count_block(entries: &EntryPairs<'_>, block: usize, counts: &mut [u8])
     requires few { length entries.now.numbers ≤ 2 ^ 20 }
@@ -38,8 +38,8 @@ fn count_block(entries: &EntryPairs<'_>, block: usize, counts: &mut [u8])
 }
 
 /// For each of the `classes` classes how many pairs have it as their lower class: 0, 1, or 2 for
-/// two or more. If there are no more classes than pairs, few have only one pair, so they aren't
-/// counted, and all counts are 0.
+/// two or more. If there are no more classes than pairs, few classes are the lower class of one
+/// pair alone: then nothing is counted, and all counts are 0.
 pub(crate) fn count_lowers(
     alloc: Global,
     entries: &EntryPairs<'_>,

@@ -1,4 +1,4 @@
-//! The masks of classes: the variables that a class's functions depend on.
+//! The masks of classes and of pairs: the variables that their functions depend on.
 
 ghost use Rattle.std.specs.Prelude.{◌≡◌, ℕ, ◌*◌, ◌^◌, ◌<◌, ◌≤◌, map, length, IfOk};
 ghost use Rattle.subfunction_classes.specs.Dependence.{joined_mask};
@@ -25,8 +25,9 @@ pub struct MaskedPairs<'e> {
 }
 
 impl<'e> MaskedPairs<'e> {
-    /// The pairs of a table by the variable x, which is above `rank` of the variables outside the
-    /// set: entries 2^rank apart are a pair. `masks` has the mask of each class.
+    /// The pairs of entries of the table `numbers` by the variable `x`: entries 2^rank apart are a
+    /// pair. `rank` is how many variables outside the table's set are below `x`, and `masks` has
+    /// the mask of each class.
     #[inline(always)]
     pub fn of_table(numbers: &'e [u32], rank: u32, x: VarIx, masks: &'e [Mask]) -> MaskedPairs<'e>
         requires table { IsPairTable numbers.now rank (length masks.now) }
@@ -44,9 +45,9 @@ impl<'e> MaskedPairs<'e> {
         }
     }
 
-    /// The pairs of the entries of two strips each, which differ in x: `names` has the numbers of
-    /// the two, and `numbers` the strips, of 2^bits entries each. `masks` has the mask of each
-    /// class.
+    /// The pairs of entries of strips by the variable `x`. `numbers` has the strips, 2^bits entries
+    /// each, `names` the numbers of two strips for each block of pairs, where `x` is 0 and where it
+    /// is 1, and `masks` the mask of each class.
     #[inline(always)]
     pub fn of_strips(
         names: &'e [(u32, u32)],
@@ -82,8 +83,8 @@ impl<'e> MaskedPairs<'e> {
     }
 }
 
-/// For each pair of classes the mask of the function that is the first where x is 0 and the second
-/// where x is 1. `masks` has those of the classes.
+/// For each pair of classes in `pairs` the mask of the function that is the first class where `x`
+/// is 0, and the second where `x` is 1. `masks` has the mask of each class.
 pub fn join_masks(
     alloc: Global,
     pairs: &[(u32, u32)],

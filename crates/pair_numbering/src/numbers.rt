@@ -1,4 +1,5 @@
-//! Numbers of pairs by first occurrence, and their masks, in the fastest of several ways.
+//! Numbers of pairs by first occurrence, and their masks: by cells, slots or chains, whichever is
+//! fastest.
 
 ghost use Rattle.std.specs.Prelude.{◌≡◌, ℕ, ◌*◌, ◌^◌, ◌<◌, ◌≤◌, length, IfOk};
 ghost use Rattle.subfunction_classes.specs.PairTables.{IsPairTable};
@@ -13,7 +14,7 @@ use crate::slots::number_pairs_by_slots;
 use definitions::Mask;
 use std::alloc::{AllocError, Global};
 
-/// Pairs are numbered by cells if there are no more cells than this for each pair.
+/// The most cells for each pair with which pairs are numbered by cells.
 const MOST_CELLS_PER_PAIR: usize = 16;
 
 /// The number of each pair, and the mask of each number: the variables that its functions depend
@@ -31,8 +32,9 @@ pub struct NumberedPairs {
     pub pairs: Vec<(u32, u32)>,
 }
 
-/// The number of each pair by first occurrence, and the pair of each number: by slots, or by chains
-/// if slots are crowded. All classes are below `classes`.
+/// Numbers the pairs by first occurrence: the number of each pair, and the pair of each number. It
+/// does so by slots, or by chains if slots are crowded. Requires that all classes are below
+/// `classes`.
 pub fn number_entries(
     alloc: Global,
     entries: &EntryPairs<'_>,
@@ -51,8 +53,8 @@ pub fn number_entries(
     number_firsts(alloc, entries, &first)
 }
 
-/// The number of each pair by first occurrence, and the mask of each number: by a cell for each
-/// pair of classes if these are few, else by slots or chains.
+/// Numbers the pairs by first occurrence: the number of each pair, and the mask of each number. It
+/// does so by a cell for each pair of classes if these are few, else by slots or chains.
 pub fn number_with_masks(
     alloc: Global,
     pairs: &MaskedPairs<'_>,

@@ -11,14 +11,14 @@ use crate::lower_classes::{CountedPairs, count_lowers};
 use crate::numbers::NumberedPairs;
 use std::alloc::{AllocError, Global};
 
-/// How many slots are tried for a pair.
+/// The most slots that are tried for a pair.
 const TRIES: usize = 64;
 
 /// How many slots there are for each pair.
 const SLOTS_PER_PAIR: usize = 4;
 
-/// An odd number whose multiples spread over the words of 64 bits.
-const SPREAD: u64 = 11_400_714_819_323_198_485;
+/// The factor of Fibonacci hashing: 2^64 divided by the golden ratio, rounded down.
+const SPREAD: u64 = 0x9E37_79B9_7F4A_7C15;
 
 /// The slot at which the search for a pair begins: a hash of the pair, below `homes`.
 #[inline(always)]
@@ -33,9 +33,9 @@ fn home(homes: usize, pair: (u32, u32)) -> usize
     ((high * homes as u64) >> 32) as usize
 }
 
-/// The first of the `TRIES` slots from `home` on that has the pair or is free; nothing if there is
-/// none. `keys` has the pair of each of the `count` numbers, and after these the pair that is
-/// searched for.
+/// The first of the `TRIES` slots from `home` on that has `pair` or is free; None if there is none.
+/// `keys` has the pair of each of the `count` numbers, and next to them `pair` itself, which is
+/// what a free slot is taken to have.
 #[inline(always)]
 fn find_slot(
     slots: &[u16],
@@ -125,9 +125,10 @@ fn number_blocks(
 /// The most pairs that are numbered by slots of 16 bits.
 const MOST_PAIRS: usize = 1 << 15;
 
-/// The number of each pair by first occurrence, and the pair of each number. A pair's slot is the
-/// first free one from its home on. None if there are more pairs than slots of 16 bits can name, or
-/// too many of them have homes close together. All classes are below `classes`.
+/// Numbers the pairs by first occurrence: the number of each pair, and the pair of each number. A
+/// pair's slot is the first free one from its home on. None if there are more pairs than slots of
+/// 16 bits can name, or too many of them have homes close together. Requires that all classes are
+/// below `classes`.
 pub(crate) fn number_pairs_by_slots(
     alloc: Global,
     entries: &EntryPairs<'_>,

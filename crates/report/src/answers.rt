@@ -19,7 +19,8 @@ use std::alloc::{AllocError, Global};
 use std::thread::Threads;
 use truth_table::Tables;
 
-/// The pairs, of n variables, that an order has to keep: those that the plan lists, or none.
+/// The pairs, of `n` variables, that an order has to keep: those that the plan lists, or none if it
+/// has no list. A fault if the list is refused.
 pub(crate) fn pairs_of<'a>(plan: &RunPlan<'a>, n: u8) -> Result<Pairs, PairsFault>
     requires some { 1 ≤ n }
     requires few { n ≤ 16 }
@@ -52,7 +53,7 @@ fn report_of(alloc: Global, instance: &SearchInput<'_>, found: &Found) -> Result
     Ok(text)
 }
 
-/// The text of the certificate of the best order; nothing if no cells were listed for one.
+/// The text of the certificate of the best order; None if `best` has no cells for one.
 fn certificate_of(
     alloc: Global,
     problem: &Problem,

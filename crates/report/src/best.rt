@@ -9,7 +9,8 @@ use sifting::Sifted;
 use std::alloc::{AllocError, Global};
 use std::thread::Threads;
 
-/// The first order of the fewest nodes, and the cells that its certificate lists if one is written.
+/// The first order of the fewest nodes, and the cells that its certificate lists. `cells` is None
+/// if no certificate is written.
 #[derive(Drop)]
 pub(crate) struct Best {
     pub optimum: SizedOrder,
@@ -17,7 +18,7 @@ pub(crate) struct Best {
 }
 
 impl Best {
-    /// The order of a solution, with the cells that its certificate lists.
+    /// The order of `solution`, with the cells that its certificate lists.
     fn of(solution: Solution) -> Best
         ensures optimum { result.optimum ≡ solution.optimum }
         ensures cells { result.cells ≡ Some solution.cells }
@@ -29,9 +30,9 @@ impl Best {
     }
 }
 
-/// The first order of the fewest nodes among those that keep the pairs of `bound`, a sifted order,
-/// and if `certify` is true the cells that its certificate lists. Without them fewer sets are
-/// searched.
+/// The first order of the fewest nodes among those that keep the pairs of `bound`, a sifted order
+/// whose size bounds the search. If `certify` is true it comes with the cells that its certificate
+/// lists; without them fewer sets are searched.
 pub(crate) fn best_order<R: Threads + Sync>(
     rt: &R,
     alloc: Global,
@@ -55,7 +56,8 @@ pub(crate) fn best_order<R: Threads + Sync>(
 }
 
 /// The first order of the fewest nodes among those that keep the pairs, and if `certify` is true
-/// the cells that its certificate lists. It is for problems whose truth tables are small.
+/// the cells that its certificate lists. The calling thread searches alone: this is meant for small
+/// truth tables.
 pub(crate) fn small_best(
     alloc: Global,
     problem: &Problem,

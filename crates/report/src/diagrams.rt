@@ -71,8 +71,8 @@ pub(crate) fn starting_diagram<R: Threads + Sync>(
     Ok(diagram)
 }
 
-/// The level counts under the file order. `starting` is the diagram under the starting order: it
-/// has them if that is the file order, else another diagram is built.
+/// The level counts under the file order. They are read off `starting`, the diagram under the
+/// starting order, if this is the file order; else another diagram is built.
 pub(crate) fn file_order_levels_of<R: Threads + Sync>(
     rt: &R,
     alloc: Global,

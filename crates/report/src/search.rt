@@ -19,17 +19,19 @@ use std::alloc::{AllocError, Global};
 use std::thread;
 use std::thread::Threads;
 
-/// What sifting found: the order after one pass with its size, and in `bound` the order whose size
-/// bounds the search.
+/// What sifting found.
 #[derive(Drop)]
 pub(crate) struct Sifting {
+    /// The order after one pass.
     pub(crate) sifted: Order,
+    /// The number of nodes under the order after one pass.
     pub(crate) size: u32,
+    /// The order whose size bounds the search.
     pub(crate) bound: Sifted,
 }
 
-/// What sifting finds by the workers from the diagram of `manager`: the order after one pass, and
-/// from there the order whose size bounds the search.
+/// Sifts the diagram of `manager` by the threads of `workers` workers: finds the order after one
+/// pass, and from there the order whose size bounds the search.
 fn sift<R: Threads + Sync>(
     rt: &R,
     alloc: Global,
@@ -64,8 +66,8 @@ fn manager_of(
     Ok(manager)
 }
 
-/// What the search begins with. `size` is that of the starting order and serves as the bound,
-/// because sifting has found none yet.
+/// Prepares the search. `size` is that of the starting order and serves as the bound, because
+/// sifting has found none yet.
 fn prepare_below<'a, R: Threads + Sync>(
     rt: &R,
     alloc: Global,
@@ -89,8 +91,8 @@ fn prepare_below<'a, R: Threads + Sync>(
     Ok(prepared)
 }
 
-/// What sifting finds, and what the search begins with. Both are done at the same time, or one
-/// after the other if only one worker would be busy.
+/// Sifts and prepares the search: what sifting found, and what the search begins with. Both are
+/// done at the same time, or one after the other if only one worker would be busy.
 fn sift_and_prepare<'a, R: Threads + Sync>(
     rt: &R,
     alloc: Global,
@@ -110,7 +112,8 @@ fn sift_and_prepare<'a, R: Threads + Sync>(
         let sifting = sift(rt, alloc, manager, workers)?;
         return Ok((sifting, prepared));
     }
-    // `join` ensures nothing of a closure that owns one value and borrows another
+    // The closures own what they take (`move`): `join` ensures nothing of one that owns one value
+    // and borrows another.
     let sifting = move || -> Result<Sifting, AllocError>
         requires { IsSync R.row }
         ensures { IfOk result (IsSiftingOf manager) }
@@ -123,7 +126,7 @@ fn sift_and_prepare<'a, R: Threads + Sync>(
     Ok((sifting?, prepared?))
 }
 
-/// The size under the file order. `starting` is the diagram under the starting order.
+/// The number of nodes under the file order. `starting` is the diagram under the starting order.
 fn file_size_of<R: Threads + Sync>(
     rt: &R,
     alloc: Global,
@@ -137,18 +140,21 @@ fn file_size_of<R: Threads + Sync>(
     Ok(total(&levels))
 }
 
-/// The result of a search: the best order, the order after one pass of sifting with its size, and
-/// the size under the file order.
+/// The result of a search.
 #[derive(Drop)]
 pub(crate) struct Found {
+    /// The first order of the fewest nodes, with the cells of its certificate if these are wanted.
     pub best: Best,
+    /// The order after one pass of sifting.
     pub sifted: Order,
+    /// The number of nodes under the sifted order.
     pub sifted_size: u32,
+    /// The number of nodes under the file order.
     pub file_size: u64,
 }
 
-/// The result of a search of small truth tables, by the calling thread alone. `file_size` is the
-/// size under the file order.
+/// Sifts and searches by the calling thread alone, for small truth tables. `file_size` is the
+/// number of nodes under the file order, and `manager` has the diagram under the starting order.
 fn search_small(
     alloc: Global,
     instance: &SearchInput<'_>,
@@ -174,8 +180,8 @@ fn search_small(
     })
 }
 
-/// The result of a search for the first order of the fewest nodes among those that keep the pairs,
-/// with the cells of its certificate if these are wanted.
+/// Searches for the first order of the fewest nodes among those that keep the pairs, with the cells
+/// of its certificate if these are wanted.
 pub(crate) fn search<R: Threads + Sync>(
     rt: &R,
     alloc: Global,

@@ -7,20 +7,24 @@ use order_model::{Pairs, Workers};
 use pla_reader::Cover;
 use truth_table::Tables;
 
-/// What a run searches: a cover with its truth tables, the pairs that the order has to keep,
-/// whether a certificate is wanted, and the workers.
+/// What a run searches, and how.
 #[derive(Drop)]
 pub(crate) struct SearchInput<'a> {
+    /// The cover whose functions are searched.
     pub cover: &'a Cover,
+    /// The truth tables of the cover.
     pub tables: &'a Tables,
+    /// The pairs that the order has to keep.
     pub pairs: &'a Pairs,
+    /// Whether a certificate is wanted.
     pub certify: bool,
+    /// How many workers the run may keep busy.
     pub workers: Workers,
     pub ghost are_its_tables: { AreTablesOf cover.now tables.now },
     pub ghost are_its_pairs: { pairs.now.inputs ≡ cover.now.inputs },
 }
 
-/// Truth tables of fewer entries than these are worth no threads.
+/// The fewest entries of truth tables that are worth threads.
 const ENTRIES_WORTH_THREADS: usize = 1 << 14;
 
 impl SearchInput<'_> {

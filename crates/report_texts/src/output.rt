@@ -11,14 +11,14 @@ use outcomes::{Fault, Outcome};
 /// The texts that a run writes for a cover.
 #[derive(Drop)]
 pub struct RunTexts {
-    /// The report.
+    /// The report on the order that was found, or that of `--count`.
     pub report: String,
-    /// The text of the certificate, if one is wanted.
+    /// The text of the certificate; None if none is wanted.
     pub certificate: Option<String>,
 }
 
-/// Writes the text of a certificate to the writer `cert`. Nothing is written if there is no text or
-/// no writer.
+/// Writes `text`, that of a certificate, to the writer `cert`. Nothing is written if there is no
+/// text or no writer; a failed write may have written a part.
 fn write_certificate<C: CountedWrite>(
     cert: &mut Option<C>,
     text: &Option<String>,
@@ -42,7 +42,8 @@ fn write_certificate<C: CountedWrite>(
 }
 
 /// Writes the texts of a run: first the certificate to `cert`, if there are a certificate and a
-/// writer for it, and then the report to `out`. After a failure nothing more is written.
+/// writer for it, and then the report to `out`. After a failure nothing more is written, and the
+/// outcome is that a device failed.
 pub fn write_texts<W: CountedWrite, C: CountedWrite>(
     texts: &RunTexts,
     out: &mut W,

@@ -10,10 +10,11 @@ use order_model::{VarIx, total};
 use std::alloc::{AllocError, Global};
 use std::fmt::Write;
 
-/// Room in bytes for a report or a count without its names: at most 51 numbers and the fixed words.
+/// The bytes that are reserved for a report, or for that of `--count`, besides the names of its
+/// inputs. They suffice for the fixed words and at most 51 numbers.
 const LONGEST: usize = 1024;
 
-/// Appends numbers, each after a space.
+/// Appends `numbers` to `text`, each after a space.
 fn push_spaced(text: &mut String, numbers: &[u32]) -> Result<(), AllocError>
     ensures { OnOk result
         (string_bytes text.new ≡ string_bytes text.old ++ each_spaced numbers.now) }
@@ -24,7 +25,7 @@ fn push_spaced(text: &mut String, numbers: &[u32]) -> Result<(), AllocError>
     Ok(())
 }
 
-/// Appends numbers with one space between each two.
+/// Appends `numbers` to `text`, with one space between each two.
 fn push_numbers(text: &mut String, numbers: &[u32]) -> Result<(), AllocError>
     ensures { OnOk result (string_bytes text.new ≡ string_bytes text.old ++ spaced numbers.now) }
 {
@@ -141,7 +142,7 @@ pub struct Report<'a> {
     pub names: &'a [String],
     /// The order that the run found, top first.
     pub order: &'a [VarIx],
-    /// Its level counts, top first.
+    /// The level counts under `order`, top first.
     pub levels: &'a [u32],
     /// The sifted order, top first.
     pub sifted: &'a [VarIx],
@@ -151,8 +152,8 @@ pub struct Report<'a> {
     pub file_size: u64,
 }
 
-/// Appends three lines: the sifted order, the number of nodes under it, and that under the file
-/// order.
+/// Appends three lines: the sifted order, the number of nodes under it, and the number of nodes
+/// under the file order.
 fn push_sizes(text: &mut String, report: &Report<'_>) -> Result<(), AllocError>
     ensures { OnOk result
         (string_bytes text.new ≡ string_bytes text.old

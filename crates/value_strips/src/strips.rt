@@ -1,5 +1,5 @@
-//! The class numbers of a problem's values, in strips. A strip of 256 points is four words of a
-//! function's truth table, and equal strips are stored once.
+//! The class numbers of a problem's values, the entries of its truth tables, in strips. A strip of
+//! 256 points is four words of a function's truth table, and equal strips are stored once.
 
 ghost use Rattle.std.specs.Prelude.{◌≡◌, ◌+◌, ◌*◌, ◌/◌, ◌^◌, ◌<◌, ◌≤◌, ℕ, length, map, min, IfOk, OnOk};
 ghost use Rattle.std.specs.List.{range_with_len};
@@ -14,25 +14,26 @@ use indexmap::IndexSet;
 use std::alloc::{AllocError, Global};
 use subfunction_classes::{number_of_value, value_numbers};
 
-/// The class numbers of a problem's values in strips. Equal strips may be stored once: `outer` has
-/// the number of the stored strip at each place, function by function, and `numbers` has the class
-/// numbers of the stored strips, one strip after the other.
+/// The class numbers of a problem's values in strips, one for each function and each assignment of
+/// the variables above the lowest eight. Equal strips may be stored once.
 #[derive(Drop)]
 pub struct ValueStrips {
+    /// For each strip, function by function, its number among the stored strips.
     pub outer: Vec<u32>,
+    /// The class numbers in the stored strips, one strip after the other.
     pub numbers: Vec<u32>,
 }
 
-/// Strips of 256 points of truth tables, by their names.
+/// Strips of 256 points of truth tables. The name of a strip is its number among the distinct ones.
 #[derive(Drop)]
 struct NamedStrips {
-    /// For each place, function by function, the name of its strip, which is the strip's number.
+    /// The name of each strip, function by function.
     outer: Vec<u32>,
-    /// The words of the distinct strips.
+    /// The words of the distinct strips, by rising name.
     strips: IndexSet<[u64; 4]>,
 }
 
-/// Adds the strips of a function, whose packed truth table is `words`.
+/// Adds to `found` the strips of a function, whose packed truth table is `words`.
 fn push_strips(found: &mut NamedStrips, words: &[u64]) -> Result<(), AllocError>
     requires whole { (strips : ℕ) × (length words.now ≡ strips * 4) }
     requires few { length words.now ≤ 2 ^ 10 }
@@ -48,7 +49,8 @@ fn push_strips(found: &mut NamedStrips, words: &[u64]) -> Result<(), AllocError>
     Ok(())
 }
 
-/// The strips of all functions of a problem, function by function.
+/// The strips of all functions of a problem, function by function. Requires at least eight
+/// variables.
 fn name_strips(alloc: Global, problem: &Problem) -> Result<NamedStrips, AllocError>
     requires { 8 ≤ problem.now.inputs }
     ensures some { 0 < outputs_of problem.now }
@@ -69,8 +71,8 @@ fn name_strips(alloc: Global, problem: &Problem) -> Result<NamedStrips, AllocErr
     Ok(found)
 }
 
-/// The class numbers of the values in strips of 256 points, one strip after the other: 0 for the
-/// value `first`, and 1 for the other one.
+/// The class numbers of the values in `strips`, of 256 points each, one strip after the other: 0
+/// for the value `first`, and 1 for the other value.
 fn numbers_of(alloc: Global, strips: &[[u64; 4]], first: bool) -> Result<Vec<u32>, AllocError>
     requires { length strips.now ≤ 2 ^ 12 }
     ensures { IfOk result (λ v. v.items ≡
@@ -97,9 +99,9 @@ fn whole_strips(alloc: Global, problem: &Problem) -> Result<ValueStrips, AllocEr
     Ok(ValueStrips { outer, numbers })
 }
 
-/// The class numbers of a problem's values, 0 for the first value and 1 for the other one, in
-/// strips of the points that differ in the lowest eight variables alone. With fewer than eight
-/// variables there is a strip for each function.
+/// The class numbers of a problem's values, in strips of the points that differ in the lowest eight
+/// variables alone. The value of the first function at point 0 has class number 0, the other value
+/// 1. With fewer than eight variables there is a strip for each function.
 pub fn value_strips(alloc: Global, problem: &Problem) -> Result<ValueStrips, AllocError>
     ensures { IfOk result (λ v. HoldsValues problem.now v.outer.items v.numbers.items
         (2 ^ min problem.now.inputs 8)) }

@@ -24,7 +24,8 @@ struct Seen {
     errors: Vec<u8>,
 }
 
-/// Calls the program that `line` begins with, with the words after it.
+/// Calls the program that `line` begins with, with the words after it, and returns what the call
+/// did.
 fn call<R: Files + AllocGlobal + Threads + Sync>(rt: &R, line: &str) -> Result<Seen> {
     let words: Vec<&str> = line.split(' ').collect(rt.alloc())?;
     let mut output = Counting::new(Vec::<u8>::new(rt.alloc()));
@@ -41,13 +42,13 @@ fn call<R: Files + AllocGlobal + Threads + Sync>(rt: &R, line: &str) -> Result<S
     })
 }
 
-/// Writes a file. It is an error if there is one with that name already.
+/// Writes `bytes` to a new file. It is an error if there is a file with that name already.
 fn put_file<R: Files>(rt: &R, name: &str, bytes: &[u8]) -> Result<()> {
     ensure!(!fs::exists(rt, name)?, "{name} is there");
     fs::write(rt, name, bytes).context(format_args!("putting {name} there"))
 }
 
-/// Writes the files that the case has before a call, each cut to `length` bytes.
+/// Writes the files that the case has before a call, each cut to `length` bytes if it is longer.
 fn put_files<R: Files>(rt: &R, case: &Case<'_>, length: usize) -> Result<()> {
     for text in case.texts.iter() {
         if let Place::File(name) = text.place {
@@ -66,8 +67,9 @@ fn remove_files<R: Files>(rt: &R, case: &Case<'_>) {
     }
 }
 
-/// Whether `got` is what the case says of a stream: any text if clap writes it, else the case's
-/// text for the stream, or nothing if there is none.
+/// Whether `got`, which a call wrote to `stream`, is what the case says of this stream. If clap
+/// writes it that is any text but the empty one; else it is the case's text for the stream, or the
+/// empty text if the case has none.
 fn agrees(case: &Case<'_>, stream: Place<'_>, got: &[u8]) -> bool {
     if case.by_clap == Some(stream) {
         return !got.is_empty();
@@ -78,7 +80,7 @@ fn agrees(case: &Case<'_>, stream: Place<'_>, got: &[u8]) -> bool {
     }
 }
 
-/// Whether the file `name` has these bytes.
+/// Whether there is a file `name`, and it has these bytes.
 fn holds<R: Files + AllocGlobal>(rt: &R, name: &str, bytes: &[u8]) -> bool {
     match fs::read(rt, name) {
         Ok(held) => held.as_slice() == bytes,
@@ -101,7 +103,7 @@ fn has_files<R: Files + AllocGlobal>(rt: &R, case: &Case<'_>) -> Result<bool> {
     Ok(true)
 }
 
-/// Which part of what was seen is not as the case says; nothing if all is.
+/// The name of the first part of what was seen that is not as the case says; None if all is.
 fn difference<R: Files + AllocGlobal>(
     rt: &R,
     case: &Case<'_>,
@@ -120,7 +122,7 @@ fn difference<R: Files + AllocGlobal>(
     })
 }
 
-/// Prints a line on a call: `part` is not as its case says.
+/// Prints that the call `line` differs from its case in `part`, with all that was seen.
 fn print_difference<R: AllocGlobal + Print>(
     rt: &R,
     case: &Case<'_>,
@@ -137,8 +139,8 @@ fn print_difference<R: AllocGlobal + Print>(
     Ok(())
 }
 
-/// Makes one call of the case, with its files cut to `length` bytes, and prints a line if it does
-/// something else than the case says. The tally counts it.
+/// Makes the call `line` of the case, with the case's files cut to `length` bytes, and prints a
+/// line if it does something else than the case says. The tally counts the call.
 fn carry_out_call<R: Files + AllocGlobal + Threads + Sync + Print>(
     rt: &R,
     case: &Case<'_>,
@@ -157,7 +159,8 @@ fn carry_out_call<R: Files + AllocGlobal + Threads + Sync + Print>(
     Ok(())
 }
 
-/// Makes each call of the case with each of its lengths. The tally counts them.
+/// Makes each call of the case with each of its lengths, and prints a line for each call that does
+/// something else than the case says. The tally counts the calls.
 pub fn carry_out<R: Files + AllocGlobal + Threads + Sync + Print>(
     rt: &R,
     case: &Case<'_>,

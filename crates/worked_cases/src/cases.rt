@@ -35,8 +35,8 @@ pub struct Case<'a> {
     pub calls: Vec<&'a str>,
     /// The files before a call, and what is seen after it.
     pub texts: Vec<Text<'a>>,
-    /// The first and the last length: each call is made for each length from the one to the other,
-    /// with the case's files cut to it.
+    /// The first and the last length, both inclusive: each call is made for each of these lengths,
+    /// with the case's files cut to it. A shorter file stays whole.
     pub lengths: (usize, usize),
     /// The exit status of each call.
     pub status: u8,
@@ -44,8 +44,8 @@ pub struct Case<'a> {
     pub by_clap: Option<Place<'a>>,
 }
 
-/// What a text stands for that begins with a line of this word and `rest`; nothing if the line
-/// begins no text.
+/// What a text stands for, by the line that begins it: its first word `word`, and `rest`, which
+/// follows it. None if the line begins no text.
 fn place_of<'a>(word: &str, rest: &'a str) -> Option<Place<'a>> {
     match word {
         "file" => Some(Place::File(rest)),
@@ -57,7 +57,7 @@ fn place_of<'a>(word: &str, rest: &'a str) -> Option<Place<'a>> {
     }
 }
 
-/// The two lengths that `range` has, with a space between.
+/// The first and the last length, which `range` has with a space between.
 fn lengths(range: &str) -> Result<(usize, usize)> {
     let Some((first, last)) = range.split_once(' ') else {
         bail!("two lengths")
@@ -68,7 +68,7 @@ fn lengths(range: &str) -> Result<(usize, usize)> {
 }
 
 impl<'a> Case<'a> {
-    /// A case with this name, of which nothing else is known yet.
+    /// A case with this name, without calls and texts. Its files aren't cut, and its status is 0.
     fn new(alloc: Global, name: &'a str) -> Case<'a> {
         Case {
             name,
@@ -80,7 +80,7 @@ impl<'a> Case<'a> {
         }
     }
 
-    /// Begins a text, to which the lines that follow add.
+    /// Adds an empty text to the case, to which the lines that follow add.
     fn begin(&mut self, alloc: Global, place: Place<'a>) -> Result<(), AllocError> {
         let bytes = Vec::new(alloc);
         self.texts.push(Text { place, bytes })?;
@@ -118,7 +118,8 @@ impl<'a> Case<'a> {
         }
     }
 
-    /// Adds to the last text of the case what a line says.
+    /// Adds what a line says to the last text of the case. It is an error if the case has no text
+    /// yet.
     fn lengthen<R: Files + AllocGlobal>(&mut self, rt: &R, line: &str) -> Result<()> {
         match self.texts.last_mut() {
             Some(text) => lengthen(rt, &mut text.bytes, line),
@@ -152,15 +153,15 @@ fn add_file<R: Files + AllocGlobal>(rt: &R, bytes: &mut Vec<u8>, name: &str) -> 
     Ok(())
 }
 
-/// Makes `bytes` as long as the number `length` says; added bytes are `x`.
+/// Cuts or lengthens `bytes` to the number of bytes that `length` spells; added bytes are `x`.
 fn fill(bytes: &mut Vec<u8>, length: &str) -> Result<()> {
     let length = length.parse()?;
     bytes.resize(length, b'x')?;
     Ok(())
 }
 
-/// Appends to `bytes` what a line of a text says: text, bytes by their codes, a length to fill up
-/// to, or a file.
+/// Changes `bytes` by what a line of a text says: appends text, bytes by their codes, or those of a
+/// file, or fills up to a length.
 fn lengthen<R: Files + AllocGlobal>(rt: &R, bytes: &mut Vec<u8>, line: &str) -> Result<()> {
     if let Some(whole) = line.strip_prefix('|') {
         return Ok(add_text(bytes, whole, true)?);
