@@ -76,7 +76,8 @@ module _ (values : List Bool) (outer : List ℕ) (strips : List (List ℕ)) (str
         let l = ap length s in
         let p = passes_at_first (same strip) strips [] (omega arith) in
         named_by more name inside
-        (ap (λ z. get_or z name []) s ∙ ap (λ k. get_or strips k []) n ∙ sym ((bytes_decides strip (get_or strips (position_or_len (same strip) strips) [])).0 p))
+        (ap (λ z. get_or z name []) s ∙ ap (λ k. get_or strips k []) n
+        ∙ sym ((bytes_decides strip (get_or strips (position_or_len (same strip) strips) [])).0 p))
         (omega arith) (omega arith) (λ k lt. ap (λ z. get_or z k []) s) (λ k le lt. absurd (omega arith))
     | inr e ↦
         let s : more ≡ strips ++ strip ∷ [] = m ∙ ap (λ b. cond b strips (strips ++ strip ∷ [])) e in

@@ -44,7 +44,8 @@ loop-y-preserved c =
 all_added : (c : goal.After-loop-y) → latest c.loop-y.made c.args.first.now ≡ classes_of c.args.first.now.problem c.args.low
 all_added c =
     let e = c.low_variables-y-end.ensures in
-    let last : c.loop-y.y ≡ low_variables c.args.first.now.problem = (let t = c.loop-y-test.false in let u = c.loop-y.auto in let r = c.requires.from in omega arith) in
+    let last : c.loop-y.y ≡ low_variables c.args.first.now.problem =
+    (let t = c.loop-y-test.false in let u = c.loop-y.auto in let r = c.requires.from in omega arith) in
     c.loop-y.invariant
     ∙ ap (classes_of c.args.first.now.problem) (ap (λ k. c.args.low % 2 ^ k) last ∙ mod-eq_of_lt c.requires.low)
 

@@ -31,7 +31,9 @@ module _ (set from : ℕ) (small : set < 2 ^ 16) (some : 0 < set / 2 ^ from) (fi
 
 -- a member is left, and what is shifted fits
 some_left : (c : goal.Else-rest-eq0) → 0 < c.args.set / 2 ^ c.args.from
-some_left c = let n : c.args.set / 2 ^ c.args.from ≢ 0 = λ e. c.if-rest-eq0.false (ap (λ k. k / 2 ^ c.args.from) c.from.ensures ∙ e) in omega arith
+some_left c =
+    let n : c.args.set / 2 ^ c.args.from ≢ 0 = λ e. c.if-rest-eq0.false (ap (λ k. k / 2 ^ c.args.from) c.from.ensures ∙ e) in
+    omega arith
 
 left_fits : (c : goal.Else-rest-eq0) → c.args.set / 2 ^ c.args.from < 2 ^ 32
 left_fits c = omega (arith, div-le_self c.args.set (2 ^ c.args.from), c.ranges.set.fits)

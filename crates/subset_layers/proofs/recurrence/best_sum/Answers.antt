@@ -1,11 +1,12 @@
 use Rattle.std.proofs.Common.{◌≡◌, ℕ, ◌+◌, ◌<◌, ◌≤◌, Option, Some, None, IfSome, IsNone, IsTrue, inl, inr, slice_index, refl, sym, ◌∙◌, subst, arith}
 use Rattle.std.proofs.lemmas.Bool.{cases_lt, true≢false}
 use Rattle.std.proofs.lemmas.Nat.Bits.{shr_and_one}
+use Rattle.definitions.proofs.Precedence.MaskLaws.{member_bit}
 use Rattle.definitions.proofs.Precedence.Masks.{bit_inside}
 use Rattle.definitions.specs.Orders.{has, members}
 use Rattle.subset_layers.specs.declared.recurrence.Sum.{Sum}
 use Rattle.subset_layers.specs.Sums.{IsBest}
-use Rattle.subset_layers.proofs.CostLists.{member_from_bit, bit_from_member}
+use Rattle.subset_layers.proofs.CostLists.{member_from_bit}
 use Rattle.subset_layers.proofs.BestSums.{IsBestBelow, best_gap, best_skipped, best_taken, best_all}
 use Rattle.subset_layers.proofs.recurrence.best_sum.Goals as goal
 use Rattle.subset_layers.proofs.recurrence.best_sum.Goals.{then-cost-bound, else-cost-bound}
@@ -20,7 +21,8 @@ loop-x-preserved c =
     let m = c.in-Some.ensures.member in
     let inside = bit_inside n c.args.mask x c.requires.within m.2 in
     let before = best_gap S c.args.bound costs widths c.loop-x.from x c.loop-x.best m.0
-    (λ y h lt s. absurd (let z = c.in-Some.ensures.first y h lt in let o = sym (shr_and_one c.args.mask y) ∙ bit_from_member n c.args.mask y s in omega arith)) c.loop-x.invariant.best in
+    (λ y h lt s. absurd (let z = c.in-Some.ensures.first y h lt in let o = (member_bit n c.args.mask y s).1 in omega arith))
+    c.loop-x.invariant.best in
     record {
       small = (let l = m.1 in omega arith);
       best = elim c.if-cost-bound.branch [
@@ -45,7 +47,7 @@ whole S bound costs widths k (Some s) low h = (best_all S bound costs widths k s
 all_met : (c : goal.In_default) (y : ℕ) → IsTrue (has (members c.args.inputs c.args.mask) y) → y < c.loop-x.from
 all_met c y s = elim (cases_lt y c.loop-x.from) [
   | inl lt ↦ lt
-  | inr le ↦ absurd (let z = c.in_default.ensures.none refl y le in let o = sym (shr_and_one c.args.mask y) ∙ bit_from_member c.args.inputs c.args.mask y s in omega arith)
+  | inr le ↦ absurd (let z = c.in_default.ensures.none refl y le in let o = (member_bit c.args.inputs c.args.mask y s).1 in omega arith)
 ]
 
 pub returns-clause-best : goal.returns-clause-best

@@ -3,10 +3,11 @@ use Rattle.std.proofs.lemmas.Bool.{cases_lt}
 use Rattle.std.proofs.lemmas.List.{length-set}
 use Rattle.std.proofs.lemmas.Nat.Bits.{shr_and_one}
 use Rattle.definitions.specs.Orders.{has, members}
+use Rattle.definitions.proofs.Precedence.MaskLaws.{member_bit}
 use Rattle.definitions.proofs.Precedence.Masks.{bit_inside}
 use Rattle.subset_layers.specs.Costs.{cost_at, cost_without}
 use Rattle.subset_layers.proofs.BlockLists.{has_masks}
-use Rattle.subset_layers.proofs.CostLists.{member_from_bit, bit_from_member, power_le_mask, shifted_bit, less_one}
+use Rattle.subset_layers.proofs.CostLists.{member_from_bit, power_le_mask, shifted_bit, less_one}
 use Rattle.subset_layers.proofs.Rows.{row_written}
 use Rattle.subset_layers.proofs.recurrence.costs_below.Goals as goal
 
@@ -30,7 +31,7 @@ loop-x-preserved c =
     ∙ ap (λ o. unwrap_or o 0) (sym c.cost_of.ensures.value ∙ c.unwrap-cost.ensures) in
     let before : (y : ℕ) → y < x → S y → get_or below y 0 ≡ cost_without costs mask y = λ y lt s. elim (cases_lt y c.loop-x.from) [
       | inl l ↦ c.loop-x.invariant.found y l s
-      | inr g ↦ absurd (let z = c.in-Some.ensures.first y g lt in let o = sym (shr_and_one mask y) ∙ bit_from_member costs.inputs mask y s in omega arith)
+      | inr g ↦ absurd (let z = c.in-Some.ensures.first y g lt in let o = (member_bit costs.inputs mask y s).1 in omega arith)
     ] in
     record {
       small = omega arith;
@@ -41,6 +42,5 @@ loop-x-preserved c =
 pub returns : goal.returns
 returns c = λ x m. c.loop-x.invariant.found x (elim (cases_lt x c.loop-x.from) [
   | inl lt ↦ lt
-  | inr le ↦ absurd (let z = c.in_default.ensures.none refl x le in
-      let o = sym (shr_and_one c.args.mask x) ∙ bit_from_member c.args.costs.now.inputs c.args.mask x m in omega arith)
+  | inr le ↦ absurd (let z = c.in_default.ensures.none refl x le in let o = (member_bit c.args.costs.now.inputs c.args.mask x m).1 in omega arith)
 ]) m

@@ -18,7 +18,9 @@ loop-place-preserved c =
     let before = c.loop-place.invariant in
     record {
       long = omega (arith, before.long);
-      room = (let m = ap length e.keys in let f = few_more (list_any (pointwise eqb (strip_of words place)) strips) strips (strip_of words place) in let r = before.room in omega arith);
+      room = (let m = ap length e.keys in
+          let f = few_more (list_any (pointwise eqb (strip_of words place)) strips) strips (strip_of words place) in
+          let r = before.room in omega arith);
       names = λ values s labels.
           subst (λ o. NamesStrips values o c.insert_full.new.self.keys) (sym items)
           (strip_added values outer strips (strip_of words place) (before.names values s labels)

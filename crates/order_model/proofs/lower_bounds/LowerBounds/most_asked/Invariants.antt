@@ -11,7 +11,8 @@ invariant-loop-x l = record {
   inside : l.from ≤ l.self.problem.inputs;
   few : l.most < 2 ^ 33;
   most : AreMembersWidths l.self.problem l.mask l.widths →
-      l.most ≡ fold max l.least (map (asked_by l.self.problem.inputs (functions l.self.problem) (members l.self.problem.inputs l.mask)) (members l.from l.mask));
+      l.most ≡ fold max l.least
+      (map (asked_by l.self.problem.inputs (functions l.self.problem) (members l.self.problem.inputs l.mask)) (members l.from l.mask));
 }
 
 abbrev pub decreases-loop-x : goal.decreases-loop-x

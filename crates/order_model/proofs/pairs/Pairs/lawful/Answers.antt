@@ -62,7 +62,8 @@ returns c =
     elim (cases_eq c.loop-a.lacking 0) [
       | inl none ↦ eq-eqb c.loop-a.lacking 0 none
           ∙ sym (ap (λ (k : KeptPairs). is_lawful k.pairs (members k.inputs c.args.set)) (sym c.self.view_is)
-          ∙ lawful_in n below c.args.set (λ a b here bit. c.loop-a.invariant.none none a b (let t = c.loop-a-test.false in let i = inside c a b bit in omega arith) here bit))
+          ∙ lawful_in n below c.args.set
+          (λ a b here bit. c.loop-a.invariant.none none a b (let t = c.loop-a-test.false in let i = inside c a b bit in omega arith) here bit))
       | inr some ↦
           let far = c.loop-a.invariant.some some in
           ne_eqb c.loop-a.lacking 0 some
