@@ -165,8 +165,8 @@ impl<'a> Classes<'a> {
         self.compact_by(alloc, x, true)
     }
 
-    /// The class table of the set with x added. Pairs of class numbers are numbered in an
-    /// `IndexSet` if `indexed` is true, else as `compact` does.
+    /// The class table of the set with x added. An `IndexSet` numbers the pairs of class numbers if
+    /// `indexed` is true, else `number_with_masks` does; the result is the same.
     fn compact_by(&self, alloc: Global, x: VarIx, indexed: bool) -> Result<Classes<'a>, AllocError>
         requires inside { x < self.now.problem.inputs }
         requires new { IsFalse (has (set_of self.now) x) }

@@ -4,7 +4,7 @@
 --     value_of app words id, read_of app words id      the value of an argument, as it was written and as it is read
 --     IsFlag, IsNumber      what a read value means
 --     IsLineOf words line, IsCheckLineOf words line      clap takes the words, and their values make the line
---     LacksValues file number, LacksFiles file cert      an argument that is needed is missing
+--     LacksValues file number, LacksFiles file cert      a required argument is missing
 --     faults_of app words      the kinds of error that clap may give at the words, none if it takes them
 use Rattle.std.specs.Prelude.{◌≡◌, ◌⊎◌, ◌≤◌, ℕ, Bool, List, [], ◌∷◌, map, Option, Some, None, codes, option_map, true, false, pos}
 use Rattle.std.specs.Borrow.{Bor}

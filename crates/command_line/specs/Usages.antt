@@ -1,9 +1,9 @@
 -- What an error of clap means for a program, and why words give no plan.
 --     status_of usage      the exit status
---     usage_kind error      help that was asked for, out of memory, or refused words
+--     usage_kind error      help that was requested, out of memory, or refused words
 --     AsksForHelp app words      clap answers the words with help
---     AreFaulty app Lacks words      clap finds a fault in the words, or they lack what is needed
---     TurnsAway app words status      how a program ends at words that ask for nothing that it does
+--     AreFaulty app Lacks words      clap finds a fault in the words, or they lack a required argument
+--     TurnsAway app words status      the exit status for words that request no run of the program
 --     Explains app Lacks words usage      why words give no plan
 use Rattle.std.specs.Prelude.{◌≡◌, ◌≢◌, ◌⊎◌, ℕ, List, []}
 use Rattle.clap.specs.Words.{App, IsAmong, Text, kind_of}
@@ -25,11 +25,11 @@ usage_of_kind kinds.DisplayHelp error = Help error
 usage_of_kind kinds.OutOfMemory error = OutOfMemory
 usage_of_kind _ error = Refused error
 
--- help that was asked for, out of memory, or refused words
+-- help that was requested, out of memory, or refused words
 abbrev pub usage_kind : Error → Usage
 usage_kind error = usage_of_kind (kind_of error) error
 
--- help was not asked for
+-- help was not requested
 abbrev pub IsNoHelp : Usage → Type 0
 IsNoHelp (Help error) = ⊥
 IsNoHelp _ = Unit {0}
@@ -38,11 +38,11 @@ IsNoHelp _ = Unit {0}
 abbrev pub AsksForHelp : App → List Text → Type 0
 AsksForHelp app words = IsAmong kinds.DisplayHelp (faults_of app words)
 
--- clap finds a fault in the words, or they lack what is needed
+-- clap finds a fault in the words, or they lack a required argument
 abbrev pub AreFaulty : App → (List Text → Type 0) → List Text → Type 0
 AreFaulty app Lacks words = (faults_of app words ≢ []) ⊎ Lacks words
 
--- how a program ends at words that ask for nothing that it does: they are refused, it is out of memory, or clap answers them with help
+-- the exit status for words that request no run of the program: they are refused, memory is refused, or clap answers with help
 abbrev pub TurnsAway : App → List Text → ℕ → Type 0
 TurnsAway app words status = (status ≡ 2) ⊎ (status ≡ 4) ⊎ ((status ≡ 0) × AsksForHelp app words)
 

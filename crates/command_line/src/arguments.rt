@@ -10,7 +10,7 @@ use clap::error::ErrorKind;
 use clap::{Arg, Command};
 use std::alloc::Global;
 
-/// The required argument `name`, the path of a file, with its line of help.
+/// The required argument `name`, which is the path of a file and has the line of help `help`.
 pub(crate) fn required_path<'a>(alloc: Global, name: &'a str, help: &'a str) -> Arg<'a>
     ensures rule { rule_of result ≡ required_rule name.entry.now }
     ensures local { result.global ≡ false }
@@ -18,8 +18,8 @@ pub(crate) fn required_path<'a>(alloc: Global, name: &'a str, help: &'a str) -> 
     Arg::new(alloc, name).required(true).help(help)
 }
 
-/// The fault of words that lack the argument that `what` names. No words come to it, since clap
-/// refuses them first.
+/// The fault of a command line without the argument that `what` names. It doesn't occur, because
+/// clap refuses such a command line first.
 pub(crate) fn missing_argument<'a>(mut command: Command<'a>, what: &str) -> Usage
     ensures { IsNoHelp result }
 {

@@ -1,4 +1,4 @@
-//! What the words after minorder's name ask for.
+//! The command line of minorder: what the words after the program's name ask for.
 
 ghost use Rattle.std.specs.Prelude.{◌≡◌, IfErr, IfOk, IfSome, IsNone, codes, false};
 ghost use Rattle.clap.specs.Words.{app_of, first_value, found_of, one_text, rule_of};
@@ -16,10 +16,10 @@ use std::alloc::{AllocError, Global};
 pub struct RunPlan<'a> {
     /// How many workers share the work. `--count` makes no use of them.
     pub workers: Workers,
-    /// Whether only the level counts under the file order are wanted.
+    /// Whether `--count` is given: only the level counts under the file order are wanted.
     pub count: bool,
     /// The pairs `A,B:C,D` that the order has to keep, as they were written: variable A above
-    /// variable B, and C above D. `--count` makes no use of them.
+    /// variable B, and C above D. None without `--above`. `--count` makes no use of them.
     pub above: Option<&'a str>,
 }
 
@@ -31,7 +31,7 @@ pub struct Line<'a> {
     pub plan: RunPlan<'a>,
     /// The path of the PLA file.
     pub file: &'a str,
-    /// The path of the certificate to be written.
+    /// The path of the certificate to be written. None if none is wanted.
     pub cert: Option<&'a str>,
 }
 
@@ -73,7 +73,7 @@ fn count_option<'a>(alloc: Global) -> Arg<'a>
         )
 }
 
-/// The command with all options of minorder added.
+/// Adds all options of minorder to `command`.
 fn with_options<'a>(alloc: Global, command: Command<'a>) -> Result<Command<'a>, AllocError>
     ensures { IfOk result (λ c. app_of c ≡ options_of (app_of command.entry)) }
 {
@@ -138,8 +138,8 @@ fn line_of<'a>(matches: &ArgMatches<'a>) -> Option<Line<'a>>
 }
 
 impl<'a> Line<'a> {
-    /// The command line that the words after the program's name state, by clap's rules, or help or
-    /// a fault.
+    /// Parses the words after the program's name, by clap's rules. The error is help, if the words
+    /// request it, or a fault.
     ///
     /// Options stand before or after the file, each at most once. An option's value may stand in
     /// the same word, as in `--workers=2`.

@@ -1,4 +1,4 @@
-//! What the words after ordercheck's name ask for.
+//! The command line of ordercheck: what the words after the program's name ask for.
 
 ghost use Rattle.std.specs.Prelude.{◌≡◌, IfErr, IfOk, IfSome, IsNone, codes};
 ghost use Rattle.clap.specs.Words.{app_of, first_value, found_of};
@@ -50,8 +50,8 @@ fn line_of<'a>(matches: &ArgMatches<'a>) -> Option<CheckLine<'a>>
 }
 
 impl<'a> CheckLine<'a> {
-    /// The command line that the words after the program's name state, by clap's rules, or help or
-    /// a fault.
+    /// Parses the words after the program's name, by clap's rules. The error is help, if the words
+    /// request it, or a fault.
     pub fn of_words(alloc: Global, words: &'a [&'a str]) -> Result<CheckLine<'a>, Usage>
         ensures line { IfOk result (IsCheckLineOf (texts words.now)) }
         ensures refused { IfErr result (Explains ordercheck LacksPaths (texts words.now)) }

@@ -1,4 +1,4 @@
-//! Why a command line gives no plan.
+//! Why a program's command line asks for no run.
 
 ghost use Rattle.std.specs.Prelude.{◌≡◌};
 ghost use Rattle.command_line.specs.Usages.{status_of, usage_kind};
@@ -7,8 +7,8 @@ use clap::Error;
 use clap::error::ErrorKind;
 use std::alloc::AllocError;
 
-/// Why words after a program's name give no command line. The text of help and of a fault is
-/// clap's.
+/// Why the words after a program's name are no command line that it carries out. The texts of help
+/// and of faults are clap's.
 #[derive(Debug, Drop)]
 pub enum Usage {
     /// Help was requested.
@@ -35,7 +35,7 @@ impl Usage {
 impl From<Error> for Usage {
     ghost from_gives = { λ error usage. usage ≡ usage_kind error };
 
-    /// What an error of clap means for a program.
+    /// Turns an error of clap into help, out of memory, or refused words.
     fn from(error: Error) -> Usage {
         match error.kind() {
             ErrorKind::DisplayHelp => Usage::Help(error),

@@ -92,8 +92,9 @@ impl Places {
 }
 
 impl<'a> WidthsAhead<'a> {
-    /// The rows of the low byte `low`, which stand at its place in `places`; None if none were
-    /// found.
+    /// The last rows that were found for the low byte `low`; None if there are none. `places` is
+    /// made by `Places::of` from this list after its last change: older places may give None, or
+    /// earlier rows.
     pub(crate) fn rows_at(&self, places: &Places, low: u8) -> Option<&ByteRows>
         ensures rows { IfSome result (λ b. HoldsRows self.now.problem b.now) }
         ensures low { IfSome result (λ b. b.now.low ≡ low) }

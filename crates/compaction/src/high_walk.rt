@@ -40,7 +40,7 @@ fn first_undecided(inputs: u8, decided: Mask) -> Option<VarIx>
 }
 
 impl Branch {
-    /// How many of the wanted sets have the high variable y; 0 if y is low or decided.
+    /// How many of the branch's wanted sets have the high variable y; 0 if y is low or decided.
     fn count_with(&self, y: VarIx) -> u32
         requires { y < 16 }
     {

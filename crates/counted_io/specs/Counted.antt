@@ -8,7 +8,7 @@ pub record Counted (T : Type 0) : Type 0 where
   pub failed : ℕ
 
 module _ {T : Type 0} where
-  -- it is stored as the pair of these
+  -- a counted device is stored as the pair of the device and the count
   abbrev pub counted_code : Coded T → Coded (Counted T)
   counted_code device = code_by (T × ℕ) (coded× device coded_ℕ) (λ c. (c.device, c.failed))
       (λ p. record { device = p.0; failed = p.1 }) (λ _. refl)

@@ -25,8 +25,8 @@ pub trait CountedRead {
             ≡ (if is_ok result then failures self.old else one_more (failures self.old)) };
 }
 
-/// A writer with a count of its failed calls. One that takes no byte of a non-empty piece has
-/// failed.
+/// A writer with a count of its failed calls. A call that takes no byte of a text that isn't empty
+/// has failed.
 pub trait CountedWrite {
     // The bytes that the writer holds, if they are known.
     ghost contents: { Self → Option (List ℕ) } = { λ _. None };

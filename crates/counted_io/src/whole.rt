@@ -24,8 +24,8 @@ pub enum Refused {
 /// table.
 const FIRST_ROOM: usize = 1 << 22;
 
-/// Reads a device to its end, and returns its bytes. An error if there are more than `limit`, if a
-/// call of the device fails, or if an allocation is refused.
+/// Reads a device to its end, and returns the bytes read. An error if there are more than `limit`
+/// bytes, if a call of the device fails, or if an allocation is refused.
 pub fn read_all<R: CountedRead>(
     alloc: Global,
     device: &mut R,
@@ -59,7 +59,7 @@ pub fn read_all<R: CountedRead>(
     }
 }
 
-/// Writes a whole text. After an error the device has taken a beginning of it.
+/// Writes the whole of `text`. After an error the device has taken a beginning of the text.
 pub fn write_whole<W: CountedWrite>(device: &mut W, text: &[u8]) -> Result<(), Refused>
     ensures ok { OnOk result (Appends (W.contents device.old) (W.contents device.new) text.now) }
     ensures ok_calls { OnOk result (W.failures device.new ≡ W.failures device.old) }

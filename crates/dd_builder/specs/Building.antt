@@ -1,7 +1,7 @@
 -- Building the reduced diagram of some functions.
 --     KnowsFull s      a session knows all places of its store to be filled
---     FailsToBuild store e, IsOutOfMemory e      why a build gives no diagram in a store; for want of memory
---     IsForTables b t, IsForCover b cover      what a store was made for
+--     FailsToBuild store e, IsOutOfMemory e      why a build in a store gives no diagram; a build that gives none because memory was refused
+--     IsForTables b t, IsForCover b cover      a store that was made for truth tables; one that was made for a cover
 --     IsDiagramFor b d      the reduced diagram of a store's functions
 use Rattle.std.specs.Prelude.{◌≡◌, ◌≢◌, ℕ, ◌<◌, map, slice_index}
 use Rattle.definitions.specs.OrderedGraphs.{OrderedGraph}
@@ -21,12 +21,12 @@ use Rattle.dd_builder.specs.declared.errors.BuildError.TheVariants.{StoreFull, O
 abbrev pub KnowsFull : Knowledge → Type 0
 KnowsFull s = (p : ℕ) → p < s.store.plan.places → slice_index s.seen p ≢ 0
 
--- why nothing was built in a store: a session of it knows all places to be filled, or memory was wanting
+-- why nothing was built in a store: a session of the store knows all places to be filled, or memory was refused
 abbrev pub FailsToBuild : StoreId → BuildError → Type 0
 FailsToBuild store (StoreFull s) = (s.store ≡ store) × KnowsFull s
 FailsToBuild store OutOfMemory = Unit {0}
 
--- no store was full
+-- the fault is that memory was refused, and not that a store was full
 abbrev pub IsOutOfMemory : BuildError → Type 0
 IsOutOfMemory (StoreFull s) = ⊥
 IsOutOfMemory OutOfMemory = Unit {0}
@@ -46,7 +46,7 @@ abbrev pub AreProductsOf : NamedCover → PieceKind → Type 0
 AreProductsOf cover Restrictions = ⊥
 AreProductsOf cover (Products terms) = map (product_of cover.inputs cover.outputs) terms.value ≡ cover.products
 
--- the store was made for a problem of the cover's numbers, with parts of the cover's terms
+-- the store was made for a problem with the cover's numbers of inputs and outputs, with parts of the cover's terms
 pub record IsForCover (b : Plan) (cover : NamedCover) : Type 0 where
   pub kind : AreProductsOf cover b.kind
   pub inputs : b.problem.value.inputs ≡ cover.inputs

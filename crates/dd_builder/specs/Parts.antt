@@ -1,16 +1,16 @@
 -- The parts of a store's functions: its pieces that aren't outputs.
 --     IsForTerms b terms, IsSourceFor b source      parts that are made of terms, and of a source
 --     HasPart s q, KnowsRoots s      the parts and the outputs whose ids a session knows
---     KnowsParts store s      a session of a store that knows all its parts
+--     KnowsParts store s      a session of a store that knows the ids of all parts
 --     shares_union b output first count      the union of some parts of an output
 --     AreJobsOf store workers jobs      a job for each worker
 --     HasShare s workers k, IsEndOf store workers k end, AreEndsOf store workers ends      what a worker builds, and how workers end
 --     AreJoinedEnds store end      how all workers together end
---     KeepsFrom source s s', Continues source s s'      a session that builds from a source; from tables it makes nodes of subfunctions alone
+--     KeepsFrom source s s', Continues source s s'      a session that builds from a source; from tables it makes only nodes of subfunctions
 --     HasHalf from k s, AreHalves from workers jobs      sessions that know what another knew, with shares of its stake
---     IsShareOf source from k s, AreSharesOf source from workers ends      sessions that go on from these
+--     IsShareOf source from k s, AreSharesOf source from workers ends      sessions that go on from those of HasHalf
 --     IsOpened end s full, session_of end      the session of an end
---     MayBeFull source from e      from tables the only session that made nodes of subfunctions alone meets no full store
+--     MayBeFull source from e      in building from tables, the store's only session meets no full store if it made only nodes of subfunctions
 use Rattle.std.specs.Prelude.{◌≡◌, ◌≢◌, ℕ, ◌+◌, ◌*◌, ◌%◌, ◌<◌, ◌≤◌, nat_lt, if◌then◌else◌, Bool, MatchBool, Some, Result, Ok, Err, List, length, slice_index, slice_get}
 use Rattle.std.specs.List.{list_any, range_with_len}
 use Rattle.definitions.specs.declared.terms.Term.{Term}
@@ -41,7 +41,7 @@ abbrev pub AreTermsOfKind : TruthTables → List Term → PieceKind → Type 0
 AreTermsOfKind t terms Restrictions = ⊥
 AreTermsOfKind t terms (Products own) = products_of t terms ≡ products_of t own.value
 
--- the store was made with parts of such terms
+-- the store was made with parts of terms that stand for the same products
 abbrev pub IsForTerms : Plan → List Term → Type 0
 IsForTerms b terms = AreTermsOfKind b.problem.value terms b.kind
 
@@ -50,7 +50,7 @@ abbrev pub IsSourceFor : Plan → Source → Type 0
 IsSourceFor b (Tables tables) = IsForTables b tables.now
 IsSourceFor b (Terms terms) = IsForTerms b terms.now
 
--- the level from which the nodes of parts stand: below the variables that are fixed
+-- the highest level on which nodes of parts stand: that below the variables that are fixed
 abbrev pub first_level : PieceKind → List ℕ → ℕ
 first_level Restrictions order = length (top_variables order)
 first_level (Products terms) order = 0
@@ -74,12 +74,12 @@ pub record KnowsParts (store : StoreId) (s : Knowledge) : Type 0 where
 abbrev pub KnowsRoots : Knowledge → Type 0
 KnowsRoots s = (j : ℕ) → j < outputs_of s.store.plan.problem.value → slice_index s.pieces (s.store.plan.roots + j) ≢ 0
 
--- 1 if one of an output's parts by terms is, of `count` parts from a share on
+-- 1 where one of an output's parts by terms is 1, of `count` parts from the part `first` on
 unfoldable pub shares_union : Plan → ℕ → ℕ → ℕ → Function
 shares_union b output first count p = list_any (λ share. piece_function b (output * 64 + share) p)
     (range_with_len first count)
 
--- from tables a session makes nodes of subfunctions alone
+-- in building from tables, a session makes only nodes of subfunctions
 abbrev pub KeepsFrom : Source → Knowledge → Knowledge → Type 0
 KeepsFrom (Tables tables) s s' = KeepsSubfunctions s s'
 KeepsFrom (Terms terms) s s' = Unit {0}
@@ -115,12 +115,12 @@ pub record AreJobsOf (store : StoreId) (workers : ℕ) (jobs : List BuildJob) : 
   pub sessions : (k : ℕ) (job : BuildJob) → slice_get jobs k ≡ Some job → job.session.store ≡ store
   pub numbers : (k : ℕ) (job : BuildJob) → slice_get jobs k ≡ Some job → job.worker ≡ k + 1
 
--- each job's session has a share of another's stake
+-- each job's session has a share of the stake of the session that was split
 abbrev pub AreHalves : Knowledge → ℕ → List BuildJob → Type 0
 AreHalves from workers jobs = (k : ℕ) (job : BuildJob) → slice_get jobs k ≡ Some job →
     HasHalf from (halvings_for workers k) job.session
 
--- the session knows the parts whose number leaves k when divided by the number of workers
+-- the session knows the parts whose number leaves the remainder k when divided by the number of workers
 abbrev pub HasShare : Knowledge → ℕ → ℕ → Type 0
 HasShare s workers k = (q : ℕ) → q < s.store.plan.roots → q % workers ≡ k → HasPart s q
 
@@ -143,7 +143,7 @@ session_of (Err s) = s
 abbrev pub IsOpened : Result Knowledge Knowledge → Knowledge → Bool → Type 0
 IsOpened end s full = MatchBool full (end ≡ Err s) (end ≡ Ok s)
 
--- the ends' sessions have their shares
+-- the session of each end goes on from the session that was split, with its share of the stake
 abbrev pub AreSharesOf : Source → Knowledge → ℕ → List (Result Knowledge Knowledge) → Type 0
 AreSharesOf source from workers ends = (k : ℕ) (end : Result Knowledge Knowledge) → slice_get ends k ≡ Some end →
     IsShareOf source from (halvings_for workers k) (session_of end)
@@ -153,7 +153,7 @@ abbrev pub AreJoinedEnds : StoreId → Result Knowledge Knowledge → Type 0
 AreJoinedEnds store (Ok s) = KnowsParts store s
 AreJoinedEnds store (Err s) = (s.store ≡ store) × KnowsFull s
 
--- the only session that made nodes of subfunctions alone meets no full store in building from tables
+-- in building from tables, the only session of a store meets no full store if it made only nodes of subfunctions
 abbrev pub MayBeFull : Source → Knowledge → BuildError → Type 0
 MayBeFull (Tables tables) from (StoreFull s) = IsAlone from → MadeSubfunctions from → ⊥
 MayBeFull (Tables tables) from OutOfMemory = Unit {0}

@@ -15,7 +15,7 @@ pub record IsPointOf (order : List ℕ) (path point : ℕ) : Type 0 where
   pub small : point < 2 ^ length order
   pub bits : (i : ℕ) → i < length order → bit_at point (slice_index order i) ≡ bit_at path i
 
--- a point's number has the bits of a path for the levels above one, and no others of the order
+-- the number of the point with the path's bits for the variables above a level, and 0 for the other variables of the order
 pub record IsPointAbove (order : List ℕ) (level path point : ℕ) : Type 0 where
   pub small : point < 2 ^ length order
   pub bits : (i : ℕ) → i < level → i < length order → bit_at point (slice_index order i) ≡ bit_at path i

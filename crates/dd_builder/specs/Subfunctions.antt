@@ -1,9 +1,9 @@
 -- Subfunctions, and how many nodes they take.
 --     IsSubfunction order t level f      f is an output with the variables above a level fixed in some way
 --     AreSubfunctions order t ws      each node denotes a subfunction of its level
---     most_on inputs outputs level, most_nodes inputs outputs      bounds for a level and for all
+--     most_on inputs outputs level, most_nodes inputs outputs      bounds on the nodes of a level, and of all levels
 --     SizesAreFew, SubfunctionsAreFew, MostNodesFit      the laws
---     MadeSubfunctions s, KeepsSubfunctions s s'      a session that made nodes of subfunctions alone, and one that goes on so
+--     MadeSubfunctions s, KeepsSubfunctions s s'      a session that made only nodes of subfunctions, and one that goes on so
 --     IsFresh s      the first session of a store in which nothing was made
 use Rattle.std.specs.Prelude.{◌≡◌, ◌≢◌, ℕ, zero, suc, ◌+◌, ◌-◌, ◌*◌, ◌^◌, ◌<◌, ◌≤◌, nat_lt, if◌then◌else◌, List, [], length, slice_index, take}
 use Rattle.std.specs.List.{Contains}
@@ -33,30 +33,30 @@ AreSubfunctions order t ws = (p : ℕ) → slice_index ws p ≢ 0 →
 abbrev pub dependent : ℕ → ℕ
 dependent k = 2 ^ 2 ^ k - 2 ^ 2 ^ (k - 1)
 
--- a level has no more nodes: on the last three the functions that depend on its variable, else the ways to fix those above it
+-- the most nodes of a level: on the last three levels the functions that depend on its variable, else the ways to fix the variables above it
 abbrev pub most_on : ℕ → ℕ → ℕ → ℕ
 most_on inputs outputs level = if nat_lt (inputs - level) 4 then dependent (inputs - level) else outputs * 2 ^ level
 
--- nor have the levels above one
+-- the most nodes of the levels above a level, together
 abbrev pub most_above : ℕ → ℕ → ℕ → ℕ
 most_above inputs outputs zero = 0
 most_above inputs outputs (suc level) = most_above inputs outputs level + most_on inputs outputs level
 
--- nor have all
+-- the most nodes of all levels, together
 abbrev pub most_nodes : ℕ → ℕ → ℕ
 most_nodes inputs outputs = most_above inputs outputs inputs
 
--- the size of an order is no more than that
+-- the size of an order is at most `most_nodes`
 abbrev pub SizesAreFew : Type 0
 SizesAreFew = (n : ℕ) (F : List Function) (order : List ℕ) → IsOrder n order → size_under n F order ≤ most_nodes n (length F)
 
--- unequal nodes that denote subfunctions of their levels are no more than the order's size
+-- unequal nodes that denote subfunctions of their levels are at most as many as the order's size
 abbrev pub SubfunctionsAreFew : Type 0
 SubfunctionsAreFew = (order : List ℕ) (t : TruthTables) (ws : List ℕ) (count : ℕ) → IsOrder (length order) order →
     AreNodeWords (length order) ws → AreUnequal ws → AreSubfunctions order t ws →
     ((p : ℕ) → p < count → slice_index ws p ≢ 0) → count ≤ size_under (length order) (functions t) order
 
--- about half of a store's places
+-- `most_nodes` is at most 131,310, about half of a store's places
 abbrev pub MostNodesFit : Type 0
 MostNodesFit = (inputs outputs : ℕ) → inputs ≤ 16 → outputs ≤ 16 → most_nodes inputs outputs ≤ 131310
 
@@ -72,11 +72,11 @@ pub record IsOfSubfunction (s : Knowledge) (w : ℕ) : Type 0 where
   pub function : IsSubfunction (order_of s.store.plan) s.store.plan.problem.value level
       (branch (variable_at s.store.plan level) (function_in s low) (function_in s high))
 
--- the session, and those that it comes from, made no other nodes
+-- the session, and those that it was split or joined from, made only nodes of subfunctions
 abbrev pub MadeSubfunctions : Knowledge → Type 0
 MadeSubfunctions s = (w : ℕ) → Contains s.made w → IsOfSubfunction s w
 
--- from s to s' none was made
+-- from s to s' only nodes of subfunctions were made
 abbrev pub KeepsSubfunctions : Knowledge → Knowledge → Type 0
 KeepsSubfunctions s s' = MadeSubfunctions s → MadeSubfunctions s'
 

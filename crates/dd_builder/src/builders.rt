@@ -24,8 +24,9 @@ use std::thread::Threads;
 use truth_table::Tables;
 use unique_table::{CloseFault, Pieces, Session, Store};
 
-/// The reduced diagram of the store's functions. All parts are published already: the outputs are
-/// made of them and published, and the store is closed.
+/// Makes the outputs of their parts, publishes them, closes the store, and returns the reduced
+/// diagram of the store's functions. Requires all parts to be published, and `session` to know
+/// them.
 fn finish(
     alloc: Global,
     store: Store,
@@ -51,8 +52,9 @@ fn finish(
     }
 }
 
-/// Builds all parts by `count` workers, each in a thread of its own. Returns the session of each
-/// worker, by rising number of the worker, as an error if it met a full store.
+/// Builds and publishes all parts of the outputs by `count` workers, each in a thread of its own.
+/// Returns, by rising number of the worker, the session with which each worker ended: as `Err` if
+/// the worker met a full store.
 fn ends_of_workers<R: Threads + Sync, G: Gate>(
     crew: &Crew<'_, R, G>,
     alloc: Global,
@@ -86,8 +88,9 @@ fn ends_of_workers<R: Threads + Sync, G: Gate>(
     Ok(ended)
 }
 
-/// Builds all parts by workers that each have a thread, and returns a session that knows the parts.
-/// If a worker met a full store, the error has a session that knows the store to be full.
+/// Builds and publishes all parts of the outputs by the workers of `crew`, each in a thread of its
+/// own. Returns a session that knows all parts. If a worker met a full store, the error has a
+/// session that knows the store to be full.
 fn parts_by_workers<R: Threads + Sync, G: Gate>(
     crew: &Crew<'_, R, G>,
     alloc: Global,
@@ -116,8 +119,8 @@ fn parts_by_workers<R: Threads + Sync, G: Gate>(
     }
 }
 
-/// The reduced diagram of the store's functions: workers build the parts from the source, and the
-/// calling thread makes the outputs of them.
+/// Builds the reduced diagram of the store's functions: workers build the parts of the outputs from
+/// `source`, and the calling thread makes the outputs of the parts.
 fn build_in<R: Threads + Sync, G: Gate>(
     crew: &Crew<'_, R, G>,
     alloc: Global,
@@ -135,10 +138,11 @@ fn build_in<R: Threads + Sync, G: Gate>(
     finish(alloc, store, session, source)
 }
 
-/// The reduced diagram of the store's functions, from their truth tables, in the time of a search
-/// in the store for each output and point. Worker i, counted from 1, builds the parts whose number
-/// leaves i - 1 when divided by `workers`, and calls the gate before it publishes each. The calling
-/// thread makes the outputs. A fresh store is never full.
+/// Builds the reduced diagram of the store's functions from their truth tables. Takes one search in
+/// the store for each output and point. Worker i, counted from 1, builds the parts of outputs whose
+/// number leaves the remainder i - 1 when divided by `workers`, and calls the gate before it
+/// publishes each. The calling thread makes the outputs of the parts. If the store is empty at the
+/// start, it never gets full.
 pub fn from_tables<R: Threads + Sync, G: Gate>(
     rt: &R,
     alloc: Global,
@@ -158,10 +162,10 @@ pub fn from_tables<R: Threads + Sync, G: Gate>(
     build_in(&crew, alloc, store, session, Source::Tables(tables))
 }
 
-/// The reduced diagram of the store's functions, from the terms of a cover, each made once for each
-/// of its outputs and joined to the others by `apply`. Worker i, counted from 1, builds the parts
-/// whose number leaves i - 1 when divided by `workers`, and calls the gate before it publishes
-/// each. The calling thread makes the outputs.
+/// Builds the reduced diagram of the store's functions from the terms of a cover. Each term is made
+/// once for each of its outputs, and joined to the others by `apply`. Worker i, counted from 1,
+/// builds the parts of outputs whose number leaves the remainder i - 1 when divided by `workers`,
+/// and calls the gate before it publishes each. The calling thread makes the outputs of the parts.
 pub fn from_cover<R: Threads + Sync, G: Gate>(
     rt: &R,
     alloc: Global,
@@ -180,8 +184,8 @@ pub fn from_cover<R: Threads + Sync, G: Gate>(
     build_in(&crew, alloc, store, session, Source::Terms(cover.terms()))
 }
 
-/// An empty store for the functions of truth tables under an order, and its first session. Its
-/// parts are outputs with the top variables fixed.
+/// An empty store for the functions of truth tables under an order, and the store's first session.
+/// The parts of the store's outputs are outputs with the top variables fixed.
 pub fn tables_store(
     alloc: Global,
     tables: &Tables,
@@ -201,8 +205,8 @@ pub fn tables_store(
     )
 }
 
-/// An empty store for the functions of a cover under an order, and its first session. Its parts are
-/// disjunctions of terms. `tables` are the cover's truth tables.
+/// An empty store for the functions of a cover under an order, and the store's first session. The
+/// parts of the store's outputs are disjunctions of terms. `tables` are the cover's truth tables.
 pub fn cover_store(
     alloc: Global,
     cover: &Cover,
@@ -220,8 +224,8 @@ pub fn cover_store(
     Store::new(alloc, order.try_clone(alloc)?, tables.problem(), pieces)
 }
 
-/// The reduced diagram of the functions of some truth tables under an order, built from the tables
-/// in a store of its own, which is never full.
+/// Builds the reduced diagram, under `order`, of the functions of `tables`. It is built from the
+/// tables, in a store of its own, which never gets full.
 pub fn build_tables<R: Threads + Sync, G: Gate>(
     rt: &R,
     alloc: Global,
@@ -242,9 +246,10 @@ pub fn build_tables<R: Threads + Sync, G: Gate>(
     }
 }
 
-/// The reduced diagram of a cover's functions under an order, built from the cover's terms in the
-/// store `begun` with its session or, if that gets full, from the truth tables in a store of its
-/// own. `tables` are the cover's truth tables.
+/// Builds the reduced diagram of a cover's functions under `order`. It is built from the cover's
+/// terms in the store `begun`, an empty store with its first session. If this store gets full, the
+/// diagram is built anew from the truth tables, in another store. `tables` are the cover's truth
+/// tables.
 pub fn build_from<R: Threads + Sync, G: Gate>(
     crew: &Crew<'_, R, G>,
     alloc: Global,
@@ -274,14 +279,15 @@ pub fn build_from<R: Threads + Sync, G: Gate>(
 }
 
 /// Whether a diagram is built faster from the truth tables of a cover than from its terms: the
-/// cover has more than one term for 64 points. Each term takes nodes of the store that the diagram
-/// has no use for, and covers with somewhat more terms fill the store.
+/// cover has more terms than 2 ^ n / 64, for n inputs. Each term takes nodes of the store that the
+/// diagram has no use for, and covers with somewhat more terms fill the store.
 fn has_many_terms(cover: &Cover) -> bool {
     cover.terms().len() > (1usize << cover.inputs()) / 64
 }
 
-/// The reduced diagram of a cover's functions under an order: built from its truth tables `tables`
-/// if it has many terms, else from its terms and, if they fill a store, from its truth tables.
+/// Builds the reduced diagram of a cover's functions under `order`. If the cover has many terms, it
+/// is built from `tables`, the cover's truth tables. Else it is built from the terms or, if they
+/// fill a store, from the truth tables.
 pub fn build<R: Threads + Sync, G: Gate>(
     rt: &R,
     alloc: Global,

@@ -14,8 +14,9 @@ use crate::operations::apply;
 use order_model::{Term, contains};
 use unique_table::{NodeId, Operation, Session, Store, StoreFull, TERM_SHARES};
 
-/// The id of the conjunction of the function of `id`, which lies below `level`, and a term's
-/// literal of the level's variable. It is `id` itself if the term has no such literal.
+/// Makes the conjunction of the function of `id` and the term's literal of the variable of `level`,
+/// and returns its id: `id` itself if the term has no such literal. Requires `id` to lie below
+/// `level`.
 fn literal_and(
     store: &Store,
     session: &mut Session,
@@ -41,7 +42,8 @@ fn literal_and(
     }
 }
 
-/// The id of a term's function, the conjunction of its literals.
+/// Makes the nodes of a term's function, the conjunction of the term's literals, and returns the
+/// function's id.
 fn term_id(store: &Store, session: &mut Session, term: Term) -> Result<NodeId, StoreFull>
     requires session { session.old.store ≡ store.now }
     ensures { Makes session.old session.new result (matches (product_in store.now.plan term)) }
@@ -55,8 +57,8 @@ fn term_id(store: &Store, session: &mut Session, term: Term) -> Result<NodeId, S
     Ok(id)
 }
 
-/// The id of the disjunction of the function of `id` and of a term, if the term belongs to output
-/// `output`; else `id`.
+/// Makes the disjunction of the function of `id` and the term, if the term belongs to output
+/// `output`, and returns its id. Else returns `id` itself.
 fn or_term(
     store: &Store,
     session: &mut Session,
@@ -78,8 +80,8 @@ fn or_term(
     apply(store, session, Operation::Or, id, cube)
 }
 
-/// The id of the disjunction of those terms of output `output` whose number leaves `share` when
-/// divided by `TERM_SHARES`.
+/// Makes the disjunction of those terms of output `output` whose number leaves the remainder
+/// `share` when divided by `TERM_SHARES`, and returns its id.
 fn output_share(
     store: &Store,
     session: &mut Session,
@@ -104,8 +106,9 @@ fn output_share(
     Ok(id)
 }
 
-/// The id of part `piece` of the outputs by terms: the disjunction of those terms of output `piece
-/// / TERM_SHARES` whose number leaves `piece % TERM_SHARES` when divided by `TERM_SHARES`.
+/// Makes part `piece` of the outputs, for parts by terms, and returns its id. The part is the
+/// disjunction of those terms of output `piece / TERM_SHARES` whose number leaves the remainder
+/// `piece % TERM_SHARES` when divided by `TERM_SHARES`.
 pub(crate) fn terms_share(
     store: &Store,
     session: &mut Session,

@@ -1,4 +1,4 @@
-//! What holds of each store and order. Each law is the contract of a function.
+//! Laws of stores and orders. Each law is the contract of a function that does nothing.
 
 ghost use Rattle.std.specs.Prelude.{length};
 ghost use Rattle.definitions.specs.Orders.{IsOrder};
@@ -8,8 +8,9 @@ ghost use Rattle.dd_builder.specs.Subfunctions.{SizesAreFew, SubfunctionsAreFew,
 use order_model::Order;
 use unique_table::Store;
 
-/// A store's plan is sound: its numbers of places and pieces are as they should be, its order and
-/// its functions have the same variables, and its terms, if it has any, give its functions.
+/// A store's plan is sound: its numbers of places and pieces are those that belong to its order and
+/// functions, its order and its functions have the same variables, and its terms, if it has any,
+/// give its functions.
 pub(crate) fn stores_have_plans(store: &Store)
     ensures { IsPlan store.now.plan }
 {
@@ -23,8 +24,9 @@ pub(crate) fn orders_have_each_variable_once(order: &Order)
     let _variables = order.variables();
 }
 
-/// Unequal nodes that denote subfunctions on their levels are no more than the order's size, which
-/// is at most 131,310.
+/// Unequal nodes, each of which denotes a subfunction of the outputs on the level of its variable,
+/// are at most as many as the size of the order. For at most 16 inputs and 16 outputs this size is
+/// at most 131,310.
 pub fn subfunctions_are_few()
     ensures few { SubfunctionsAreFew }
     ensures sizes { SizesAreFew }

@@ -10,7 +10,7 @@ ghost use Rattle.dd_builder.specs.Operating.{AreOperands, IsFrom, IsSettled, IsC
 use op_cache::{recall, remember};
 use unique_table::{NodeId, Operation, Session, Store, StoreFull};
 
-/// The other operand if one of the two is `neutral`, else None.
+/// If one of the two operands is `neutral`, the other operand. Else None.
 fn beside_neutral(neutral: NodeId, first: NodeId, second: NodeId) -> Option<NodeId>
     ensures { result ≡ (if first == neutral then Some second
         else if second == neutral then Some first else None) }
@@ -24,7 +24,8 @@ fn beside_neutral(neutral: NodeId, first: NodeId, second: NodeId) -> Option<Node
     }
 }
 
-/// The id of the conjunction of two operands, if one is a terminal or both are equal; else None.
+/// The id of the conjunction of two operands, if one of them is a terminal or both are equal. Else
+/// None.
 fn terminal_case_of_and(first: NodeId, second: NodeId) -> Option<NodeId>
     ensures { IsSettled Operation.And first second result }
 {
@@ -37,7 +38,8 @@ fn terminal_case_of_and(first: NodeId, second: NodeId) -> Option<NodeId>
     }
 }
 
-/// The id of the disjunction of two operands, if one is a terminal or both are equal; else None.
+/// The id of the disjunction of two operands, if one of them is a terminal or both are equal. Else
+/// None.
 fn terminal_case_of_or(first: NodeId, second: NodeId) -> Option<NodeId>
     ensures { IsSettled Operation.Or first second result }
 {
@@ -50,8 +52,8 @@ fn terminal_case_of_or(first: NodeId, second: NodeId) -> Option<NodeId>
     }
 }
 
-/// The id of the exclusive disjunction of two operands, if one is the terminal 0 or both are equal;
-/// else None.
+/// The id of the exclusive disjunction of two operands, if one of them is the terminal 0 or both
+/// are equal. Else None.
 fn terminal_case_of_xor(first: NodeId, second: NodeId) -> Option<NodeId>
     ensures { IsSettled Operation.Xor first second result }
 {
@@ -62,8 +64,8 @@ fn terminal_case_of_xor(first: NodeId, second: NodeId) -> Option<NodeId>
     }
 }
 
-/// The id of the result of an operation on two ids. None if it doesn't follow without taking a node
-/// apart.
+/// The id of the result of `operation` on two ids, if it is known without looking at a node's
+/// children. Else None.
 fn terminal_case(operation: Operation, first: NodeId, second: NodeId) -> Option<NodeId>
     ensures { IsSettled operation first second result }
 {
@@ -74,7 +76,7 @@ fn terminal_case(operation: Operation, first: NodeId, second: NodeId) -> Option<
     }
 }
 
-/// The level of the node with id `id`. For a terminal it is the number of levels.
+/// Looks up the level of the node with id `id`. For a terminal it is the number of levels.
 fn level_of(store: &Store, session: &mut Session, id: NodeId) -> u8
     requires session { session.old.store ≡ store.now }
     requires known { Knows session.old id }
@@ -90,7 +92,8 @@ fn level_of(store: &Store, session: &mut Session, id: NodeId) -> u8
     }
 }
 
-/// The level of the higher one of two nodes, given by their ids. Not both ids are terminals.
+/// Looks up the level of the higher one of two nodes, given by their ids. Requires at least one of
+/// them not to be a terminal.
 fn top_level(store: &Store, session: &mut Session, first: NodeId, second: NodeId) -> u8
     requires session { session.old.store ≡ store.now }
     requires operands { AreOperands session.old first second }
@@ -104,8 +107,8 @@ fn top_level(store: &Store, session: &mut Session, first: NodeId, second: NodeId
     one.min(two)
 }
 
-/// The low and the high child of the node with id `id`, seen as one of `level`. If the node lies
-/// below this level, or is a terminal, both children are `id` itself.
+/// Looks up the low and the high child of the node with id `id`, seen as a node of `level`. If the
+/// node lies below this level, or is a terminal, both children are `id` itself.
 fn children(store: &Store, session: &mut Session, id: NodeId, level: u8) -> (NodeId, NodeId)
     requires session { session.old.store ≡ store.now }
     requires known { Knows session.old id }
@@ -131,8 +134,8 @@ struct Cut {
     second: (NodeId, NodeId),
 }
 
-/// Two ids, not both of which are terminals, seen as nodes of the higher one of their levels: this
-/// level, and the children of each.
+/// Sees two ids as nodes of the higher one of their levels, and returns this level and the children
+/// of each. Requires at least one of them not to be a terminal.
 fn take_apart(store: &Store, session: &mut Session, first: NodeId, second: NodeId) -> Cut
     requires session { session.old.store ≡ store.now }
     requires operands { AreOperands session.old first second }
@@ -154,7 +157,8 @@ fn take_apart(store: &Store, session: &mut Session, first: NodeId, second: NodeI
     }
 }
 
-/// The id of the result of an operation on two ids, which lie at level `from` or below it.
+/// Applies `operation` to the functions of two ids, and returns the id of the result. Requires both
+/// ids to lie at level `from` or below it.
 fn apply_from(
     store: &Store,
     session: &mut Session,
@@ -187,9 +191,10 @@ fn apply_from(
     Ok(id)
 }
 
-/// The id of the result of an operation on the functions of two ids (Bryant 1986, apply). It takes
-/// no memory. Each pair of nodes is worked on once for as long as the cache keeps its result. The
-/// id lies no higher than the higher operand, so it may be a child wherever both of them may.
+/// Applies `operation` to the functions of two ids (Bryant's apply), and returns the id of the
+/// result. Allocates no memory. Each pair of nodes is worked on once for as long as the cache keeps
+/// its result. The result lies no higher than the higher operand, so it may be a child wherever
+/// both operands may.
 pub fn apply(
     store: &Store,
     session: &mut Session,

@@ -1,4 +1,4 @@
-//! The parts of a store's functions.
+//! The parts of outputs, made from truth tables or terms.
 
 ghost use Rattle.std.specs.Prelude.{◌≡◌, ◌<◌, ◌≤◌, IfOk, OnErr};
 ghost use Rattle.unique_table.specs.Plans.{piece_function};
@@ -12,7 +12,7 @@ use order_model::Term;
 use truth_table::Tables;
 use unique_table::{NodeId, Session, Store, StoreFull};
 
-/// What a store's functions are given by.
+/// What the parts of a store's outputs are made from.
 #[derive(Clone, Copy)]
 pub(crate) enum Source<'a> {
     /// The truth tables of all functions.
@@ -21,7 +21,7 @@ pub(crate) enum Source<'a> {
     Terms(&'a [Term]),
 }
 
-/// The id of the function of part `piece`, made from the source.
+/// Makes the nodes of part `piece` from the source, and returns the id of its function.
 pub(crate) fn part(
     store: &Store,
     session: &mut Session,

@@ -16,7 +16,8 @@ use crate::parts::Source;
 use crate::tables::top_variables;
 use unique_table::{NodeId, Operation, Session, Store, StoreFull, TERM_SHARES};
 
-/// The id of part `piece`, which the session has seen published.
+/// Reads the published id of part `piece`. Requires the session to know that the parts are
+/// published.
 fn part_id(store: &Store, session: &mut Session, piece: usize) -> NodeId
     requires session { KnowsParts store.now session.old }
     requires piece { piece < store.now.plan.roots }
@@ -32,8 +33,9 @@ fn part_id(store: &Store, session: &mut Session, piece: usize) -> NodeId
     }
 }
 
-/// The id of output `output` with the variables above `level` fixed: the variable of level i to bit
-/// i of `path`. It is made of the parts, in which the variables on top are fixed.
+/// Makes output `output` with the variables above `level` fixed, that of level i to bit i of
+/// `path`, and returns its id. It is made of the published parts, in which the top variables are
+/// fixed.
 fn of_restrictions(
     store: &Store,
     session: &mut Session,
@@ -64,8 +66,8 @@ fn of_restrictions(
     store.make(session, level, low, high)
 }
 
-/// The id of the disjunction of `count` parts of output `output`, from its part `first` on: that of
-/// the first half of them and that of the second half.
+/// Makes the disjunction of `count` parts of output `output`, from its part `first` on, and returns
+/// its id. It is made of two disjunctions, of the first half of these parts and of the second half.
 fn of_shares(
     store: &Store,
     session: &mut Session,
@@ -92,7 +94,7 @@ fn of_shares(
     apply(store, session, Operation::Or, lower, upper)
 }
 
-/// The id of output `output`, made as the disjunction of all its parts by terms.
+/// Makes output `output` as the disjunction of all its parts by terms, and returns its id.
 fn of_all_shares(store: &Store, session: &mut Session, output: u8) -> Result<NodeId, StoreFull>
     requires session { KnowsParts store.now session.old }
     requires kind { AreOfTerms store.now.plan.kind }
@@ -103,7 +105,8 @@ fn of_all_shares(store: &Store, session: &mut Session, output: u8) -> Result<Nod
     of_shares(store, session, output, 0, TERM_SHARES)
 }
 
-/// The id of output `output`, made of its parts, which the source gives.
+/// Makes output `output` of its published parts, and returns its id. `source` says whether the
+/// parts are outputs with fixed variables or disjunctions of terms.
 fn root(
     store: &Store,
     session: &mut Session,
@@ -123,7 +126,8 @@ fn root(
     }
 }
 
-/// Makes the outputs of their published parts, and publishes them.
+/// Makes all outputs of their published parts, and publishes the outputs. `source` says whether the
+/// parts are outputs with fixed variables or disjunctions of terms.
 pub(crate) fn publish_roots(
     store: &Store,
     session: &mut Session,

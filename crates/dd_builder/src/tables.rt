@@ -33,13 +33,15 @@ fn point_of(order: &[VarIx], path: u32) -> u32
 struct Path {
     /// The level.
     level: u8,
-    /// The values: bit i is that of the variable of level i.
+    /// The values: bit i is the value of the variable of level i.
     bits: u32,
-    /// The point with these values, and 0 for the variables below. Bit x is that of variable x.
+    /// The point with these values, and 0 for the variables below. Bit x is the value of variable
+    /// x.
     point: u32,
 }
 
-/// The id of output `output` with the variables above the path's level fixed to the path's values.
+/// Makes the nodes of output `output` with the variables above the path's level fixed to the path's
+/// values, and returns the id of this function.
 fn output_below(
     store: &Store,
     session: &mut Session,
@@ -86,8 +88,9 @@ pub(crate) fn top_variables(order: &[VarIx]) -> u8
     if order.len() == 1 { 1 } else { 2 }
 }
 
-/// The id of part `piece` of the outputs by truth tables: output `piece / a` with the variables on
-/// top fixed to the bits of `piece % a`, where a is the number of their assignments.
+/// Makes part `piece` of the outputs, for parts by truth tables, and returns its id. The part is
+/// output `piece / a` with the variables on top fixed to the bits of `piece % a`, where a is the
+/// number of assignments to the variables on top.
 pub(crate) fn restriction(
     store: &Store,
     session: &mut Session,

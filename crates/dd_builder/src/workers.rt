@@ -1,4 +1,4 @@
-//! Workers that share the parts of a store's functions.
+//! Workers that share the work of building the parts of a store's outputs.
 
 ghost use Rattle.std.specs.Prelude.{◌≡◌, ◌-◌, ◌<◌, ◌≤◌, IfOk, vec_len};
 ghost use Rattle.unique_table.specs.Sessions.{Knowledge};
@@ -19,9 +19,10 @@ pub(crate) struct BuildJob {
     pub(crate) session: Session,
 }
 
-/// Builds and publishes the parts of worker number `worker`: those whose number leaves `worker - 1`
-/// when divided by `workers`, which is how many workers there are. Calls the gate before each is
-/// published. Returns the worker's session, as an error if it met a full store.
+/// Builds and publishes the parts of worker number `worker`, counted from 1: those whose number
+/// leaves the remainder `worker - 1` when divided by `workers`, the number of workers. Calls the
+/// gate before each is published. Returns the worker's session, as `Err` if the worker met a full
+/// store.
 pub(crate) fn build_parts<G: Gate>(
     store: &Store,
     mut session: Session,
@@ -49,7 +50,7 @@ pub(crate) fn build_parts<G: Gate>(
     Ok(session)
 }
 
-/// The jobs of `workers` workers, by rising number. The session is split among them.
+/// Splits a session among `workers` workers, and returns their jobs by rising number.
 pub(crate) fn jobs(
     alloc: Global,
     store: &Store,
@@ -78,7 +79,7 @@ pub(crate) fn jobs(
     Ok(jobs)
 }
 
-/// The session of a worker that has ended, and whether the worker met a full store.
+/// The session of a worker that has ended, and true if the worker met a full store.
 fn session_at_end(end: Result<Session, Session>) -> (Session, bool)
     ensures { IsOpened end result.0 result.1 }
 {
@@ -88,8 +89,8 @@ fn session_at_end(end: Result<Session, Session>) -> (Session, bool)
     }
 }
 
-/// Joins the sessions of all workers when they have ended: a session that knows what all of them
-/// know, as an error if one of them met a full store.
+/// Joins the sessions of all workers, after they have ended, to one that knows what all of them
+/// know. Returns it as `Err` if one of the workers met a full store.
 pub(crate) fn join_all(
     store: &Store,
     workers: u8,

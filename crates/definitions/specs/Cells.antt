@@ -1,4 +1,4 @@
--- Cells of sets of variables for a bound: a set's least cost, clipped if no order through it stays within the bound.
+-- Cells of sets of variables: the least cost and the best top of a set, or clipped, that is pruned, if no order through the set stays within the bound.
 --     is_within n F P r bound S      whether an order through S may have at most bound nodes, by the lower bound on the nodes above S
 --     cell_of n F P r bound mask, cell_cost n F P r bound mask      the cell (cost, variable) of a set; its cost, 0 for the empty set
 --     asked n r bound mask costs      the members of a set whose widths its cell takes
@@ -16,7 +16,7 @@ use Rattle.definitions.specs.LowerBounds.{nodes_above}
 use Rattle.definitions.specs.declared.limits.LowerBound.{LowerBound}
 use Rattle.definitions.specs.declared.limits.LowerBound.TheVariants.{Variables, Widths}
 
--- the first of some variables, and 0 of none
+-- the first variable of a list, or 0 if the list is empty
 abbrev pub first_of : List ℕ → ℕ
 first_of xs = slice_index xs 0
 
@@ -28,17 +28,17 @@ is_within n F P r bound S = is_lawful P S && nat_le (least n F P S + nodes_above
 unfoldable pub best_top : ℕ → List Function → List Pair → List ℕ → ℕ
 best_top n F P S = first_of (filter (λ x. nat_eq (least_with_top n F P S x) (least n F P S)) (tops P S))
 
--- the cell of a set that is not empty: within the bound its least cost and its best top, else one more than the bound and its smallest member
+-- the cell of a set that is not empty: its least cost and its best top if it is within the bound, else the bound plus 1 and its smallest member
 unfoldable pub cell_of : ℕ → List Function → List Pair → LowerBound → ℕ → ℕ → ℕ × ℕ
 cell_of n F P r bound mask =
     if is_within n F P r bound (members n mask) then (least n F P (members n mask), best_top n F P (members n mask))
     else (bound + 1, first_of (members n mask))
 
--- the cost of a set: its cell's, and 0 for the empty set
+-- the cost of a set: that of its cell, and 0 for the empty set
 unfoldable pub cell_cost : ℕ → List Function → List Pair → LowerBound → ℕ → ℕ → ℕ
 cell_cost n F P r bound mask = if nat_eq mask 0 then 0 else (cell_of n F P r bound mask).0
 
--- the members without which the cost is within the bound
+-- the candidates: the members x for which the cost of the set without x is at most the bound
 unfoldable pub candidates : ℕ → ℕ → ℕ → (ℕ → ℕ) → List ℕ
 candidates n bound mask costs = filter (λ x. nat_le (costs x) bound) (members n mask)
 
@@ -47,13 +47,13 @@ unfoldable pub asked : ℕ → LowerBound → ℕ → ℕ → (ℕ → ℕ) → 
 asked n Variables bound mask costs = candidates n bound mask costs
 asked n Widths bound mask costs = if nat_eq (length (candidates n bound mask costs)) 0 then [] else members n mask
 
--- the costs of the sets without one member, and for a lawful set the widths that its cell takes
+-- `costs x` is the cost of the set without its member x, and `widths x`, if the set is lawful and its cell takes it, is the width of x
 pub record AreForCell (n : ℕ) (F : List Function) (P : List Pair) (r : LowerBound) (bound mask : ℕ) (costs widths : ℕ → ℕ) : Type 0 where
   pub are_costs : (x : ℕ) → IsTrue (has (members n mask) x) → costs x ≡ cell_cost n F P r bound (mask - 2 ^ x)
   pub are_widths : IsTrue (is_lawful P (members n mask)) → (x : ℕ) → IsTrue (has (asked n r bound mask costs) x) →
       widths x ≡ width n F (without x (members n mask)) x
 
--- the least sum of cost and width over the candidates
+-- the least sum of `costs x` and `widths x` over the candidates x
 unfoldable pub least_sum : ℕ → ℕ → ℕ → (ℕ → ℕ) → (ℕ → ℕ) → ℕ
 least_sum n bound mask costs widths = least_of (map (λ x. costs x + widths x) (candidates n bound mask costs))
 
@@ -64,7 +64,7 @@ has_room n P bound left mask costs widths =
     && (not (nat_eq (length (candidates n bound mask costs)) 0)
     && nat_le (least_sum n bound mask costs widths + left) bound)
 
--- the cell of a set, from the lower bound on the nodes above it, and from the costs without one member and the widths
+-- the cell of a set, from the lower bound on the nodes above it, the costs of the set without one member, and the members' widths
 unfoldable pub cell_from : ℕ → List Pair → ℕ → ℕ → ℕ → (ℕ → ℕ) → (ℕ → ℕ) → ℕ × ℕ
 cell_from n P bound left mask costs widths =
     if has_room n P bound left mask costs widths then (
@@ -74,7 +74,7 @@ cell_from n P bound left mask costs widths =
     )
     else (bound + 1, first_of (members n mask))
 
--- x is a member within the bound whose sum of cost and width is least, and the first such one
+-- x is a candidate for which `costs x + widths x` is least, and the smallest such candidate
 pub record IsFirstLeast (S : List ℕ) (bound : ℕ) (costs widths : ℕ → ℕ) (x : ℕ) : Type 0 where
   pub member : IsTrue (has S x)
   pub affordable : costs x ≤ bound
@@ -87,14 +87,14 @@ IsReadFrom n F P r bound mask [] = mask ≡ 0
 IsReadFrom n F P r bound mask (x ∷ order) = IsTrue (has (members n mask) x) × (x ≡ (cell_of n F P r bound mask).1)
     × IsReadFrom n F P r bound (mask - 2 ^ x) order
 
--- no cell that is met on the way is clipped: each has the cost of the variables that are still to come
+-- no cell from which the order is read is clipped: each has the cost of the variables that are still to come in the order
 unfoldable pub AreUnclipped : ℕ → List Function → List Pair → LowerBound → ℕ → ℕ → List ℕ → Type 0
 AreUnclipped n F P r bound mask [] = Unit {0}
 AreUnclipped n F P r bound mask (x ∷ order) =
     ((cell_of n F P r bound mask).0 ≡ cost n F (x ∷ order)) × (cost n F (x ∷ order) ≤ bound)
     × AreUnclipped n F P r bound (mask - 2 ^ x) order
 
--- the members without which a lawful set is lawful, and its cost within the bound
+-- the members without which a lawful set stays lawful and has a cost of at most the bound
 unfoldable pub open_tops : ℕ → List Function → List Pair → LowerBound → ℕ → ℕ → List ℕ
 open_tops n F P r bound mask = filter
     (λ x. is_lawful P (members n mask) && nat_le (cell_cost n F P r bound (mask - 2 ^ x)) bound) (tops P (members n mask))

@@ -1,9 +1,9 @@
 -- Certificates that no order has fewer nodes, and the checker's verdict.
 --     Certificate, Cell      the parts of a certificate
---     lower_bound n F cert mask, set_value n F cert mask      a lower bound on the nodes above a set; the value that a certificate gives it
+--     lower_bound n F cert mask, set_value n F cert mask      a lower bound on the nodes above a set; the value that a certificate gives a set
 --     IsGood n F cert      what the checker accepts
---     Reason, Applies n F cert reason, IsFirstReason n F cert reason      why it is not good; the first reason that applies
---     certificate_of n F P order, IsCertOf n F P cert      the certificate that the tool writes
+--     Reason, Applies n F cert reason, IsFirstReason n F cert reason      why a certificate is not good; the first reason that applies
+--     certificate_of n F P order, IsCertOf n F P cert      the certificate that `minorder` writes
 use Rattle.std.specs.Prelude.{◌≡◌, ◌≢◌, ℕ, ◌+◌, ◌-◌, ◌^◌, ◌≤◌, ◌<◌, ◌&&◌, if◌then◌else◌, List, [], ◌∷◌, length, map, IsTrue, IsFalse, nat_eq, nat_lt}
 use Rattle.std.specs.List.{All, Contains, find, filter, sum, range_with_len}
 use Rattle.std.specs.Ordering.{nat_cmp}
@@ -37,7 +37,7 @@ pub record Certificate : Type 0 where
 unfoldable pub lower_bound : ℕ → List Function → Certificate → ℕ → ℕ
 lower_bound n F cert mask = if nat_eq cert.format 1 then 0 else essentials_outside n F (members n mask)
 
--- the value of a set: its listed cost; if it is unlisted, the total without the nodes above it; the total for all variables
+-- the value of a set: the total for the set of all variables; else its listed cost or, if it is not listed, the total less the lower bound above
 unfoldable pub set_value : ℕ → List Function → Certificate → ℕ → ℕ
 set_value n F cert mask =
     if nat_eq mask (2 ^ cert.inputs - 1) then cert.total
@@ -66,7 +66,7 @@ pub data Reason : Type 0 where
   Shape Order Pairs Levels Total Start CellTooBig : Reason
   Edge : (mask x : ℕ) → Reason
 
--- what each reason says
+-- what each reason states of a certificate
 abbrev pub Applies : ℕ → List Function → Certificate → Reason → Type 0
 Applies n F cert Shape = (cert.inputs ≡ n) × (cert.outputs ≡ length F) → ⊥
 Applies n F cert Order = IsOrder n cert.order → ⊥
@@ -96,8 +96,8 @@ pub record IsFirstReason (n : ℕ) (F : List Function) (cert : Certificate) (rea
   pub applies : Applies n F cert reason
   pub first : (other : Reason) → slice_cmp nat_cmp (rank_of other) (rank_of reason) ≡ Less → Applies n F cert other → ⊥
 
--- the sets that the tool lists, rising: the lawful ones, without that of all variables, whose least cost with one node for each essential
--- variable outside is below the total
+-- the sets that `minorder` lists, rising: the lawful sets but that of all variables for which the least cost plus one for each essential
+-- variable outside is less than the total
 unfoldable pub listed_masks : ℕ → List Function → List Pair → ℕ → List ℕ
 listed_masks n F P total =
     filter (λ mask. is_lawful P (members n mask)
@@ -108,7 +108,7 @@ listed_masks n F P total =
 unfoldable pub least_listed : ℕ → List Function → List Pair → ℕ → Cell
 least_listed n F P mask = record { mask = mask; cost = least n F P (members n mask) }
 
--- the certificate of an order, as the tool writes it
+-- the certificate of an order, as `minorder` writes it
 unfoldable pub certificate_of : ℕ → List Function → List Pair → List ℕ → Certificate
 certificate_of n F P order = record {
   format = 2;
@@ -121,7 +121,7 @@ certificate_of n F P order = record {
   cells = map (least_listed n F P) (listed_masks n F P (size_under n F order));
 }
 
--- the certificate that the tool writes: that of the first order that keeps the pairs and has the fewest nodes
+-- the certificate that `minorder` writes: that of the first order that keeps the pairs and has the fewest nodes
 pub record IsCertOf (n : ℕ) (F : List Function) (P : List Pair) (cert : Certificate) : Type 0 where
   pub first : IsFirstKeeping n F P cert.order
   pub parts : cert ≡ certificate_of n F P cert.order

@@ -3,7 +3,7 @@
 --     value nodes r p      the terminal at the end of p's path from a ref
 --     IsOrdered order d, IsOf n F d, IsReduced d      along the order; with a root for each function of F; without redundant, equal or unused nodes
 --     FewestKeeping n F P size, IsFirstKeeping n F P order      the fewest nodes under the orders that keep the pairs, and the first order that has them
---     Fewest n F size, IsFirst n F order      the same under any order
+--     Fewest n F size, IsFirst n F order      the fewest nodes under any order, and the first order that has them
 use Rattle.std.specs.Prelude.{◌≡◌, ◌≢◌, ℕ, zero, suc, Bool, false, if◌then◌else◌, List, [], length, ◌<◌, ◌≤◌, ◌⊎◌, slice_get, nat_eq}
 use Rattle.std.specs.List.{AllZip, All, Contains, count_by}
 use Rattle.std.specs.declared.option.Option.{Option}
@@ -23,11 +23,11 @@ pub record Graph : Type 0 where
   pub nodes : List Node
   pub roots : List Ref
 
--- the child of a node that a point takes: the high one if the variable is 1
+-- the child of a node on the path of a point: the high one if the point has 1 at the node's variable, else the low one
 abbrev pub child_at : Point → Node → Ref
 child_at p node = if bit p node.variable then node.high else node.low
 
--- the child at a place; if there is no node, terminal 0
+-- the child, on the path of a point, of a node; if there is no node, terminal 0
 unfoldable pub child_of : Point → Option Node → Ref
 child_of p None = Terminal false
 child_of p (Some node) = child_at p node
@@ -51,12 +51,12 @@ is_one (Place k) = false
 unfoldable pub value : List Node → Ref → Function
 value nodes r p = is_one (after (length nodes) nodes p r)
 
--- a terminal, or a place before k
+-- a ref is a terminal, or a place before k
 abbrev pub IsBefore : ℕ → Ref → Type 0
 IsBefore k (Terminal b) = Unit {0}
 IsBefore k (Place j) = j < k
 
--- what a diagram asks of the node at place k
+-- what a diagram requires of the node at place k
 pub record IsNodeAt (n k : ℕ) (node : Node) : Type 0 where
   pub variable : node.variable < n
   pub low : IsBefore k node.low
@@ -129,10 +129,10 @@ Fewest n F size = FewestKeeping n F [] size
 abbrev pub IsFirst : ℕ → List Function → List ℕ → Type 0
 IsFirst n F order = IsFirstKeeping n F [] order
 
--- how many of the nodes have the variable
+-- how many nodes of a list are nodes of the variable
 abbrev pub variable_count : List Node → ℕ → ℕ
 variable_count nodes x = count_by (λ (node : Node). nat_eq node.variable x) nodes
 
--- how many nodes have the variable
+-- how many nodes of a diagram are nodes of the variable
 unfoldable pub nodes_at : Graph → ℕ → ℕ
 nodes_at d x = variable_count d.nodes x

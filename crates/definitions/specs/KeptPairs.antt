@@ -32,7 +32,7 @@ pub record CanBeKept (n : ℕ) (P : List Pair) : Type 0 where
 abbrev pub HasBit : List ℕ → ℕ → ℕ → Type 0
 HasBit below a b = bit_at (slice_index below a) b ≡ 1
 
--- the masks speak of variables below n alone
+-- the masks stand for pairs of variables below n alone
 abbrev pub AreWithin : ℕ → List ℕ → Type 0
 AreWithin n below = (a b : ℕ) → HasBit below a b → (a < n) × (b < n)
 
@@ -41,7 +41,7 @@ pub record HoldsKept (n : ℕ) (below : List ℕ) : Type 0 where
   pub within : AreWithin n below
   pub kept : CanBeKept n (pairs_in n below)
 
--- the masks of later have, beside their own bits, those of mask k if they have bit k
+-- each mask of the second list is the mask of the first, joined with mask k if it has bit k
 abbrev pub IsJoined : List ℕ → ℕ → List ℕ → Type 0
 IsJoined below k later =
     (a : ℕ) → slice_index later a ≡ if bit_at (slice_index below a) k == 1

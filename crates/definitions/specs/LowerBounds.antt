@@ -1,10 +1,10 @@
 -- The lower bound on the nodes above a set of variables.
 --     functions_with n F x, functions_without n F x      the functions that depend on x, and the others
---     asked_by n F S x      the nodes above S that the width of its member x asks for
+--     asked_by n F S x      the nodes above S that the width of its member x requires
 --     nodes_above n F r S      the lower bound on the nodes above S
 --     support n f      the mask of the variables on which f depends
---     LowerBoundsOf, lower_bounds_with t r      what lower bounds are of: a problem, and the rule of the bound
---     HoldsLowerBounds t essential dependents others      what lower bounds are kept with
+--     LowerBoundsOf, lower_bounds_with t r      what determines lower bounds: a problem, and the rule of the bound
+--     HoldsLowerBounds t essential dependents others      the masks and counts from which lower bounds are computed
 --     AreMembersWidths t mask widths      the widths of the members of a mask
 use Rattle.std.specs.Prelude.{◌≡◌, ℕ, ◌+◌, ◌-◌, ◌<◌, ◌≤◌, not, max, IsTrue, List, length, map, slice_index}
 use Rattle.std.specs.List.{filter, fold}
@@ -19,11 +19,11 @@ use Rattle.definitions.specs.declared.limits.LowerBound.TheVariants.{Variables, 
 unfoldable pub functions_with : ℕ → List Function → ℕ → List Function
 functions_with n F x = filter (λ f. depends n f x) F
 
--- those that don't
+-- the functions that do not depend on x
 unfoldable pub functions_without : ℕ → List Function → ℕ → List Function
 functions_without n F x = filter (λ f. not (depends n f x)) F
 
--- the nodes above S that the width of its member x asks for: each node above leads to one more function that depends on x than it stands for,
+-- the nodes above S that the width of its member x requires: each node above leads to one more function that depends on x than it stands for,
 -- and a function that doesn't depend on x needs a node for each variable outside on which it depends
 unfoldable pub asked_by : ℕ → List Function → List ℕ → ℕ → ℕ
 asked_by n F S x = (width n F (without x S) x - length (functions_with n F x)) + essentials_outside n (functions_without n F x) S

@@ -15,7 +15,7 @@ use Rattle.definitions.specs.KeptPairs.{KeptPairs, HasBit, HasNoCycle}
 unfoldable pub variable_of : List ℕ → Option ℕ
 variable_of word = find (λ k. same word (decimal k)) (variables 16)
 
--- the pair of two numbers
+-- the pair of two numbers, if there are both
 abbrev pub both : Option ℕ → Option ℕ → Option Pair
 both (Some a) (Some b) = Some (a, b)
 both _ _ = None
@@ -24,7 +24,7 @@ both _ _ = None
 abbrev pub pair_of : List ℕ → Option Pair
 pair_of part = both (variable_of (before_first (λ b. b == 44) part)) (variable_of (after_first (λ b. b == 44) part))
 
--- one pair more
+-- a list of pairs with one more pair in front, if there are both
 abbrev pub with_pair : Option Pair → Option (List Pair) → Option (List Pair)
 with_pair (Some p) (Some P) = Some (p ∷ P)
 with_pair _ _ = None

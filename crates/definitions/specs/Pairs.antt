@@ -37,7 +37,7 @@ Keeps P order = IsTrue (keeps P order)
 unfoldable pub is_lawful : List Pair → List ℕ → Bool
 is_lawful P S = list_all (λ (p : Pair). not (has S p.0) || has S p.1) P
 
--- the members that may stand on top of a lawful S: without one of them it is lawful, still
+-- the members that may stand on top of a lawful S: those without which S stays lawful
 abbrev pub tops : List Pair → List ℕ → List ℕ
 tops P S = filter (λ x. is_lawful P (without x S)) S
 
@@ -52,7 +52,7 @@ pub record IsFirstOrder (n : ℕ) (P : List Pair) (order : List ℕ) : Type 0 wh
   pub kept : Keeps P order
   pub first : (other : List ℕ) → IsOrder n other → Keeps P other → slice_cmp nat_cmp order other ≢ Greater
 
--- an order read off the pairs, from a set downward: next from the top stands the smallest variable without which the set is lawful, still
+-- an order read off the pairs: the smallest member without which the set stays lawful comes next from the top, and leaves the set
 unfoldable pub IsGreedy : ℕ → List Pair → ℕ → List ℕ → Type 0
 IsGreedy n P mask [] = mask ≡ 0
 IsGreedy n P mask (x ∷ order) =

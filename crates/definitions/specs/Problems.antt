@@ -1,5 +1,5 @@
 -- Problems: the truth tables of some functions of the same variables.
---     TruthTables, functions t, outputs_of t      a problem's value; its functions; how many there are
+--     TruthTables, functions t, outputs_of t      the value of a problem; its functions; how many functions it has
 --     table_at t j, value_at t j k      function j's table and values
 --     words_per_table n, packed_bit words k, table_in n words, tables_of n m words      truth tables packed in words of 64 points
 --     IsClean n words, IsPacked n m words      nothing stands after the last point; words of m truth tables of n variables
@@ -49,7 +49,7 @@ words_of size words j = take size (drop (j * size) words)
 unfoldable pub tables_of : ℕ → ℕ → List ℕ → List (List Bool)
 tables_of n m words = map (λ j. table_in n (words_of (words_per_table n) words j)) (range_with_len 0 m)
 
--- each word has no bit from that of the last point on
+-- in each word the bits past the last point are 0
 abbrev pub IsClean : ℕ → List ℕ → Type 0
 IsClean n words = (i b : ℕ) → i < length words → 2 ^ n ≤ b → bit_at (slice_index words i) b ≡ 0
 

@@ -1,6 +1,6 @@
 -- Product terms and the functions of a list of them (espresso(5), logical type f).
---     Product      a product term: for each input the value that it asks for, if any, and for each output whether it belongs to its ON-set
---     matches product p      whether a point has all the values that a product asks for
+--     Product      a product term: for each input its literal, if any, and for each output whether the product belongs to its ON-set
+--     matches product p      whether all literals of a product hold at a point
 --     product_function products j, product_functions m products      output j: 1 if some product of its ON-set matches; the outputs' functions
 --     product_of n m term      the product that the program's masks stand for
 use Rattle.std.specs.Prelude.{ℕ, Bool, true, if◌then◌else◌, ◌&&◌, ◌==◌, List, map, Option, Some, None}
@@ -10,7 +10,7 @@ use Rattle.std.specs.Bool.{beq}
 use Rattle.definitions.specs.declared.terms.Term.{Term}
 use Rattle.definitions.specs.Functions.{Point, Function, bit}
 
--- a product term: for each input the value that it asks for, if any, and for each output whether the product belongs to its ON-set
+-- a product term: for each input the value that its literal requires, if it has one, and for each output whether the product belongs to its ON-set
 pub record Product : Type 0 where
   pub literals : List (Option Bool)
   pub outputs : List Bool
@@ -36,7 +36,7 @@ product_function products j p = list_any (λ product. matches product p && has_o
 unfoldable pub product_functions : ℕ → List Product → List Function
 product_functions m products = map (product_function products) (range_with_len 0 m)
 
--- the literal of input i: a term asks for a value if its mask `care` has the bit
+-- the literal of input i: a term has one if its mask `care` has the bit
 abbrev pub literal_in : Term → ℕ → Option Bool
 literal_in term i = if bit_at term.care i == 1 then Some (bit_at term.value i == 1) else None
 

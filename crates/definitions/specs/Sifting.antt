@@ -1,9 +1,9 @@
 -- Sifting (Rudell 1993): each variable once goes to its uppermost place of least size that keeps the pairs.
 --     moved order x i, placements order x      the order with x put at place i, and at each place
 --     best n F P order x      the order with x at the uppermost place of least size that keeps the pairs
---     IsBestPlace n F P order x i      which place that is
+--     IsBestPlace n F P order x i      i is the uppermost place of least size for x that keeps the pairs
 --     sifting_order n F order      the variables by falling level count, ties by smaller index
---     IsSiftingOrder n F order xs      what that says of two variables
+--     IsSiftingOrder n F order xs      xs has the variables by falling level count, ties by smaller index
 --     sifted n F P order      best applied to each variable once
 use Rattle.std.specs.Prelude.{◌≡◌, ℕ, ◌<◌, ◌≤◌, if◌then◌else◌, List, [], ◌∷◌, length, map, nat_lt}
 use Rattle.std.specs.List.{filter, fold, insert, range_with_len}
@@ -20,11 +20,11 @@ moved order x i = insert (without x order) i x
 unfoldable pub placements : List ℕ → ℕ → List (List ℕ)
 placements order x = map (λ i. moved order x i) (range_with_len 0 (length order))
 
--- the first of the orders that has the least size
+-- of a first order and others, the first one that has the least size
 unfoldable pub smallest_order : ℕ → List Function → List ℕ → List (List ℕ) → List ℕ
 smallest_order n F first others = fold (λ a b. if nat_lt (size_under n F b) (size_under n F a) then b else a) first others
 
--- the same of a list, and the order itself if the list is empty
+-- the first order of least size in a list, or the given order if the list is empty
 unfoldable pub smallest_of : ℕ → List Function → List ℕ → List (List ℕ) → List ℕ
 smallest_of n F order [] = order
 smallest_of n F order (first ∷ others) = smallest_order n F first others
@@ -46,7 +46,7 @@ pub record IsBestPlace (n : ℕ) (F : List Function) (P : List Pair) (order : Li
 abbrev pub count_at : ℕ → List Function → List ℕ → ℕ → ℕ
 count_at n F order x = level_count n F order (place_in order x)
 
--- x into a list by falling count, after those of the same count
+-- inserts x into a list by falling count, after the variables of equal count
 unfoldable pub insert_by_count : (ℕ → ℕ) → ℕ → List ℕ → List ℕ
 insert_by_count count x [] = x ∷ []
 insert_by_count count x (y ∷ ys) =

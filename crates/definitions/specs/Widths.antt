@@ -30,7 +30,7 @@ unfoldable pub arrangements : ℕ → List ℕ → List (List ℕ)
 arrangements zero S = [] ∷ []
 arrangements (suc k) S = flat_map (λ x. map (λ xs. x ∷ xs) (arrangements k (without x S))) S
 
--- the least of the numbers, and 0 of none
+-- the least of some numbers, or 0 if there are none
 unfoldable pub least_of : List ℕ → ℕ
 least_of [] = 0
 least_of (c ∷ cs) = fold min c cs
@@ -47,7 +47,7 @@ least_with_top n F P S x = least n F P (without x S) + width n F (without x S) x
 unfoldable pub essential : ℕ → List Function → List ℕ
 essential n F = filter (λ x. list_any (λ f. depends n f x) F) (variables n)
 
--- their mask
+-- the mask of the essential variables
 unfoldable pub essential_mask : ℕ → List Function → ℕ
 essential_mask n F = mask_of (essential n F)
 
@@ -78,7 +78,7 @@ class_pair n F T x g = (
   class_of (entries n F T) (table n (restrict x true g)),
 )
 
--- how many distinct pairs of unequal classes the functions over T and x have
+-- how many distinct pairs of unequal classes the functions over T and x have: of each function, the classes of its two restrictions by x
 unfoldable pub unequal_pairs : ℕ → List Function → List ℕ → ℕ → ℕ
 unequal_pairs n F T x = distinct_count same_pair
     (filter (λ (p : ℕ × ℕ). not (nat_eq p.0 p.1)) (map (class_pair n F T x) (reach F (outside n (x ∷ T)))))

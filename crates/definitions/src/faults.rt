@@ -1,4 +1,4 @@
-//! Why lists are no orders, and texts no pairs that an order can keep.
+//! Why a list of variables is no order, and why pairs are refused.
 
 use crate::variables::VarIx;
 use thiserror::Error;
@@ -18,8 +18,8 @@ pub enum BadOrder {
     OutOfMemory,
 }
 
-/// Why pairs (a, b) are refused, each of which asks that a stand above b. If several faults hold,
-/// the first one in this list is reported.
+/// Why pairs are refused. A pair (a, b) requires that a stand above b. If several faults hold, the
+/// first one in this list is reported.
 #[derive(Clone, Copy, Debug, PartialEq, Eq, Error)]
 pub enum PairsFault {
     /// In a text such as `2,0:1,0` a part between colons isn't two decimals from 0 to 15, without

@@ -8,7 +8,7 @@ mod problem;
 mod terms;
 mod variables;
 
-// Nodes, listed sets, what prunes a search, and faults.
+// Nodes, sets that certificates list, what prunes a search, and why orders and pairs are refused.
 mod faults;
 mod limits;
 mod listed_cells;

@@ -6,8 +6,10 @@
 pub enum LowerBound {
     /// One node for each variable outside the set on which some function depends.
     Variables,
-    /// The bound by `Variables`, or the largest number of nodes that the width of a member
-    /// requires, if this is larger (docs/DEFINITIONS.md, "Cells").
+    /// The maximum of the bound by `Variables` and, over the members x of the set, of max(0, w(x) -
+    /// d(x)) + e(x). Here w(x) is the width of x over the other members, d(x) is the number of
+    /// functions that depend on x, and e(x) is the number of variables outside the set on which
+    /// some function depends that doesn't depend on x.
     Widths,
 }
 

@@ -2,7 +2,7 @@
 
 use crate::variables::Mask;
 
-/// A set that a certificate lists, with the cost that it states for the set.
+/// A set that a certificate lists, with the cost that the certificate states for the set.
 #[derive(Clone, Copy, Debug, PartialEq, Eq)]
 pub struct ListedCell {
     pub mask: Mask,

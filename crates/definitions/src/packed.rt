@@ -17,8 +17,8 @@ pub fn words_per_table(n: u8) -> usize
     ((1usize << n) + 63) / 64
 }
 
-/// The words of table number `table`, counted from 0. `words` has tables of `size` words, one after
-/// the other.
+/// The words of table number `table`, counted from 0. `words` has the tables one after the other,
+/// each of `size` words.
 pub fn block(words: &[u64], size: usize, table: usize) -> &[u64]
     requires { table * size + size ≤ length words.now }
     ensures { result.now ≡ words_of size words.now table }
@@ -36,8 +36,8 @@ pub fn bit_of(words: &[u64], point: usize) -> bool
     (words[point / 64] >> (point % 64)) & 1 == 1
 }
 
-/// The points of a word at which variable x, below 6, is 0: bit b of the result is 1 if bit x of b
-/// is 0.
+/// A mask of the points of a word of 64 points at which variable x is 0: bit b of the result is 1
+/// if bit x of b is 0. Requires x to be below 6.
 pub fn lower_half(x: VarIx) -> u64
     requires { x < 6 }
     ensures { (b : ℕ) → b < 64 → bit_at result b ≡ 1 - bit_at b x }
@@ -52,8 +52,9 @@ pub fn lower_half(x: VarIx) -> u64
     }
 }
 
-/// Whether a word has different values at some two of its points that differ in variable x alone. x
-/// is below 6.
+/// Whether a function depends on variable x within one word of its packed truth table: whether two
+/// of the word's 64 points that differ in variable x alone have different values. Requires x to be
+/// below 6.
 fn halves_differ(word: u64, x: VarIx) -> bool
     requires { x < 6 }
     ensures differ { IsTrue result →
@@ -65,8 +66,8 @@ fn halves_differ(word: u64, x: VarIx) -> bool
     ((word >> (1u32 << x)) ^ word) & lower_half(x) != 0
 }
 
-/// Whether some two words of a packed truth table differ whose indexes differ in bit r alone. The
-/// function then depends on variable r + 6.
+/// Whether a function depends on variable r + 6: whether two words of its packed truth table differ
+/// whose indexes differ in bit `r` alone.
 fn rows_differ(words: &[u64], r: u8) -> bool
     requires few { length words.now ≤ 1024 }
     requires small { r < 10 }

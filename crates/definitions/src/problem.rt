@@ -50,7 +50,7 @@ impl Problem {
     }
 
     /// The problem of `inputs` variables and `outputs` functions whose packed truth tables stand
-    /// one after the other in `words`. Bits past a table's last point are 0.
+    /// one after the other in `words`. Requires the bits past a table's last point to be 0.
     pub fn from_words(inputs: u8, outputs: u8, words: Vec<u64>) -> Problem
         requires { IsPacked inputs outputs words.items }
         ensures { result ≡ packed_tables inputs outputs words.items }
@@ -80,7 +80,8 @@ impl Problem {
         self.outputs
     }
 
-    /// The value of function `output` at a point. Bit x of `point` is the value of variable x.
+    /// The value of function `output`, counted from 0, at a point. Bit x of `point` is the value of
+    /// variable x.
     pub fn value(&self, output: u8, point: u32) -> bool
         requires output { output < outputs_of self.now }
         requires point { point < 2 ^ self.now.inputs }
@@ -89,8 +90,8 @@ impl Problem {
         bit_of(self.words(output), point as usize)
     }
 
-    /// Sets the value of function `output` at a point to 1. Bit x of `point` is the value of
-    /// variable x.
+    /// Sets the value of function `output`, counted from 0, at a point to 1. Bit x of `point` is
+    /// the value of variable x.
     pub fn set(&mut self, output: u8, point: u32)
         requires output { output < outputs_of self.old }
         requires point { point < 2 ^ self.old.inputs }

@@ -2,7 +2,8 @@
 
 use crate::variables::VarIx;
 
-/// A child of a node or a root: a terminal, or the place of a node in its diagram's list.
+/// What a child of a node, or a root of a diagram, refers to: a terminal, or the place of a node in
+/// the diagram's list of nodes.
 #[derive(Clone, Copy, Debug, PartialEq, Eq)]
 pub enum Ref {
     Terminal(bool),

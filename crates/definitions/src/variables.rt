@@ -15,7 +15,7 @@ pub type Mask = u16;
 /// the set without x.
 pub type WidthRow = [u32; 16];
 
-/// Whether variable x is in a set.
+/// Whether variable x is in `set`.
 #[inline(always)]
 pub fn contains(set: Mask, x: VarIx) -> bool
     requires { x < 16 }
@@ -57,7 +57,7 @@ impl Model for Workers {
 }
 
 impl Workers {
-    /// `count` workers. None if this is not from 1 to 64.
+    /// `count` workers. None if `count` is not from 1 to 64.
     pub fn new(count: u8) -> Option<Workers>
         ensures some { IsSome result ↔ ((1 ≤ count) × (count ≤ 64)) }
         ensures value { IfSome result (λ w. w ≡ count) }

@@ -9,7 +9,7 @@ use Rattle.layer_board.specs.Invariant.{IsCellAt, IsCellWord, cell_in, cell_word
 abbrev pub closed_board : closed.Inside → ClosedBoardOf
 closed_board c = record { brief = c.board.value.brief; cells = map cell_in (cell_words (slots_items c.closed.words)) }
 
--- each mask has a place for its cell, and each word that isn't 0 is that of its mask's cell
+-- each mask has a word for its cell, and each such word that isn't 0 is that of the mask's cell
 pub record IsClosedBoard (c : closed.Inside) : Type 0 where
   pub layer : c.layer ≡ c.board.value.brief.layer
   pub few : length (masks_of c.layer) ≤ 2 ^ 16

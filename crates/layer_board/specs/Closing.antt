@@ -1,8 +1,8 @@
--- What a closed board lacks, and what a refused close tells.
+-- The cells that a closed board lacks, and what follows from a refused close.
 --     IsLeastEmptyMask c mask      the least mask whose cell is empty
---     IsLastState b w s, IsFinalBoard seat c      states and cells that a board may end with, if a seat knows what it knows
+--     IsLastState b w s, IsFinalBoard seat c      states and cells that a board may end with, which agree with what a seat knows
 --     IsMissingMask seat mask      a mask that is missing, as a seat knows it
---     OneMissesTheLeast      what that is on a board of one worker
+--     OneMissesTheLeast      on a board of one worker, the missing mask is the least whose cell the worker doesn't know to be filled
 use Rattle.std.specs.Prelude.{◌≡◌, ◌≢◌, ℕ, ◌<◌, ◌≤◌, true, false, length, slice_index, slice_index_or, slice_get, Some, None}
 use mathlib.Core.Option.{some}
 use lib.ListN.{get_elem?}

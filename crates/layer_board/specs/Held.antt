@@ -28,7 +28,7 @@ seat_shown s =
       writes = (view_of s).writes;
     }
 
--- the seat's own marks are what its view says
+-- the marks that a seat stores are those of its view
 pub record IsBoardSeat (s : seat.Inside) : Type 0 where
   pub claims : s.claims.items ≡ (view_of s).worker.claims
   pub ended : s.ended ≡ (view_of s).worker.ended

@@ -2,7 +2,7 @@
 --     cell_in n, word_of c, IsCellWord n      the cell that a word stands for; the word of a cell; whether n is the word of some cell
 --     state_shown l words views      the state that words and seats show: word 0 is the counter, word p + 1 the cell of the mask at place p
 --     Kept b s      the rule
---     claims, posts, reads      what a step tells its seat
+--     claims, posts, reads      what a seat learns by a step
 --     shows b s, claim_reply, post_reply, read_reply      the state that a table shows, and the machine's replies
 use Rattle.std.specs.Prelude.{◌≡◌, ◌≢◌, ℕ, ◌+◌, ◌-◌, ◌*◌, ◌/◌, ◌%◌, ◌^◌, ◌<◌, ◌≤◌, true, false, if◌then◌else◌, nat_eq, nat_lt, List, [], ◌∷◌, map, length, slice_index, Option, Some, None}
 use mathlib.Core.Option.{some}
@@ -65,27 +65,27 @@ one_left v = record v { seats = v.seats - 1 }
 abbrev pub Sat : Type 0
 Sat = Me (Unit {0}) SeatView
 
--- of a claim, that found the counter n
+-- the step of a claim that found the count n
 abbrev pub claims : Step (Unit {0}) → Sat → ℕ → Sat → Type 0
 claims st m n m' =
     (n < length (blocks_of m.0.brief.layer) →
     (m' ≡ (after m.0 (claims_block m.0.worker n) 1, m.1)) × ((q : ℕ) → claimed m.0.worker q ≡ true → q < n))
     × (length (blocks_of m.0.brief.layer) ≤ n → m' ≡ (after m.0 (ends m.0.worker) 1, m.1))
 
--- of a post at the place p, that found n there
+-- the step of a post at the place p that found the word n there
 abbrev pub posts_at : ℕ → Sat → ℕ → Sat → Type 0
 posts_at p m n m' =
     (n ≡ 0 → m' ≡ (after m.0 (learns m.0.worker p) 1, m.1))
     × (n ≢ 0 → (m' ≡ (after m.0 m.0.worker 0, m.1)) × (knows m.0.worker p ≡ true))
 
--- of a read at the place p, that found n there
+-- the step of a read at the place p that found the word n there
 abbrev pub reads_at : ℕ → Sat → ℕ → Sat → Type 0
 reads_at p m n m' =
     (n ≡ 0 → (m' ≡ (after m.0 m.0.worker 0, m.1)) × (knows m.0.worker p ≡ false))
     × (n ≢ 0 → (m' ≡ (after m.0 (learns m.0.worker p) 0, m.1)) × IsCellWord n
     × ((n / 32 - 1, n % 32) ≡ cell_for m.0.brief.instance (slice_index (masks_of m.0.brief.layer) p)))
 
--- the word of the place p is p + 1
+-- steps of posts and reads; the cell at place p of the layer is word p + 1
 abbrev pub posts : Step (Unit {0}) → Sat → ℕ → Sat → Type 0
 posts st = posts_at (st.word - 1)
 
@@ -96,7 +96,7 @@ reads st = reads_at (st.word - 1)
 abbrev pub shows : BriefOf → State (Unit {0}) SeatView → World
 shows b s = state_shown b.layer s.words s.views
 
--- the machine's reply to a claim that found the counter n, to a post that found the word n, and to a read that found it
+-- the machine's reply to a claim that found the count n, to a post that found the word n, and to a read that found the word n
 abbrev pub claim_reply : ℕ → ℕ → Reply
 claim_reply blocks n = if nat_lt n blocks then Claimed n else NoMore
 

@@ -7,21 +7,21 @@ use Rattle.layer_board.specs.declared.closed.CloseError.TheVariants.{Missing, Ou
 use Rattle.layer_board.specs.Views.{ClosedBoardOf, SeatOf, stepped, has_claimed, knows_filled}
 use Rattle.layer_board.specs.Closing.{IsLeastEmptyMask, IsFinalBoard, IsMissingMask}
 
--- a post for a mask: the seat did not claim it, and stays; or it knew the cell to be filled, and took a step
+-- why a post for a mask is refused: the seat did not claim the mask's block, and is unchanged; or the cell was filled, and the seat made a step
 abbrev pub RefusesPost : SeatOf → ℕ → SeatOf → PostRefused → Type 0
 RefusesPost s mask s' Stranger = (has_claimed s mask ≡ false) × (s' ≡ s)
 RefusesPost s mask s' Double = (has_claimed s mask ≡ true) × (knows_filled s mask ≡ true) × (s' ≡ stepped s s.worker 0)
 
--- a close with a seat: the least empty mask, or out of memory
+-- why a close with a seat is refused: the least mask whose cell is empty, which the seat didn't know to be filled, or out of memory
 abbrev pub LacksMask : SeatOf → CloseError → Type 0
 LacksMask s (Missing mask) = IsMissingMask s mask
 LacksMask s OutOfMemory = Unit {0}
 
--- cells as a closed board has them: the least mask whose cell is empty, or out of memory
+-- why a closed board gives no cells: the least mask whose cell is empty, or out of memory
 abbrev pub LacksCell : ClosedBoardOf → CloseError → Type 0
 LacksCell c (Missing mask) = IsLeastEmptyMask c mask
 LacksCell c OutOfMemory = Unit {0}
 
--- what the last cells lack is missing to a seat
+-- the least mask whose cell the last cells lack is missing to the seat
 abbrev pub SeatsLackWhatIsEmpty : Type 0
 SeatsLackWhatIsEmpty = (seat : SeatOf) (c : ClosedBoardOf) (error : CloseError) → IsFinalBoard seat c → LacksCell c error → LacksMask seat error

@@ -51,7 +51,7 @@ pub record ClosedBoardOf : Type 0 where
   pub brief : BriefOf
   pub cells : List (Option (ℕ × ℕ))
 
--- a worker's seat: its board, what it claimed, knows to be filled and was told, and how many steps and writes it made
+-- a worker's seat: its board, the blocks that it claimed, the cells that it knows to be filled, and how many steps and writes it made
 pub record SeatOf : Type 0 where
   pub board : BoardId
   pub worker : Worker
@@ -100,7 +100,7 @@ learns_place w (Some p) = learns w p
 abbrev pub learned : SeatOf → ℕ → ℕ → SeatOf
 learned s mask wrote = stepped s (learns_place s.worker (place_of (layout_of s.board.brief.layer) mask)) wrote
 
--- a seat after a claim that finds no block: a seat that was told so before takes no step
+-- a seat after a claim that finds no block: a seat that found none before makes no step
 abbrev pub no_more : SeatOf → SeatOf
 no_more s = if s.worker.ended then s else stepped s (ends s.worker) 1
 
@@ -108,7 +108,7 @@ abbrev pub found_empty_at : SeatOf → Option ℕ → SeatOf
 found_empty_at s None = s
 found_empty_at s (Some p) = stepped s s.worker 0
 
--- a seat after it read a mask and found no cell: it takes no step if the mask is not in the layer
+-- a seat after it read a mask and found no cell: it makes no step if the mask is not in the layer
 abbrev pub found_empty : SeatOf → ℕ → SeatOf
 found_empty s mask = found_empty_at s (place_of (layout_of s.board.brief.layer) mask)
 

@@ -6,7 +6,9 @@ ghost use Rattle.layer_board.specs.Views.{fresh};
 use crate::views::{Brief, Knowledge};
 use atomic_table::{Play, Split, TableRule};
 
-/// The invariant of a board's words and seats: they show a right state of the layer's machine.
+/// The invariant of a board's words and seats: they show a right state of the layer's machine. In a
+/// right state each filled cell is the one that the definition gives its mask, and each block that
+/// was handed out is claimed by exactly one worker.
 pub struct BoardRule;
 
 impl TableRule<(), Knowledge, Brief> for BoardRule {
@@ -15,24 +17,26 @@ impl TableRule<(), Knowledge, Brief> for BoardRule {
     ghost first = { first_view };
 }
 
-/// The step of a claim, at the counter. The seat gains the block whose place is the count that it
-/// found, or learns that no block is left.
+/// The atomic step of a claim, which adds 1 to the count of claims. The seat gains the block whose
+/// place is the count before the step, or learns that no block is left.
 pub(crate) struct Claims;
 
 impl Play<(), Knowledge> for Claims {
     ghost then = { claims };
 }
 
-/// The step of a post, at the word of a cell. An empty word takes the cell, and the seat learns
-/// that it is filled. A filled word stays as it is, and the seat knew that it was filled.
+/// The atomic step of a post, at the word of a cell. If the word is empty it takes the cell, and
+/// the seat learns that the cell is filled. If it is filled it stays as it is, and the seat already
+/// knew.
 pub(crate) struct Posts;
 
 impl Play<(), Knowledge> for Posts {
     ghost then = { posts };
 }
 
-/// The step of a read, at the word of a cell. A filled word has the right cell, and the seat learns
-/// that it is filled. An empty word is none that the seat knew to be filled.
+/// The atomic step of a read, at the word of a cell. If the word is filled it has the right cell,
+/// and the seat learns that the cell is filled. If it is empty, the seat didn't know the cell to be
+/// filled.
 pub(crate) struct Reads;
 
 impl Play<(), Knowledge> for Reads {

@@ -22,10 +22,11 @@ use std::marker::Model;
 use std::snapshot::Snapshot;
 use subset_layers::{Cell, Layer};
 
-/// Why a cell is refused.
+/// Why a posted cell is refused.
 #[derive(Clone, Copy, Debug, PartialEq, Eq)]
 pub enum PostRefused {
-    /// The mask is not in the layer, or the seat did not claim its block. No step is taken.
+    /// The mask of the cell is not in the layer, or the seat did not claim the mask's block. No
+    /// atomic step is made.
     Stranger,
     /// The cell was filled before.
     Double,
@@ -34,7 +35,7 @@ pub enum PostRefused {
 /// The cells of a layer. Threads claim the layer's blocks and fill the cells.
 #[derive(Drop)]
 pub struct Board {
-    /// The words that all seats share: the count of claims, and then one for each cell.
+    /// The words that all seats share: the count of claims, and then one word for each cell.
     pub(crate) table: Table<(), Knowledge, Brief, BoardRule, Global>,
     /// The layer.
     pub(crate) layer: Layer,
@@ -53,8 +54,8 @@ impl Model for Board {
 }
 
 impl Board {
-    /// A board for a layer, with empty cells, and a seat for each worker. It takes only cells that
-    /// the definition gives for the problem, the pairs and the limit.
+    /// A board for a layer, with empty cells, and a seat for each worker. Cells that are posted
+    /// must be those that the definition gives for the problem, the pairs and the limit.
     pub fn new(
         alloc: Global,
         problem: &Problem,
@@ -89,7 +90,7 @@ impl Board {
         Ok((board, seats))
     }
 
-    /// The seats of a new board for `count` workers, split off the first seat one by one.
+    /// Splits the first seat of a new board into the seats of `count` workers, and returns them.
     fn seats(
         &self,
         alloc: Global,
@@ -112,8 +113,8 @@ impl Board {
         Ok(seats)
     }
 
-    /// The next block that no worker has claimed, or None if there is none. A seat that got None
-    /// gets None ever after, and takes no step for it.
+    /// Claims the next block that no worker has claimed, and returns it. None if no block is left.
+    /// A seat that got None gets None ever after, and makes no atomic step for it.
     pub fn claim(&self, seat: &mut BoardSeat) -> Option<Claim>
         requires { seat.old.board ≡ self.now }
         ensures board { seat.new.board ≡ self.now }
@@ -140,8 +141,8 @@ impl Board {
         }
     }
 
-    /// Fills the cell of a mask whose block the seat claimed. An error if the seat did not claim
-    /// the block, or if the cell is filled.
+    /// Posts `cell`, a mask with its cell: fills this cell on the board. Refused if the seat did
+    /// not claim the mask's block, or if the cell is already filled.
     pub fn post(&self, seat: &mut BoardSeat, cell: CellResult) -> Result<(), PostRefused>
         requires board { seat.old.board ≡ self.now }
         requires instance { cell.instance ≡ self.now.brief.instance }
@@ -168,8 +169,8 @@ impl Board {
         }
     }
 
-    /// The cell of a mask. None if the layer doesn't have the mask, or if the seat sees the cell
-    /// empty.
+    /// Reads the cell of `mask`. None if the layer doesn't have the mask, or if the seat sees the
+    /// cell empty.
     pub fn read(&self, seat: &mut BoardSeat, mask: Mask) -> Option<Cell>
         requires { seat.old.board ≡ self.now }
         ensures board { seat.new.board ≡ self.now }
@@ -189,7 +190,8 @@ impl Board {
         Some(cell_of_word(found))
     }
 
-    /// Closes the board with its last seat: its words stay as they are then.
+    /// Closes the board, and uses up `seat`, which is one of its seats. The words stay as they are
+    /// then.
     pub fn into_closed(self, seat: BoardSeat) -> ClosedBoard
         requires { seat.board ≡ self }
         ensures brief { result.brief ≡ self.brief }
@@ -209,8 +211,8 @@ impl Board {
         }
     }
 
-    /// The cells of all masks, in the layer's order. Else the closed board, and the least mask
-    /// whose cell is empty in it, or `OutOfMemory`.
+    /// Closes the board and returns the cells of all masks, in the layer's order. The error gives
+    /// the closed board, and the least mask whose cell is empty in it, or `OutOfMemory`.
     pub fn close(
         self,
         alloc: Global,

@@ -19,7 +19,7 @@ pub(crate) fn word_of_cell(posted: &CellResult) -> u64
     (u64::from(cell.cost) + 1) * 32 + u64::from(cell.variable)
 }
 
-/// The cell that a word holds. The word is that of a filled cell.
+/// The cell that a word holds. Requires the word to be that of a filled cell, so not 0.
 pub(crate) fn cell_of_word(word: u64) -> Cell
     requires { IsCellWord word }
     ensures { pair_of result ≡ (word / 32 - 1, word % 32) }

@@ -18,13 +18,13 @@ use subset_layers::{Cell, Layer};
 /// Why a board gives no cells.
 #[derive(Clone, Copy, Debug, PartialEq, Eq)]
 pub enum CloseError {
-    /// The least mask whose cell is empty.
+    /// The cell of this mask is empty. It is the least such mask.
     Missing(Mask),
     /// An allocation was refused.
     OutOfMemory,
 }
 
-/// A board that no seat shares any more: the words that it ended with.
+/// A board that was closed, so that no seat writes to it any more: the words that it ended with.
 pub struct ClosedBoard {
     /// The words that the board ended with.
     pub(crate) closed: Closed<(), Global>,
@@ -58,8 +58,8 @@ impl Drop for ClosedBoard {
 }
 
 impl ClosedBoard {
-    /// The cells of all masks, in the layer's order. Else the least mask whose cell is empty, or
-    /// `OutOfMemory`.
+    /// The cells of all masks, in the layer's order. The error is the least mask whose cell is
+    /// empty, or `OutOfMemory`.
     pub fn cells(&self, alloc: Global) -> Result<Vec<Cell>, CloseError>
         ensures all { IfOk result (λ v. map (λ c. Some (pair_of c)) v.items ≡ self.now.cells) }
         ensures cells { IfOk result

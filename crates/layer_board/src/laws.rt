@@ -1,4 +1,5 @@
-//! Laws of the rule of a board's table: what its steps are in the machine's terms.
+//! Laws of the words of a board: each atomic step on them is a step of the layer's machine. Each
+//! law is the contract of a function that does nothing.
 
 ghost use Rattle.std.specs.Prelude.{◌≡◌, ℕ, ◌+◌, ◌%◌, ◌^◌, ◌==◌, true, false, [], Some, length, slice_index};
 ghost use mathlib.Core.Option.{some, none};
@@ -14,13 +15,15 @@ ghost use Rattle.layer_board.specs.Closing.{OneMissesTheLeast};
 ghost use Rattle.layer_board.specs.Refusals.{SeatsLackWhatIsEmpty};
 ghost use Rattle.layer_board.specs.Invariant.{Kept, IsCellAt, Sat, cell_in, shows, claims, posts, reads, claim_reply, post_reply, read_reply};
 
-/// Between any two steps on the table, the words and the seats show a right state of the machine.
+/// Between any two atomic steps on a board, its words and its seats show a right state of the
+/// layer's machine: each filled cell is the one that the definition gives its mask, and each block
+/// that was handed out is claimed by exactly one worker.
 pub fn tables_show_right_states()
     ensures { (b : BriefOf) (s : State (Unit {0}) SeatView) → Kept b s →
         Right (IsCellAt b.instance) (shows b s) }
 {}
 
-/// The step of a claim on the table is the machine's step for a claim by the seat.
+/// The atomic step of a claim on the board's words is the machine's step for a claim by the seat.
 pub fn claims_are_events()
     ensures { (b : BriefOf) (s : State (Unit {0}) SeatView) (id : ℕ) (v : SeatView) (slots : ℕ)
         (m : Sat) →
@@ -32,8 +35,8 @@ pub fn claims_are_events()
         step (shows b s) (Claim id) }
 {}
 
-/// The step of a post on the table, by a seat that claimed the mask's block, is the machine's step
-/// for a post by the seat.
+/// The atomic step of a post on the board's words, by a seat that claimed the mask's block, is the
+/// machine's step for a post by the seat.
 pub fn posts_are_events()
     ensures { (b : BriefOf) (s : State (Unit {0}) SeatView) (id : ℕ) (v : SeatView)
         (slots p mask new : ℕ) (cell : ℕ × ℕ) (m : Sat) →
@@ -49,7 +52,7 @@ pub fn posts_are_events()
         step (shows b s) (Post id mask cell) }
 {}
 
-/// The step of a read on the table is the machine's step for a read by the seat.
+/// The atomic step of a read on the board's words is the machine's step for a read by the seat.
 pub fn reads_are_events()
     ensures { (b : BriefOf) (s : State (Unit {0}) SeatView) (id : ℕ) (v : SeatView)
         (slots p mask : ℕ) (m : Sat) →
@@ -67,8 +70,8 @@ pub fn one_worker_misses_the_least()
     ensures { OneMissesTheLeast }
 {}
 
-/// The least mask whose cell is empty in the words of a closed board is a mask that the last seat
-/// didn't know to be filled.
+/// The least mask whose cell is empty in the words of a closed board is a mask whose cell the seat
+/// that closed it didn't know to be filled.
 pub fn seats_lack_what_is_empty()
     ensures { SeatsLackWhatIsEmpty }
 {}

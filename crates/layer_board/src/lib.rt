@@ -1,4 +1,4 @@
-//! The board on which threads run a layer's machine.
+//! The board of a layer: shared words on which threads claim the layer's blocks and post its cells.
 #![tactic(auto)]
 
 mod atomic_steps;

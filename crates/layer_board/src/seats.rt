@@ -17,7 +17,7 @@ pub struct BoardSeat {
     pub(crate) seat: Seat<(), Knowledge>,
     /// For each block, whether the worker claimed it.
     pub(crate) claims: Vec<bool>,
-    /// Whether the worker was told that no block is left.
+    /// Whether a claim of the worker found no block left.
     pub(crate) ended: bool,
 }
 

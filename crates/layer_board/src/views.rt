@@ -1,11 +1,12 @@
-//! What a board is for, and what its seats know.
+//! What determines a board, and what its seats know.
 
 use order_model::{Limit, Pairs, Problem, Workers};
 use std::marker::Model;
 use std::snapshot::Snapshot;
 use subset_layers::Layer;
 
-/// What a board is for.
+/// What determines a board: the problem instance, the layer whose sets have their cells on it, and
+/// the number of workers.
 #[derive(Drop)]
 pub struct Brief {
     /// The functions.
@@ -33,7 +34,7 @@ impl Model for Brief {
     } };
 }
 
-/// What a seat knows. Only contracts see it, and no value of it is made.
+/// What a worker's seat knows of the board. Only contracts see it, and no value of it is made.
 pub struct Knowledge;
 
 impl Model for Knowledge {

@@ -1,7 +1,7 @@
--- What cells are for, a layer as the machine has it, and what contracts see of a result.
---     InstanceOf, instance_of problem pairs limit, cell_for t mask      what cells are for; the cell of a mask
+-- The problem instance that cells belong to, a layer as the machine has it, and what contracts see of a result.
+--     InstanceOf, instance_of problem pairs limit, cell_for t mask      a problem instance; the cell of a mask for it
 --     layout_of l      the masks and blocks of a layer
---     ResultOf      the cell of a mask
+--     ResultOf      a mask with its cell
 use Rattle.std.specs.Prelude.{ℕ, map, length}
 use Rattle.std.specs.List.{range_with_len}
 use Rattle.definitions.specs.Cells.{cell_of}
@@ -12,7 +12,7 @@ use Rattle.definitions.specs.KeptPairs.{KeptPairs}
 use Rattle.subset_layers.specs.Layers.{LayerOf, masks_of, blocks_of, block_place}
 use Rattle.layer_core.specs.Machine.{Layout}
 
--- what cells are for: the functions, the pairs that an order must keep, the lower bound on the nodes above a set, and the bound
+-- a problem instance: the functions, the pairs that an order must keep, the rule of the lower bound on the nodes above a set, and the bound
 pub record InstanceOf : Type 0 where
   pub problem : TruthTables
   pub pairs : KeptPairs
@@ -34,7 +34,7 @@ layout_of l = record {
   blocks = length (blocks_of l);
 }
 
--- a mask with its cell, and what the cell is for
+-- a mask with its cell, and the problem instance that the cell belongs to
 pub record ResultOf : Type 0 where
   pub instance : InstanceOf
   pub mask : ℕ

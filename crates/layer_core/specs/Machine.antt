@@ -1,7 +1,7 @@
 -- The pure machine of a layer: workers claim its blocks in turn, and post and read the cells of its masks.
 --     Layout                   the masks of a layer, cut into blocks
 --     World, opening           a state of the machine; the state at the start
---     Event, Reply, step       what a worker asks, what it is told, and the state after it
+--     Event, Reply, step       a step of a worker; the machine's reply; the reply to an event, with the state after it
 --     run                      the state after a list of events
 use Rattle.std.specs.Prelude.{ℕ, ◌+◌, Bool, true, false, nat_eq, nat_lt, List, [], ◌∷◌, length, replicate, slice_index, slice_index_or, slice_set, if◌then◌else◌, Option, Some, None, position}
 use mathlib.Core.Option as found
@@ -13,13 +13,13 @@ pub record Layout : Type 0 where
   pub block_of : List ℕ
   pub blocks : ℕ
 
--- a mark for each block that the worker claimed, a mark for each place whose cell it knows to be filled, and whether it was told that there is no block left
+-- a mark for each block that the worker claimed, a mark for each place whose cell it knows to be filled, and whether a claim found no block left
 pub record Worker : Type 0 where
   pub claims : List Bool
   pub known : List Bool
   pub ended : Bool
 
--- the counter is the next block to be claimed, and each mask has a cell (cost, variable) once it is filled
+-- the counter is the next block to be claimed, and each mask has a cell (cost, variable) once the cell is filled
 pub record World : Type 0 where
   pub layout : Layout
   pub counter : ℕ
@@ -86,7 +86,7 @@ moved s counter cells i w = record {
   workers = slice_set s.workers i w;
 }
 
--- a claim: the next block, or no more
+-- a claim: the reply is the next block, or that none is left
 abbrev pub claim : World → ℕ → found.Option Worker → Reply × World
 claim s i found.none = (NoMore, s)
 claim s i (found.some w) =
@@ -95,7 +95,7 @@ claim s i (found.some w) =
     then (Claimed s.counter, moved s (s.counter + 1) s.cells i (claims_block w s.counter)) else
     (NoMore, moved s (s.counter + 1) s.cells i (ends w)))
 
--- a post at the place p, whose cell is that of the last argument
+-- a post at the place p; the last argument is the cell that stands there, if any
 abbrev pub fill : World → ℕ → ℕ → ℕ × ℕ → Worker → Option (ℕ × ℕ) → Reply × World
 fill s i p cell w None = (Posted, moved s s.counter (slice_set s.cells p (Some cell)) i (learns w p))
 fill s i p cell w (Some old) = (Double, s)
@@ -115,7 +115,7 @@ read s i place found.none = (Empty, s)
 read s i None (found.some w) = (Empty, s)
 read s i (Some p) (found.some w) = look s i p w (cell_at s p)
 
--- what the worker is told, and the state after it. Workers are numbered from 0; another number is told what changes nothing
+-- the machine's reply to an event, and the state after it. Workers are numbered from 0; an event of any other number changes nothing
 abbrev pub step : World → Event → Reply × World
 step s (Claim i) = claim s i (get_elem? s.workers i)
 step s (Post i mask cell) = post s i cell (place_of s.layout mask) (get_elem? s.workers i)

@@ -11,7 +11,7 @@ result_shown r = record {
   cell = pair_of r.cell;
 }
 
--- the cell is the definition's, and fits a word
+-- the cell is the one that the definition gives, and fits a word
 pub record IsResult (r : Inside) : Type 0 where
   pub right : (result_shown r).cell ≡ cell_for (result_shown r).instance r.mask
   pub cost : r.cell.cost < 2 ^ 32

@@ -1,6 +1,6 @@
--- What is right of each state of a layer's machine.
+-- Right states of a layer's machine: those that the machine can be in if each posted cell is right.
 --     Right IsCell s           the state is right, where IsCell says which cell each mask has
---     RightFor n F P r bound s   the same, where each mask has its cell for the functions, the pairs, the lower bound on the nodes above a set, and the bound
+--     RightFor n F P r bound s   the state is right for the cells of the functions, the pairs, the rule of the lower bound, and the bound
 --     ArePosted n F P r bound events     each posted cell is the one of its mask
 use Rattle.std.specs.Prelude.{◌≡◌, ◌≢◌, ℕ, ◌+◌, ◌<◌, ◌≤◌, true, List, [], ◌∷◌, length, map, slice_index, Option, Some, None, IfSome}
 use mathlib.Core.Option.{some}
@@ -20,7 +20,7 @@ total f (x ∷ xs) = f x + total f xs
 abbrev pub claimants : ℕ → List Worker → ℕ
 claimants block ws = total (λ w. weight (claimed w block)) ws
 
--- how many workers were told that there is no block left
+-- how many workers found no block left
 abbrev pub told_number : List Worker → ℕ
 told_number ws = total (λ w. weight w.ended) ws
 
@@ -45,7 +45,7 @@ pub record Right (IsCell : ℕ → ℕ × ℕ → Type 0) (s : World) : Type 0 w
       × ((claimed w (slice_index s.layout.block_of p) ≡ true) × (knows w p ≡ true))
   -- what a worker knows to be filled is filled
   pub known : (i : ℕ) (w : Worker) → get_elem? s.workers i ≡ some w → (p : ℕ) → knows w p ≡ true → cell_at s p ≢ None
-  -- the counter passes the number of blocks only by the workers that were told so
+  -- the counter passes the number of blocks by at most one for each worker that found no block left
   pub counted : s.counter ≤ s.layout.blocks + told_number s.workers
   pub ended : (i : ℕ) (w : Worker) → get_elem? s.workers i ≡ some w → w.ended ≡ true → s.layout.blocks ≤ s.counter
 
@@ -56,7 +56,7 @@ IsCellFor n F P r bound mask cell = cell ≡ cell_of n F P r bound mask
 abbrev pub RightFor : ℕ → List Function → List Pair → LowerBound → ℕ → World → Type 0
 RightFor n F P r bound = Right (IsCellFor n F P r bound)
 
--- each posted cell meets the fact
+-- IsCell holds for each mask that is posted and its cell
 abbrev pub Posts : (ℕ → ℕ × ℕ → Type 0) → List Event → Type 0
 Posts IsCell [] = Unit {0}
 Posts IsCell (Claim i ∷ es) = Posts IsCell es

@@ -20,6 +20,6 @@ shown c = record {
   workers = map marks_of c.workers.items;
 }
 
--- right, whatever the cells are
+-- the machine's state is right, whatever the filled cells have, and there are at most 64 workers
 abbrev pub IsSound : Inside → Type 0
 IsSound c = Right (λ mask cell. Unit {0}) (shown c) × (length c.workers.items ≤ 64)

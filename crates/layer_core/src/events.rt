@@ -1,4 +1,4 @@
-//! What workers do at a layer's machine, and what it replies.
+//! The steps of workers at a layer's machine, and its replies.
 
 use crate::results::CellResult;
 use order_model::Mask;
@@ -24,7 +24,7 @@ pub enum Reply {
     NoMore,
     /// The cell was empty, and is filled now.
     Posted,
-    /// The mask is not in the layer, or the worker didn't claim its block.
+    /// The mask is not in the layer, or the worker didn't claim the mask's block.
     Stranger,
     /// The cell was filled before.
     Double,

@@ -1,4 +1,5 @@
-//! What holds of the machine after every list of events, for any number of workers.
+//! Laws of the machine after every list of events, for any number of workers. Each law is the
+//! contract of a function that does nothing.
 
 ghost use Rattle.std.specs.Prelude.{◌≡◌, ℕ, ◌<◌, List, length, slice_index};
 ghost use Rattle.definitions.specs.Functions.{Function};
@@ -7,8 +8,9 @@ ghost use Rattle.definitions.specs.declared.limits.LowerBound.{LowerBound};
 ghost use Rattle.layer_core.specs.Machine.{Layout, Event, opening, run};
 ghost use Rattle.layer_core.specs.Rights.{IsLayout, RightFor, ArePosted, IsFilled, claimants, all_cells};
 
-/// After any events from the opening on, the machine's state is right, if each posted cell is the
-/// one that the definition gives its mask.
+/// After any events from the machine's opening on, its state is right, if each posted cell is the
+/// one that the definition gives the mask. In a right state each filled cell is that of its mask,
+/// and each block that was handed out is claimed by exactly one worker.
 pub fn events_keep_it_right()
     ensures { (n : ℕ) (F : List Function) (P : List Pair) (r : LowerBound) (bound : ℕ)
         (l : Layout) (workers : ℕ)
@@ -17,8 +19,8 @@ pub fn events_keep_it_right()
         RightFor n F P r bound (run (opening l workers) events) }
 {}
 
-/// After any events, each block that was handed out, which is one below the counter, is claimed by
-/// exactly one worker, if it has a mask.
+/// After any events, each block that has a mask and was handed out, that is whose place is below
+/// the counter, is claimed by exactly one worker.
 pub fn each_claim_is_one_workers()
     ensures { (n : ℕ) (F : List Function) (P : List Pair) (r : LowerBound) (bound : ℕ)
         (l : Layout) (workers : ℕ)
@@ -28,7 +30,7 @@ pub fn each_claim_is_one_workers()
         claimants (slice_index l.block_of p) (run (opening l workers) events).workers ≡ 1 }
 {}
 
-/// Once every mask's cell is filled, the cells are those of the definition.
+/// Once every mask's cell is filled, the cells are those that the definition gives.
 pub fn filled_cells_are_the_definitions()
     ensures { (n : ℕ) (F : List Function) (P : List Pair) (r : LowerBound) (bound : ℕ)
         (l : Layout) (workers : ℕ)

@@ -21,22 +21,23 @@ pub(crate) struct WorkerMarks {
     pub(crate) claims: Vec<bool>,
     /// For each mask of the layer, whether the worker knows its cell to be filled.
     pub(crate) known: Vec<bool>,
-    /// Whether the worker was told that no block is left.
+    /// Whether a claim of the worker found no block left.
     pub(crate) ended: bool,
 }
 
 /// The machine of a layer: workers claim its blocks in turn, and post and read the cells of its
-/// masks. It is for callers who run a layer on one thread, or hold a board against its definition;
-/// `minorder` runs boards.
+/// masks. It is for callers who run a layer on one thread, or compare a board with its definition;
+/// `minorder` uses boards.
 #[derive(Drop)]
 pub struct Core {
     /// The layer.
     layer: Layer,
-    /// The place of the next block to be claimed. If the layer has none there, no block is left.
+    /// The place of the next block to be claimed. If the layer has no block at this place, none is
+    /// left.
     counter: usize,
     /// The cells of the layer's masks, `None` where a cell is empty.
     cells: Vec<Option<Cell>>,
-    /// What each worker did and knows: worker i, counted from 1, is at place i - 1.
+    /// What each worker did and knows: worker i, counted from 1, is at index i - 1.
     workers: Vec<WorkerMarks>,
 }
 
@@ -53,7 +54,7 @@ impl Model for Core {
 }
 
 impl Core {
-    /// The machine at its opening: all cells of the layer are empty, and no worker made a step.
+    /// The machine of a layer before the first step: all cells of the layer are empty.
     pub fn new(alloc: Global, layer: &Layer, workers: Workers) -> Result<Core, AllocError>
         ensures opening { IfOk result (λ c. c ≡ opening (layout_of layer.now) workers) }
         ensures layout { IfOk result (λ c. IsLayout c.layout) }
@@ -84,7 +85,8 @@ impl Core {
         }
     }
 
-    /// Claims the next block for the worker at place `worker`, and returns the reply.
+    /// Claims the next block for worker number `worker` + 1. Replies `Claimed` with the block's
+    /// place, or `NoMore` if no block is left.
     fn claim(&mut self, worker: usize) -> Reply
         requires { worker < length self.old.workers }
         ensures { (reply_of result, self.new) ≡ step self.old (Claim worker) }
@@ -103,8 +105,9 @@ impl Core {
         }
     }
 
-    /// Fills the cell of a mask for the worker at place `worker`, if the worker claimed the mask's
-    /// block and the cell is empty, and returns the reply.
+    /// Fills the cell of `mask` for worker number `worker` + 1, and replies `Posted`. Replies
+    /// `Stranger` if the worker didn't claim the mask's block, and `Double` if the cell was filled
+    /// before.
     fn post(&mut self, worker: usize, mask: Mask, cell: Cell) -> Reply
         requires { worker < length self.old.workers }
         ensures { (reply_of result, self.new) ≡ step self.old (Post worker mask (pair_of cell)) }
@@ -123,7 +126,8 @@ impl Core {
         Reply::Posted
     }
 
-    /// Reads the cell of a mask for the worker at place `worker`, and returns the reply.
+    /// Reads the cell of `mask` for worker number `worker` + 1. Replies `Seen` with the cell, or
+    /// `Empty` if it isn't filled or the layer doesn't have the mask.
     fn read(&mut self, worker: usize, mask: Mask) -> Reply
         requires { worker < length self.old.workers }
         ensures { (reply_of result, self.new) ≡ step self.old (Read worker mask) }
@@ -150,8 +154,8 @@ fn empty_cells(alloc: Global, count: usize) -> Result<Vec<Option<Cell>>, AllocEr
     Ok(cells)
 }
 
-/// What workers did and knew before their first step, at a layer of `blocks` blocks and `masks`
-/// masks.
+/// What each of `workers` workers did and knew before the first step, which is nothing, at a layer
+/// of `blocks` blocks and `masks` masks.
 fn blank_marks(
     alloc: Global,
     blocks: usize,

@@ -7,8 +7,8 @@ use std::marker::Model;
 use std::snapshot::Snapshot;
 use subset_layers::Cell;
 
-/// A mask with its cell, which is always the one that the definition gives for a problem, pairs and
-/// a limit. Only contracts see these three.
+/// A mask with its cell, which is always the one that the definition gives the mask for a problem,
+/// pairs and a limit. Only contracts see the problem, the pairs and the limit.
 #[derive(Drop)]
 pub struct CellResult {
     mask: Mask,
@@ -34,8 +34,8 @@ impl CellResult {
     ghost use Rattle.layer_core.specs.Instances.{cell_for, instance_of};
     ghost use Rattle.layer_core.specs.Pairing.{pair_of};
 
-    /// A mask with its cell. `cell` must be the one that the definition gives for the problem, the
-    /// pairs and the limit.
+    /// A mask with its cell. Requires `cell` to be the one that the definition gives the mask for
+    /// the problem, the pairs and the limit.
     pub fn new(problem: &Problem, limit: Limit, mask: Mask, cell: Cell, pairs: &Pairs) -> CellResult
         requires bound { limit.bound < 2 ^ 32 - 1 }
         requires cell { pair_of cell ≡ cell_for (instance_of problem.now pairs.now limit) mask }
@@ -55,7 +55,7 @@ impl CellResult {
         }
     }
 
-    /// The mask whose cell it is.
+    /// The mask that the cell belongs to.
     pub fn mask(&self) -> Mask
         ensures { result ≡ self.now.mask }
     {

@@ -1,5 +1,5 @@
 -- The words of a cache of operations.
---     code_of, combine      an operation's number, and what it does
+--     code_of, combine      the number of an operation in a word; the result of an operation on two functions
 --     entry_word, first_of, second_of, result_of      a cache word and its parts
 --     IsEntry order ws w      the result denotes the operation on the operands
 use Rattle.std.specs.Prelude.{◌≡◌, ℕ, ◌+◌, ◌*◌, ◌/◌, ◌%◌, ◌^◌, Bool, not, ◌&&◌, ◌||◌, if◌then◌else◌, List}
@@ -29,7 +29,7 @@ combine operation f g p = combine_values operation (f p) (g p)
 abbrev pub entry_word : ℕ → ℕ → ℕ → ℕ → ℕ
 entry_word code first second result = code * 2 ^ 60 + first * 2 ^ 40 + second * 2 ^ 20 + result
 
--- the parts of such a word
+-- the parts of a cache word: the two operands, and the result
 abbrev pub first_of : ℕ → ℕ
 first_of w = (w / 2 ^ 40) % 2 ^ 20
 

@@ -1,5 +1,5 @@
 -- What ids mean.
---     value levels ws id t      the value of an id, where t says of each level whether the high child is taken there
+--     value levels ws id t      the value of an id, where t says for each level whether the high child is taken there
 --     depth levels ws id      the level of an id; a terminal lies below all levels
 --     function_of order ws id      the function that an id denotes under an order
 --     Denotes order ws id f      the id is known, and denotes f
@@ -7,7 +7,7 @@ use Rattle.std.specs.Prelude.{◌≡◌, ℕ, zero, suc, ◌-◌, ◌==◌, Bool
 use Rattle.definitions.specs.Functions.{Point, Function, bit, SameFunction}
 use Rattle.node_words.specs.Nodes.{IsKnown, level_of, low_of, high_of}
 
--- the value of an id, where t says of each level whether the high child is taken there; as many steps as there are levels are enough
+-- the value of an id, where t says for each level whether the high child is taken there; as many steps as there are levels are enough
 abbrev pub value : ℕ → List ℕ → ℕ → (ℕ → Bool) → Bool
 value zero ws id t = id == 1
 value (suc k) ws id t =
@@ -15,11 +15,11 @@ value (suc k) ws id t =
     else (if t (level_of (slice_index ws (id - 2))) then value k ws (high_of (slice_index ws (id - 2))) t
     else value k ws (low_of (slice_index ws (id - 2))) t)
 
--- two ids have the same value, whatever children are taken
+-- two ids have equal values, whichever children are taken
 abbrev pub IsSame : ℕ → List ℕ → ℕ → ℕ → Type 0
 IsSame levels ws a b = (t : ℕ → Bool) → value levels ws a t ≡ value levels ws b t
 
--- the level of an id: a terminal lies below all
+-- the level of an id: a terminal lies below all levels
 abbrev pub depth : ℕ → List ℕ → ℕ → ℕ
 depth levels ws id = if nat_lt id 2 then levels else level_of (slice_index ws (id - 2))
 

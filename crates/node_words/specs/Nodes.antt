@@ -1,8 +1,8 @@
--- The words of nodes, and what is so of a list of them.
+-- The words of nodes, and lists of such words.
 --     node_word, level_of, low_of, high_of      a node's word and its parts; id p + 2 is the node at place p, ids 0 and 1 are the terminals
 --     home, probe      the places that the search for a word comes to
 --     IsNode, AreNodeWords, AreUnequal, AreStored      lists of words that are nodes, no two of them equal
---     Grows      what was filled stays
+--     Grows      places that were filled keep their words
 use Rattle.std.specs.Prelude.{◌≡◌, ◌≢◌, ℕ, ◌+◌, ◌-◌, ◌*◌, ◌/◌, ◌%◌, ◌^◌, ◌<◌, ◌≤◌, ◌==◌, nat_lt, if◌then◌else◌, List, length, slice_index, bit_xor, MatchBool}
 
 -- the word of a node: its level, and the ids of its two children
@@ -29,7 +29,7 @@ mixed w =
 unfoldable pub home : ℕ → ℕ → ℕ
 home places w = (mixed w / 2 ^ 32) * places / 2 ^ 32
 
--- the place that the search for a word comes to after k others
+-- the place that the search for a word comes to after k other places
 abbrev pub probe : ℕ → ℕ → ℕ → ℕ
 probe places w k = if nat_lt (home places w + k) places then home places w + k else home places w + k - places
 
@@ -63,7 +63,7 @@ pub record IsReached (places : ℕ) (ws : List ℕ) (w p : ℕ) : Type 0 where
   pub here : p ≡ probe places w passed
   pub before : (j : ℕ) → j < passed → slice_index ws (probe places w j) ≢ 0
 
--- what was filled is the same afterwards
+-- places that were filled keep their words
 abbrev pub Grows : List ℕ → List ℕ → Type 0
 Grows xs ys = (p : ℕ) → slice_index xs p ≢ 0 → slice_index ys p ≡ slice_index xs p
 
@@ -88,7 +88,7 @@ pub record IsNextProbe (ws : List ℕ) (places w p : ℕ) : Type 0 where
   pub here : p ≡ probe places w passed
   pub before : (j : ℕ) → j < passed → IsTaken ws w (probe places w j)
 
--- the id is that of the node with this level and these children, or the child if they are equal
+-- the id is that of the node with this level and these children, or of the child if both are equal
 abbrev pub IsIdOf : List ℕ → ℕ → ℕ → ℕ → ℕ → Type 0
 IsIdOf ws level low high id = MatchBool (low == high) (id ≡ low)
     ((2 ≤ id) × (slice_index ws (id - 2) ≡ node_word level low high))

@@ -1,4 +1,4 @@
-//! The words of a store of nodes, and what ids mean.
+//! The 64-bit words of a store of nodes, and what the ids of nodes denote.
 #![tactic(auto)]
 
 pub mod laws;

@@ -1,4 +1,4 @@
-//! The operations that a cache knows.
+//! The operations whose results a cache holds.
 
 /// An operation on two functions.
 #[derive(Clone, Copy, Debug, PartialEq, Eq)]

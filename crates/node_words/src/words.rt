@@ -1,4 +1,5 @@
-//! Packing and unpacking words.
+//! Packing and unpacking the words of nodes and of cache entries, and the search for a node's
+//! place.
 
 ghost use Rattle.std.specs.Prelude.{◌≡◌, ℕ, ◌+◌, ◌-◌, ◌*◌, ◌^◌, ◌<◌};
 ghost use Rattle.node_words.specs.Nodes.{node_word, home, probe, level_of, low_of, high_of};
@@ -25,7 +26,7 @@ pub fn node_word(level: u8, low: u32, high: u32) -> u64
     (1 << 44) + (u64::from(level) << 40) + (u64::from(low) << 20) + u64::from(high)
 }
 
-/// The level of a node and the ids of its children, from its word.
+/// The level of a node and the ids of its children, unpacked from the node's word.
 pub fn node_parts(word: u64) -> NodeParts
     ensures level { result.level ≡ level_of word }
     ensures low { result.low ≡ low_of word }
@@ -38,7 +39,7 @@ pub fn node_parts(word: u64) -> NodeParts
     }
 }
 
-/// The place, of `places`, at which the search for a word starts: a hash of the word.
+/// The place, below `places`, at which the search for a node's word starts: a hash of the word.
 pub fn start(places: usize, word: u64) -> usize
     requires some { 0 < places }
     requires few { places < 2 ^ 32 }
@@ -50,8 +51,8 @@ pub fn start(places: usize, word: u64) -> usize
     (((second >> 32) * places as u64) >> 32) as usize
 }
 
-/// The place, of `places`, that a search comes to after it passed `passed` places from `start` on.
-/// After the last place comes the first.
+/// The place, below `places`, that a search from `start` on comes to after it passed `passed`
+/// places. The last place is followed by place 0.
 pub fn probe(start: usize, passed: usize, places: usize) -> usize
     requires start { start < places }
     requires passed { passed < places }
@@ -65,8 +66,8 @@ pub fn probe(start: usize, passed: usize, places: usize) -> usize
     }
 }
 
-/// The upper bits of the word that holds the result of an operation on two ids: the operation and
-/// the two ids.
+/// The key of a cache entry: the operation and the two ids that it is applied to. A key is the word
+/// of the entry without its lowest 20 bits.
 pub fn entry_key(operation: Operation, first: u32, second: u32) -> u64
     requires first { first < 2 ^ 20 }
     requires second { second < 2 ^ 20 }

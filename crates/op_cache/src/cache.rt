@@ -6,7 +6,8 @@ ghost use Rattle.unique_table.specs.Sessions.{Knows, Means, MakesStep, LiesNoHig
 use node_words::start;
 use unique_table::{NodeId, Operation, Session, Store};
 
-/// The place in a cache of `places` places for the result of an operation on two ids.
+/// The place, in a cache of `places` places, for the result of an operation on two ids: a hash of
+/// the operation and the ids.
 fn place_of(places: usize, operation: Operation, first: NodeId, second: NodeId) -> usize
     requires some { 0 < places }
     requires few { places < 2 ^ 32 }
@@ -23,8 +24,8 @@ fn place_of(places: usize, operation: Operation, first: NodeId, second: NodeId) 
     )
 }
 
-/// The id of the result of an operation on the functions of `first` and `second`. None if the cache
-/// doesn't hold it. It takes one step.
+/// Looks up the result of an operation on the functions of `first` and `second` in the store's
+/// cache, and returns its id. None if the cache doesn't hold it. Makes one atomic step.
 pub fn recall(
     store: &Store,
     session: &mut Session,
@@ -43,8 +44,9 @@ pub fn recall(
     store.entry(session, place, operation, first, second)
 }
 
-/// Stores `id`, the result of an operation on the functions of `first` and `second`, in the cache,
-/// over what its place held. It takes one step.
+/// Stores `id` in the store's cache as the result of an operation on the functions of `first` and
+/// `second`, in place of the entry that was there. Requires `id` to denote this result. Makes one
+/// atomic step.
 pub fn remember(
     store: &Store,
     session: &mut Session,

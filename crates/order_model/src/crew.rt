@@ -4,19 +4,20 @@ ghost use Rattle.std.specs.Prelude.{◌≡◌};
 
 use definitions::Workers;
 
-/// The workers of a run.
+/// The workers of a run: the runtime that starts their threads, their number, and their gate.
 #[derive(Drop)]
 pub struct Crew<'a, R, G> {
-    /// The runtime that starts their threads.
+    /// The runtime that starts the workers' threads.
     pub rt: &'a R,
-    /// How many they are.
+    /// The number of workers.
     pub workers: Workers,
     /// What each worker calls between the claim of an item and its result.
     pub gate: &'a G,
 }
 
 impl<'a, R, G> Crew<'a, R, G> {
-    /// A crew of `workers` workers, whose threads the runtime starts and who call the gate.
+    /// A crew of `workers` workers, whose threads `rt` starts and each of which calls `gate`
+    /// between the claim of an item and its result.
     pub fn new(rt: &'a R, workers: Workers, gate: &'a G) -> Crew<'a, R, G>
         ensures starts { result.rt.now ≡ rt.now }
         ensures workers { result.workers ≡ workers }

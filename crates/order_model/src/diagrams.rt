@@ -1,4 +1,4 @@
-//! Ordered decision diagrams with several roots.
+//! Decision diagrams with several roots, and with the order of their variables.
 
 ghost use Rattle.std.specs.Prelude.{◌≡◌, ◌<◌, ◌≤◌, ◌^◌, ℕ, length, slice_index, sum};
 ghost use Rattle.definitions.specs.Functions.{point_of};
@@ -11,8 +11,9 @@ use crate::orders::Order;
 use definitions::{Node, Ref, VarIx};
 use std::marker::Model;
 
-/// The child of `node` on the path of a point: the high one if the node's variable is 1 there, else
-/// the low one. Bit x of `point` is the value of variable x, and `variables` is their number.
+/// The child of `node` that the evaluation at `point` takes: the high child if the node's variable
+/// is 1 at the point, else the low one. Bit x of `point` is the value of variable x, and
+/// `variables` is the number of variables.
 fn child(variables: u8, node: Node, point: u32) -> Ref
     requires variables { variables ≤ 16 }
     requires node { node.variable < variables }
@@ -25,8 +26,9 @@ fn child(variables: u8, node: Node, point: u32) -> Ref
     }
 }
 
-/// The value at a point of the function with root `root`, in a diagram of `variables` variables.
-/// Bit x of `point` is the value of variable x.
+/// The value at `point` of the function with root `root`, in a diagram with these `nodes`, each
+/// after its children. Bit x of `point` is the value of variable x, and `variables` is the number
+/// of variables.
 pub fn eval(variables: u8, nodes: &[Node], root: Ref, point: u32) -> bool
     requires variables { variables ≤ 16 }
     requires nodes { AreNodes variables nodes.now }
@@ -56,8 +58,9 @@ fn counts_by_variable(nodes: &[Node]) -> [u32; 16]
     counts
 }
 
-/// Node counts by level, from `counts` by variable: entry i is the count of the variable at place i
-/// of `order`. The entries past its length are 0.
+/// Turns node counts by variable into node counts by level: entry i is the count of the variable at
+/// place i of `order`, and entries past the length of `order` are 0. Entry x of `counts` is the
+/// count of variable x.
 fn in_order(order: &[VarIx], counts: [u32; 16]) -> [u32; 16]
     requires few { length order.now ≤ 16 }
     requires variables { All (λ x. x < 16) order.now }
@@ -72,8 +75,8 @@ fn in_order(order: &[VarIx], counts: [u32; 16]) -> [u32; 16]
     levels
 }
 
-/// A diagram with one root per function, and the order of its variables. Its size is the number of
-/// its nodes, whether a root reaches them or not.
+/// A decision diagram with one root per function, and the order of its variables. The size of the
+/// diagram is the number of its nodes, whether a root reaches them or not.
 #[derive(Debug, Drop)]
 pub struct Diagram {
     order: Order,
@@ -98,8 +101,8 @@ impl Model for Diagram {
 }
 
 impl Diagram {
-    /// The diagram with this order, these nodes, each after its children, and one root per
-    /// function.
+    /// The diagram of these parts. Requires each node to stand in `nodes` after its children, and
+    /// each node's variable to be one of `order`. `roots` has one root per function.
     pub fn new(order: Order, nodes: Vec<Node>, roots: Vec<Ref>) -> Diagram
         requires few { length nodes.items < 2 ^ 32 }
         requires diagram { IsDiagramUnder order nodes.items roots.items }
@@ -145,7 +148,8 @@ impl Diagram {
         self.nodes.len()
     }
 
-    /// The value of function `output` at a point. Bit x of `point` is the value of variable x.
+    /// The value of function `output`, counted from 0, at a point. Bit x of `point` is the value of
+    /// variable x.
     pub fn eval(&self, output: usize, point: u32) -> bool
         requires { output < length self.now.graph.roots }
         ensures { result ≡ root_value self.now.graph output
@@ -164,7 +168,8 @@ impl Diagram {
         in_order(self.order.variables(), counts_by_variable(&self.nodes))
     }
 
-    /// Takes the diagram apart: its order, its nodes and its roots.
+    /// Takes the diagram apart and returns its order, its nodes (each after its children), and its
+    /// roots (one per function).
     pub fn into_parts(self) -> (Order, Vec<Node>, Vec<Ref>)
         ensures order { result.0 ≡ self.order }
         ensures nodes { result.1.items ≡ self.graph.nodes }
@@ -175,7 +180,7 @@ impl Diagram {
     }
 }
 
-/// The sum of up to 16 level counts, which is the size of their diagram.
+/// The sum of a diagram's level counts, which is the size of the diagram. There are at most 16.
 pub fn total(counts: &[u32]) -> u64
     requires { length counts.now ≤ 16 }
     ensures { result ≡ sum counts.now }

@@ -16,7 +16,7 @@ use std::marker::Model;
 #[derive(Drop)]
 pub struct LowerBounds<'a> {
     problem: &'a Problem,
-    /// The rule that gives them.
+    /// The rule that gives the bounds.
     lower_bound: LowerBound,
     /// The set of the variables on which some function depends.
     essential: Mask,
@@ -36,8 +36,8 @@ impl<'a> Model for LowerBounds<'a> {
     ghost invariant = { λ r. HoldsLowerBounds r.problem.now r.essential r.dependents r.others };
 }
 
-/// The support of each function: the set of the variables on which it depends. The entries past the
-/// last function are empty.
+/// The support of each function, entry j for function j: the set of the variables on which the
+/// function depends. The entries past the last function are empty.
 fn supports(problem: &Problem) -> [Mask; 16]
     ensures { take (outputs_of problem.now) result ≡ map (support problem.now.inputs)
         (functions problem.now) }
@@ -49,7 +49,7 @@ fn supports(problem: &Problem) -> [Mask; 16]
     found
 }
 
-/// How many of the sets contain variable x.
+/// How many of `sets` contain variable x.
 fn count_with(sets: &[Mask], x: VarIx) -> u32
     requires few { length sets.now ≤ 16 }
     requires variable { x < 16 }
@@ -64,7 +64,7 @@ fn count_with(sets: &[Mask], x: VarIx) -> u32
     count
 }
 
-/// The union of the sets that do not contain variable x.
+/// The union of those of `sets` that do not contain variable x.
 fn union_without(sets: &[Mask], x: VarIx) -> Mask
     requires { x < 16 }
     ensures { result ≡ fold bit_or 0 (filter (λ s. not (bit_at s x == 1)) sets.now) }
@@ -130,8 +130,9 @@ impl<'a> LowerBounds<'a> {
         self.lower_bound
     }
 
-    /// The lower bound on the nodes above the set `mask`. By widths, `widths` must have the widths
-    /// of all members; by variables, it is not read.
+    /// The lower bound on the number of nodes above the set `mask`. Under the rule `Widths` it
+    /// follows from `widths`, the widths of all members. Under the rule `Variables`, `widths` is
+    /// not read.
     pub fn above(&self, mask: Mask, widths: &WidthRow) -> u64
         requires { mask < 2 ^ self.now.problem.inputs }
         ensures few { result < 2 ^ 33 }
@@ -148,7 +149,7 @@ impl<'a> LowerBounds<'a> {
     }
 
     /// The largest number of nodes above the set `mask` that the width of one of its members
-    /// requires, or `least` if that is larger. `widths` has the widths of all members.
+    /// requires, or `least` if that is larger. `widths` has the width of each member.
     fn most_asked(&self, mask: Mask, widths: &WidthRow, least: u64) -> u64
         requires within { mask < 2 ^ self.now.problem.inputs }
         requires least { least < 2 ^ 33 }
@@ -168,8 +169,9 @@ impl<'a> LowerBounds<'a> {
     }
 
     /// The number of nodes above the set `mask` that the width of its member x requires: `max(0,
-    /// width - d) + e`, where d functions depend on x, and e is the number of variables outside the
-    /// set on which some function depends that does not depend on x.
+    /// width - d) + e`. Here `width` is the width of x over the set without x, d is the number of
+    /// functions that depend on x, and e is the number of variables outside the set on which some
+    /// function depends that does not depend on x.
     fn nodes_for_width(&self, mask: Mask, x: VarIx, width: u32) -> u64
         requires { x < self.now.problem.inputs }
         ensures few { result < 2 ^ 33 }

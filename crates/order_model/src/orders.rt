@@ -10,7 +10,7 @@ use definitions::{BadOrder, Mask, VarIx, contains};
 use std::alloc::{AllocError, Global};
 use std::marker::Model;
 
-/// A variable order, top first: each variable of 0 to n-1 once, n being 1 to 16.
+/// A variable order, top first: each variable from 0 to n-1 once, where n is from 1 to 16.
 #[derive(Debug, Drop)]
 pub struct Order {
     variables: Vec<VarIx>,
@@ -24,7 +24,7 @@ impl Model for Order {
     ghost invariant = { λ o. Accepts o.variables.items };
 }
 
-/// Whether a list has 1 to 16 variables, each below its length.
+/// Whether `variables` has 1 to 16 variables, each below the length of the list.
 fn is_in_range(variables: &[VarIx]) -> bool
     ensures { IsTrue result ↔ IsInRange variables.now }
 {
@@ -32,7 +32,7 @@ fn is_in_range(variables: &[VarIx]) -> bool
     1 <= n && n <= 16 && variables.iter().all(|x| (*x as usize) < n)
 }
 
-/// Whether some variable stands in a list twice.
+/// Whether some variable occurs more than once in `variables`.
 fn has_repeat(variables: &[VarIx]) -> bool
     requires { All (λ x. x < 16) variables.now }
     ensures repeated { OnTrue result (IsDistinct nat_eq variables.now → ⊥) }
@@ -48,7 +48,7 @@ fn has_repeat(variables: &[VarIx]) -> bool
     false
 }
 
-/// The place of variable x in a list that has it, counted from 0.
+/// The index of variable x in `variables`. Requires the list to have x exactly once.
 fn place_in_list(variables: &[VarIx], x: VarIx) -> usize
     requires distinct { IsDistinct nat_eq variables.now }
     requires there { IsTrue (has variables.now x) }
@@ -64,8 +64,8 @@ fn place_in_list(variables: &[VarIx], x: VarIx) -> usize
 }
 
 impl Order {
-    /// The order with these variables, top first, or why the list is no order: `OutOfRange` is
-    /// reported before `NotEach`.
+    /// The order with these variables, top first. If the list is no order, the error says why:
+    /// `OutOfRange` is reported before `NotEach`.
     pub fn try_from_slice(alloc: Global, variables: &[VarIx]) -> Result<Order, BadOrder>
         ensures accepted { OnOk result (Accepts variables.now) }
         ensures value { IfOk result (λ order. order ≡ variables.now) }
@@ -83,7 +83,8 @@ impl Order {
         }
     }
 
-    /// The order with these variables, top first. The list has each variable below its length once.
+    /// The order with these variables, top first. Requires the list to have each variable below its
+    /// length exactly once.
     pub fn from_variables(variables: Vec<VarIx>) -> Order
         requires { Accepts variables.items }
         ensures { result ≡ variables.items }
@@ -91,7 +92,7 @@ impl Order {
         Order { variables }
     }
 
-    /// The file order of n variables: 0, 1, .., n-1.
+    /// The order in which the file lists the n variables: 0, 1, .., n-1.
     pub fn file_order(alloc: Global, n: u8) -> Result<Order, AllocError>
         requires some { 1 ≤ n }
         requires few { n ≤ 16 }

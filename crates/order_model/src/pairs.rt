@@ -12,8 +12,8 @@ use definitions::{Mask, PairsFault, VarIx, contains};
 use std::alloc::{AllocError, Global};
 use std::marker::Model;
 
-/// Pairs (a, b) of variables. An order keeps them if a stands above b for each pair. They lead from
-/// no variable back to itself, so that some order keeps them.
+/// Pairs (a, b) of variables. An order keeps the pairs if a stands above b for each pair. Some
+/// order keeps them: they lead from no variable back to itself.
 #[derive(Debug, Drop)]
 pub struct Pairs {
     inputs: u8,
@@ -31,7 +31,7 @@ impl Model for Pairs {
     ghost invariant = { λ p. HoldsKept p.inputs p.below };
 }
 
-/// The variable that a word states: a decimal from 0 to 15 without leading zeros. None for any
+/// The variable that `word` states: a decimal from 0 to 15 without leading zeros. None for any
 /// other word.
 fn number(word: &[u8]) -> Option<VarIx>
     ensures { result ≡ variable_of word.now }
@@ -43,7 +43,7 @@ fn number(word: &[u8]) -> Option<VarIx>
     }
 }
 
-/// The index of the first comma of a text. None if it has no comma.
+/// The index of the first comma in `part`. None if there is no comma.
 fn comma_place(part: &[u8]) -> Option<usize>
     ensures first { result ≡ position (λ byte. byte == 44) part.now }
     ensures within { IfSome result (λ place. place < length part.now) }
@@ -51,8 +51,8 @@ fn comma_place(part: &[u8]) -> Option<usize>
     part.iter().position(|byte| *byte == b',')
 }
 
-/// The pair (a, b), of which a must stand above b, that a text such as `2,0` states. None if the
-/// text is not of this form.
+/// The pair (a, b), where a must stand above b, that `part` states as `a,b`. None if `part` is not
+/// of this form.
 fn pair(part: &[u8]) -> Option<(VarIx, VarIx)>
     ensures { result ≡ pair_of part.now }
 {
@@ -75,7 +75,7 @@ fn listed_masks(text: &[u8]) -> Option<[Mask; 16]>
     Some(below)
 }
 
-/// Whether all pairs are of variables below n. Bit b of `below[a]` stands for the pair (a, b).
+/// Whether all variables of the pairs are below n. Bit b of `below[a]` stands for the pair (a, b).
 fn are_within(below: &[Mask; 16], n: u8) -> bool
     requires { n ≤ 16 }
     ensures { IsTrue result ↔ AreWithin n below.now }
@@ -89,8 +89,8 @@ fn are_within(below: &[Mask; 16], n: u8) -> bool
     true
 }
 
-/// One step of Warshall's transitive closure: each variable that reaches k gets what k reaches. Bit
-/// b of `reached[a]` says that a reaches b.
+/// One step of Warshall's transitive closure: each variable that reaches k gets all variables that
+/// k reaches. Bit b of `reached[a]` says that a reaches b.
 fn join_through(reached: &mut [Mask; 16], k: VarIx)
     requires { k < 16 }
     ensures { IsJoined reached.old k reached.new }
@@ -103,8 +103,8 @@ fn join_through(reached: &mut [Mask; 16], k: VarIx)
     }
 }
 
-/// The smallest variable from which pairs lead back to itself, None if there is none. Bit b of
-/// `below[a]` stands for the pair (a, b).
+/// The smallest variable from which the pairs lead back to itself. None if there is no such
+/// variable. Bit b of `below[a]` stands for the pair (a, b).
 fn least_on_cycle(below: &[Mask; 16]) -> Option<VarIx>
     ensures found { IfSome result (λ v. IsPairCycle (pairs_in 16 below.now) v) }
     ensures none { IfNone result (HasNoCycle (pairs_in 16 below.now)) }
@@ -138,8 +138,9 @@ fn masks_of(pairs: &[(VarIx, VarIx)]) -> Option<[Mask; 16]>
     Some(below)
 }
 
-/// The pairs of n variables, bit b of `below[a]` standing for (a, b), or why they are refused: some
-/// variable isn't below n, or else pairs lead from a variable back to itself.
+/// The pairs of n variables that `below` has: bit b of `below[a]` stands for the pair (a, b).
+/// Refused if a variable of a pair isn't below n, or else if the pairs lead from a variable back to
+/// itself.
 fn of_masks(below: [Mask; 16], n: u8) -> Result<Pairs, PairsFault>
     requires some { 1 ≤ n }
     requires few { n ≤ 16 }
@@ -155,7 +156,7 @@ fn of_masks(below: [Mask; 16], n: u8) -> Result<Pairs, PairsFault>
 }
 
 impl Pairs {
-    /// An empty list of pairs of n variables.
+    /// No pairs of n variables, so that every order keeps them.
     pub fn none(n: u8) -> Pairs
         requires some { 1 ≤ n }
         requires few { n ≤ 16 }
@@ -169,7 +170,8 @@ impl Pairs {
     }
 
     /// The pairs of n variables that a text such as `2,0:1,0` lists, in decimals from 0 to 15
-    /// without leading zeros, or why they are refused. A pair that is listed twice counts once.
+    /// without leading zeros. The error is the reason for which the text is refused. Duplicates are
+    /// ignored.
     pub fn parse(text: &[u8], n: u8) -> Result<Pairs, PairsFault>
         requires some { 1 ≤ n }
         requires few { n ≤ 16 }
@@ -181,8 +183,8 @@ impl Pairs {
         of_masks(below, n)
     }
 
-    /// The pairs (a, b) of n variables that a list has, in any arrangement, or why they are
-    /// refused, which is never `BadPair`. A pair that is listed twice counts once.
+    /// The pairs (a, b) of n variables in a list, in any arrangement. The error is the reason for
+    /// which the list is refused, and is never `BadPair`. Duplicates are ignored.
     pub fn of(pairs: &[(VarIx, VarIx)], n: u8) -> Result<Pairs, PairsFault>
         requires some { 1 ≤ n }
         requires few { n ≤ 16 }
@@ -240,7 +242,7 @@ impl Pairs {
         Ok(pairs)
     }
 
-    /// Whether an order keeps the pairs: a stands above b for each pair (a, b).
+    /// Whether `order` keeps the pairs: a stands above b for each pair (a, b).
     pub fn keeps(&self, order: &Order) -> bool
         requires { length order.now ≡ self.now.inputs }
         ensures { result ≡ keeps self.now.pairs order.now }
@@ -255,7 +257,8 @@ impl Pairs {
         true
     }
 
-    /// Whether a set is lawful: for each pair (a, b), if it has a it has b.
+    /// Whether `set` is lawful, that is downward closed: for each pair (a, b), if it has a it has
+    /// b.
     pub fn lawful(&self, set: Mask) -> bool
         ensures { result ≡ is_lawful self.now.pairs (members self.now.inputs set) }
     {
@@ -268,8 +271,8 @@ impl Pairs {
         lacking == 0
     }
 
-    /// The smallest variable that may stand on top of a lawful set: the smallest member without
-    /// which the set stays lawful. The set isn't empty.
+    /// The smallest member of `set` that may stand on top of the others: the set stays lawful
+    /// without this member. Requires the set to be lawful and not empty.
     fn smallest_top(&self, set: Mask) -> VarIx
         requires some { 0 < set }
         requires within { set < 2 ^ self.now.inputs }
@@ -286,7 +289,7 @@ impl Pairs {
         unreachable!()
     }
 
-    /// The first of the orders that keep the pairs, compared as lists of numbers.
+    /// The lexicographically first of the orders that keep the pairs.
     pub fn first_order(&self, alloc: Global) -> Result<Order, AllocError>
         ensures { IfOk result (λ order. IsFirstOrder self.now.inputs self.now.pairs order) }
     {

@@ -7,7 +7,7 @@ use crate::orders::Order;
 pub struct SizedOrder {
     /// The order, top first.
     pub order: Order,
-    /// Its size, in decision nodes.
+    /// The size of the order: the sum of its level counts.
     pub total: u32,
     /// The level counts, top first.
     pub levels: Vec<u32>,

@@ -1,6 +1,6 @@
 -- Pairs in buckets, each bucket a chain of its pairs from the last one back.
---     pairs_of links, befores_of links      the pairs, by their numbers, and what stands beside each
---     bucket_of factor buckets p      the bucket of a pair, of so many
+--     pairs_of links, befores_of links      the pairs, by their numbers, and for each pair 1 + the number of the pair before it in its bucket, or 0
+--     bucket_of factor buckets p      the bucket of a pair, of `buckets` buckets
 --     AreChainedPairs factor pairs before last      each pair is reached from its bucket's last one
 use Rattle.std.specs.Prelude.{◌≡◌, ◌≢◌, ◌+◌, ◌-◌, ◌*◌, ◌%◌, ◌^◌, ◌<◌, ◌≤◌, ℕ, List, map, length, slice_index, get_or, bit_and}
 use Rattle.pair_buckets.specs.declared.pair_numbers.Link.{Link}

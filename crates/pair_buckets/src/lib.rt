@@ -1,5 +1,6 @@
-//! Numbers of pairs of classes by first occurrence, by chains in buckets: one form for the checker,
-//! and for the search that keeps its memory from one class table to the next.
+//! Numbers of pairs of classes by first occurrence, found by a hash table with chained buckets.
+//! There is one form for the checker, and one for the search, which keeps its memory from one class
+//! table to the next.
 #![tactic(auto)]
 
 mod numbers;

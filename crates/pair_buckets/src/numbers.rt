@@ -1,5 +1,5 @@
-//! Numbers of the pairs of a class table's entries that differ in one variable: the class table of
-//! a set with one more variable.
+//! Numbers of the pairs of class table entries that differ in one variable. They form the class
+//! table of the set with this variable added.
 
 ghost use Rattle.std.specs.Prelude.{◌≡◌, ℕ, ◌/◌, ◌^◌, ◌<◌, ◌≤◌, map, get_or, length, IfOk, IsTrue, OnOk};
 ghost use Rattle.subfunction_classes.specs.Dependence.{joined_mask};
@@ -11,16 +11,17 @@ use definitions::{Mask, VarIx};
 use std::alloc::{AllocError, Global};
 use subfunction_classes::join_mask;
 
-/// The number of each pair, and of each number the mask of the variables that its functions depend
-/// on.
+/// The class table of a set to which a variable was added, from the pairs of the table without it.
 #[derive(Drop)]
 pub struct Numbered {
+    /// Entry j: the number of pair j, which is a class number of the larger set.
     pub numbers: Vec<u32>,
+    /// Entry c: the set of the variables on which the subfunctions of class c depend.
     pub masks: Vec<Mask>,
 }
 
 impl Numbered {
-    /// Room for the numbers of `pairs` pairs.
+    /// Empty lists, with room for the numbers of `pairs` pairs.
     pub fn with_room(alloc: Global, pairs: usize) -> Result<Numbered, AllocError> {
         Ok(Numbered {
             numbers: Vec::with_capacity(alloc, pairs)?,
@@ -29,7 +30,8 @@ impl Numbered {
     }
 }
 
-/// The index of the entry of pair j where variable x is 0. The set has no variable below x.
+/// The index of the entry of pair j in which variable x is 0, in the class table of a set without
+/// variables below x.
 #[inline(always)]
 fn low_place(x: VarIx, j: usize) -> usize
     requires variable { x < 16 }
@@ -40,8 +42,8 @@ fn low_place(x: VarIx, j: usize) -> usize
     2 * j - (j & below)
 }
 
-/// Pair j: the entry where variable x is 0, and the one where it is 1. They stand 2^x apart,
-/// because the set has no variable below x.
+/// Pair j of a class table: the entry where variable x is 0, and the one where x is 1. They stand
+/// 2^x apart, because the table's set has no variable below x.
 #[inline(always)]
 pub fn pair_at(numbers: &[u32], x: VarIx, j: usize) -> (u32, u32)
     requires paired { IsPaired numbers.now x }
@@ -53,10 +55,10 @@ pub fn pair_at(numbers: &[u32], x: VarIx, j: usize) -> (u32, u32)
     (numbers[low], numbers[high])
 }
 
-/// An odd number whose multiples spread over the words of 32 bits.
+/// The odd multiplier of the hash: its multiples spread over the words of 32 bits.
 const SPREAD: u32 = 2_654_435_761;
 
-/// How many buckets are made for `pairs` pairs of `classes` classes: a power of two.
+/// How many buckets are made for `pairs` pairs of numbers of `classes` classes: a power of two.
 fn buckets_for(pairs: usize, classes: usize) -> usize
     requires pairs { pairs ≤ 2 ^ 20 }
     requires classes { classes ≤ 2 ^ 20 }
@@ -66,8 +68,8 @@ fn buckets_for(pairs: usize, classes: usize) -> usize
     most.next_power_of_two()
 }
 
-/// By what a pair's lower class is multiplied for its bucket: by the number of classes if there is
-/// then a bucket for each pair of classes, else by `SPREAD`.
+/// The factor by which the first class of a pair is multiplied to find the pair's bucket. It is the
+/// number of classes if there is then a bucket for each pair of classes, and else `SPREAD`.
 fn factor_for(buckets: usize, classes: usize) -> u32
     requires { classes ≤ 2 ^ 20 }
 {
@@ -78,8 +80,9 @@ fn factor_for(buckets: usize, classes: usize) -> u32
     }
 }
 
-/// Writes to `joined`, for each distinct pair of classes, the mask of the function that is the
-/// first where x is 0 and the second where x is 1. `masks` has those of the classes.
+/// Writes to `joined`, over what it has, the mask of each distinct pair of classes: that of the
+/// function whose cofactors by x = 0 and x = 1 are the two classes. `masks` has the masks of the
+/// classes.
 fn fill_masks(
     pairs: &PairNumbers,
     x: VarIx,
@@ -101,7 +104,7 @@ fn fill_masks(
     Ok(())
 }
 
-/// Whether the numbers are 0, 1, 2 and so on: no two entries then have one class.
+/// Whether `numbers` is 0, 1, 2 and so on, so that no two entries of the class table are equal.
 pub fn are_own(numbers: &[u32]) -> bool
     ensures { IsTrue result → AreOwn numbers.now }
 {
@@ -113,9 +116,9 @@ pub fn are_own(numbers: &[u32]) -> bool
     true
 }
 
-/// Writes the numbers of a table's pairs and their masks to `to`. No two entries have one class, so
-/// no two pairs are equal, and pair j has the number j. The pairs differ in x, and `masks` has
-/// those of the classes.
+/// Writes the numbers of a class table's pairs, and their masks, to `to`, over what it has.
+/// Requires all entries of the table to be different: no two pairs are then equal, and pair j gets
+/// the number j. The entries of a pair differ in x, and `masks` has the masks of the classes.
 fn number_distinct_pairs(
     numbers: &[u32],
     x: VarIx,
@@ -138,9 +141,9 @@ fn number_distinct_pairs(
     Ok(())
 }
 
-/// Writes the number of each pair of a table, by first occurrence, and the mask of each number to
-/// `to`, over what it has. The pairs differ in x, and `masks` has those of the classes. `seen` is
-/// working memory.
+/// Writes the number of each pair of a class table, by first occurrence, and the mask of each
+/// number to `to`, over what it has. The entries of a pair differ in x, and `masks` has the masks
+/// of the classes. `seen` is working memory.
 pub fn number_pairs(
     numbers: &[u32],
     x: VarIx,
@@ -170,8 +173,9 @@ pub fn number_pairs(
     Ok(())
 }
 
-/// The number of each pair of a table by first occurrence, and the mask of each number. The pairs
-/// differ in x, below which the set has no variable, and `masks` has those of the classes.
+/// The number of each pair of a class table, by first occurrence, and the mask of each number. The
+/// entries of a pair differ in x, below which the table's set has no variable, and `masks` has the
+/// masks of the classes.
 pub fn numbered_pairs(
     alloc: Global,
     numbers: &[u32],

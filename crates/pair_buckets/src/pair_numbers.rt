@@ -8,18 +8,19 @@ ghost use Rattle.pair_buckets.specs.Chains.{AreChainedPairs, pairs_of, befores_o
 use std::alloc::{AllocError, Global};
 use std::marker::Model;
 
-/// A pair, and one more than the number of the pair before it in its bucket, or 0.
+/// A pair, and one more than the number of the pair that was put into its bucket before it, or 0 if
+/// it is the bucket's first.
 #[derive(Clone, Copy, Debug)]
 pub(crate) struct Link {
     pub(crate) pair: (u32, u32),
     pub(crate) before: u32,
 }
 
-/// Distinct pairs in the order in which they were put in; a pair's place is its number. The pairs
-/// of a bucket are chained, the last one first.
+/// Distinct pairs in the order in which they were put in; a pair's index is its number. The pairs
+/// of a bucket are chained, from the last one to the first.
 #[derive(Drop)]
 pub struct PairNumbers {
-    /// By what a pair's lower class is multiplied for its bucket.
+    /// The factor by which the first class of a pair is multiplied to find the pair's bucket.
     factor: u32,
     links: Vec<Link>,
     // one more than the number of the last pair of each bucket, or 0
@@ -38,9 +39,9 @@ impl Model for PairNumbers {
         (befores_of s.links.items) s.last.items };
 }
 
-/// The bucket of a pair of class numbers: the first times `factor` plus the second, modulo
-/// `buckets`, which is a power of two. If `factor` is the number of classes and `buckets` at least
-/// its square, each pair has a bucket of its own.
+/// The bucket of a pair of class numbers: the first number times `factor` plus the second, modulo
+/// `buckets`, which is a power of two. If `factor` is the number of classes and `buckets` is at
+/// least its square, each pair has a bucket of its own.
 #[inline(always)]
 fn bucket(factor: u32, buckets: usize, pair: (u32, u32)) -> usize
     requires some { 0 < buckets }
@@ -51,8 +52,8 @@ fn bucket(factor: u32, buckets: usize, pair: (u32, u32)) -> usize
     key as usize & (buckets - 1)
 }
 
-/// The number of a pair, if it was put in. The pairs of bucket `home`, which is its bucket, are
-/// compared from the last one back.
+/// The number of `pair`. None if it was not put in. Requires `home` to be the pair's bucket, whose
+/// pairs are compared from the last one to the first.
 #[inline(always)]
 fn find(factor: u32, links: &[Link], last: &[u32], home: usize, pair: (u32, u32)) -> Option<u32>
     requires chained { AreChainedPairs factor (pairs_of links.now) (befores_of links.now) last.now }
@@ -87,8 +88,8 @@ impl PairNumbers {
         })
     }
 
-    /// Takes out all pairs, and makes `buckets` buckets and room for as many pairs. `factor` is by
-    /// what a pair's lower class is multiplied for its bucket.
+    /// Removes all pairs, and makes `buckets` buckets and room for as many pairs. `factor` is what
+    /// the first class of a pair is multiplied by to find the pair's bucket.
     pub fn restart(&mut self, factor: u32, buckets: usize) -> Result<(), AllocError>
         requires { 0 < buckets }
         ensures { self.new ≡ [] }
@@ -100,8 +101,8 @@ impl PairNumbers {
         self.links.reserve(buckets)
     }
 
-    /// The number of a pair by first occurrence. A new pair is put in. If memory is refused nothing
-    /// changes.
+    /// Returns the number of `pair` by first occurrence, after putting the pair in if it is new. If
+    /// memory is refused nothing changes.
     #[inline(always)]
     pub fn insert(&mut self, pair: (u32, u32)) -> Result<u32, AllocError>
         requires { length self.old < 2 ^ 20 }

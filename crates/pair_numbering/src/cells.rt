@@ -61,8 +61,10 @@ fn number_block<const EVENLY: bool>(
 }
 
 // The loops of `number_blocks` need all registers, so it isn't inlined.
-/// Writes the number of each pair to `out`, and the mask of each number to `joined`. Returns how
-/// many numbers there are, or None if they may be too many for cells of 16 bits.
+/// Writes the number of each pair to `out`, and the mask of each number to `joined`, one block of
+/// 2^rank pairs after another. Requires a zero in `cells` for each pair of classes. Returns how
+/// many numbers there are. None if they may be too many for cells of 16 bits: then `out` and
+/// `joined` are unfinished.
 #[inline(never)]
 fn number_blocks(
     pairs: &MaskedPairs<'_>,

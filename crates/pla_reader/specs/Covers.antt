@@ -3,8 +3,8 @@
 --     input_count line, .. , row_bytes line      what a line gives
 --     inputs_of lines, outputs_of lines      the numbers that the lines give
 --     cover_of lines      the cover of the lines
---     IsCover cover      it is well formed
---     functions_of cover      its functions (espresso(5), logical type f)
+--     IsCover cover      a cover is well formed
+--     functions_of cover      the functions of a cover (espresso(5), logical type f)
 use Rattle.std.specs.Prelude.{◌≡◌, ℕ, ◌≤◌, Bool, true, false, if◌then◌else◌, ◌==◌, List, [], ◌∷◌, ◌++◌, map, take, drop, Option, Some, None, decimal, filter_map, codes, length}
 use Rattle.std.specs.List.{All, range_with_len}
 use Rattle.definitions.specs.Functions.{Function}
@@ -55,7 +55,7 @@ abbrev pub row_bytes : Line → Option (List ℕ)
 row_bytes (Row bytes) = Some bytes
 row_bytes _ = None
 
--- the first of the values, else another one
+-- the first value of a list, or the given one if the list is empty
 abbrev pub first_or : {A : Type 0} → A → List A → A
 first_or other [] = other
 first_or other (x ∷ xs) = x
@@ -67,7 +67,7 @@ inputs_of lines = first_or 0 (filter_map input_count lines)
 unfoldable pub outputs_of : List Line → ℕ
 outputs_of lines = first_or 0 (filter_map output_count lines)
 
--- a text with each number below n after it
+-- n texts: the given text followed by 0, 1, 2 and so on
 unfoldable pub numbered_names : List ℕ → ℕ → List (List ℕ)
 numbered_names front n = map (λ i. front ++ decimal i) (range_with_len 0 n)
 

@@ -11,11 +11,11 @@ use Rattle.pla_reader.specs.Lines.{Line}
 use Rattle.pla_reader.specs.Lines.Line.{Empty, Inputs, Outputs, InputNames, OutputNames, Products, LogicalType, End, UnknownWord, Row}
 use Rattle.pla_reader.specs.Covers.{input_count, output_count, input_naming, output_naming, type_words, row_bytes, inputs_of, outputs_of}
 
--- whether an earlier line gives a thing
+-- whether an earlier line gives a number, names or a type: that which the first argument finds in a line
 abbrev pub comes : {A : Type 0} → (Line → Option A) → List Line → Bool
 comes thing before = is_filled (filter_map thing before)
 
--- the first one of what may be there
+-- the first fault of a list of faults that may be there
 abbrev pub first_some : List (Option LineFault) → Option LineFault
 first_some [] = None
 first_some (None ∷ others) = first_some others
@@ -41,14 +41,14 @@ is_plain word = same word (codes "f")
 abbrev pub is_known : List ℕ → Bool
 is_known word = is_plain word || same word (codes "fd")
 
--- whether the words are one such type
+-- whether the words are one word, the type f; whether they are one word, f or fd
 abbrev pub is_plain_type : List (List ℕ) → Bool
 is_plain_type given = option_map_or is_plain (only_word given) false
 
 abbrev pub is_type : List (List ℕ) → Bool
 is_type given = option_map_or is_known (only_word given) false
 
--- whether an earlier line says .type f, under which an output - or 2 says nothing
+-- whether an earlier line is .type f, under which an output character - or 2 has no meaning
 abbrev pub takes_dont_cares : List Line → Bool
 takes_dont_cares before = list_all is_plain_type (filter_map type_words before) && comes type_words before
 
@@ -70,20 +70,20 @@ length_fault count wanted =
     else if nat_lt wanted count then Some LongTerm
     else None
 
--- the first fault of a term from the left: n inputs, m outputs, and nothing after them
+-- the first fault of a term from the left: the term has n input characters, m output characters, and nothing more
 unfoldable pub term_fault : Bool → ℕ → ℕ → List ℕ → Option LineFault
 term_fault taken n m bytes =
     first_some (map input_fault (take n bytes) ++ map (output_fault taken) (take m (drop n bytes))
     ++ length_fault (length bytes) (n + m) ∷ [])
 
--- the fault of a count, by whether one came before
+-- the fault of a number of inputs or outputs; the first argument says whether one came before
 abbrev pub head_fault : Bool → List (List ℕ) → LineFault → Option LineFault
 head_fault repeated given outside = first_fault (
     (repeated, RepeatedHead)
     ∷ (not (is_one_number given), BadNumber)
     ∷ (not (is_count given), outside) ∷ [])
 
--- the fault of names, by whether their number and earlier names came: there must be as many words as there are variables
+-- the fault of names; the first arguments say whether their number, and whether names, came before: each variable has one name
 abbrev pub naming_fault : Bool → Bool → ℕ → List (List ℕ) → Option LineFault
 naming_fault counted repeated count given = first_fault (
     (not counted, MissingHead)
@@ -91,7 +91,7 @@ naming_fault counted repeated count given = first_fault (
     ∷ (not (length given == count), NameCount)
     ∷ (not (list_all is_name given), BadName) ∷ [])
 
--- the fault of a logical type, by whether one came before, and a term: it must come before any product terms
+-- the fault of a logical type; the first arguments say whether a type, and whether a term, came before: the type precedes all terms
 abbrev pub type_fault : Bool → Bool → List (List ℕ) → Option LineFault
 type_fault repeated late given = first_fault (
     (repeated, RepeatedHead)

@@ -1,7 +1,7 @@
--- What a line of a PLA description says.
+-- The meaning of a line of a PLA description.
 --     Line, line_said line      a line's meaning
 --     said bytes      the lines of an input
---     description lines      those before the one that ends the description
+--     description lines      the lines before the one that ends the description
 use Rattle.std.specs.Prelude.{ℕ, Bool, true, false, not, if◌then◌else◌, ◌==◌, List, [], ◌∷◌, map, codes, slice_index, take_while}
 use Rattle.definitions.specs.Texts.{same}
 use Rattle.pla_reader.specs.Text.{lines_of, content, words, positions}
@@ -45,7 +45,7 @@ abbrev pub is_end : Line → Bool
 is_end End = true
 is_end _ = false
 
--- what the lines of an input say
+-- the meanings of the lines of an input
 unfoldable pub said : List ℕ → List Line
 said bytes = map line_said (lines_of bytes)
 

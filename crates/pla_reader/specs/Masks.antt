@@ -1,14 +1,14 @@
 -- The masks of a term while it is read.
---     Fits n m term      a term of n inputs and m outputs has no other bits
+--     Fits n m term      the masks of a term of n inputs and m outputs have no bits for others
 --     literal_at masks i, output_at masks j      what the masks hold of an input and an output
---     ReadsInput old i c new, ReadsOutput old j c new      new is old with what a character says at input i, or at output j
+--     ReadsInput old i c new, ReadsOutput old j c new      new is old with the meaning of a character at input i, or at output j
 use Rattle.std.specs.Prelude.{◌≡◌, ◌≢◌, ℕ, ◌<◌, ◌^◌, ◌==◌, Bool, if◌then◌else◌, Option, Some, None, bit_and}
 use Rattle.std.specs.Int.{bit_at}
 use Rattle.definitions.specs.declared.Term.{Term}
 use Rattle.pla_reader.specs.declared.terms.Masks.{Masks}
 use Rattle.pla_reader.specs.Covers.{literal_of, in_on_set}
 
--- a term of n inputs and m outputs has no other bits
+-- the masks of a term of n inputs and m outputs have no bits for other inputs and outputs
 pub record Fits (n m : ℕ) (term : Term) : Type 0 where
   pub care : term.care < 2 ^ n
   pub outs : term.outs < 2 ^ m
@@ -29,7 +29,7 @@ pub record ReadsInput (old : Masks) (i c : ℕ) (new : Masks) : Type 0 where
   pub within : bit_and old.value old.care ≡ old.value → bit_and new.value new.care ≡ new.value
   pub small : (n : ℕ) → i < n → old.care < 2 ^ n → new.care < 2 ^ n
 
--- new is old with what a character says at output j
+-- new is old with the meaning of a character at output j
 pub record ReadsOutput (old : Masks) (j c : ℕ) (new : Masks) : Type 0 where
   pub here : output_at new j ≡ in_on_set c
   pub others : (k : ℕ) → k ≢ j → bit_at new.outs k ≡ bit_at old.outs k

@@ -1,8 +1,8 @@
--- How far the program's reading of the lines is.
+-- What the program has read of a description's lines.
 --     State, state_of progress      what the program holds
---     Agrees before state      it is what the lines before give
+--     Agrees before state      the state is what the lines before give
 --     Taken before line state result, Takes old line new result      the program's answer for a line
---     IsCoverOf state cover, IsEndError state number error      its answer at the end of the description
+--     IsCoverOf state cover, IsEndError state number error      the program's answer at the end of the description
 use Rattle.std.specs.Prelude.{◌≡◌, ℕ, ◌≤◌, Bool, true, false, List, [], ◌∷◌, ◌++◌, length, map, Option, Some, None, Result, Ok, Err, unwrap_or, filter_map, ◌&&◌, is_some, codes, IfSome}
 use Rattle.std.specs.Option.{option_to_list, option_map}
 use Rattle.std.specs.List.{All}
@@ -41,7 +41,7 @@ state_of p = record {
   terms = p.terms.items;
 }
 
--- before the first line
+-- the state before the first line
 abbrev pub start : State
 start = record {
   inputs = None;
@@ -82,7 +82,7 @@ pub record Agrees (before : List Line) (s : State) : Type 0 where
       ≡ map (product_of (unwrap_or s.inputs 0) (unwrap_or s.outputs 0)) s.terms
   pub sound : IsSoundState s
 
--- the answer for a line after others: it has no fault and is held, or its fault
+-- the answer for a line after others: the line has no fault and the state has what it gives, or the answer is the line's fault
 abbrev pub Taken : {U : Type 0} → List Line → Line → State → Result U LineError → Type 0
 Taken before line after (Ok u) = (fault_of before line ≡ None) × Agrees (before ++ line ∷ []) after
 Taken before line after (Err line_errors.Memory) = Unit {0}

@@ -1,6 +1,6 @@
 -- What an input is read as.
---     faults lines      the faulty lines with their numbers, counted from 1, each judged by those before it; then the end
---     Reads bytes cover, FirstFault bytes line fault      the input is read as the cover; its first fault
+--     faults lines      the faulty lines with their numbers, counted from 1, each judged by the lines before it; then the fault of the end
+--     Reads bytes cover, FirstFault bytes line fault      the input is read as the cover; the input's first fault
 use Rattle.std.specs.Prelude.{◌≡◌, ℕ, ◌+◌, if◌then◌else◌, ◌&&◌, List, [], ◌∷◌, ◌++◌, length, take, Option, min, filter_map}
 use Rattle.std.specs.Option.{option_map}
 use Rattle.std.specs.List.{slice_index_or, range_with_len}
@@ -19,13 +19,13 @@ judged lines k = option_map (λ fault. (k + 1, fault)) (fault_of (take k lines) 
 abbrev pub end_number : List Line → ℕ
 end_number lines = min (length (description lines) + 1) (length lines)
 
--- the end of the description wants both counts
+-- the fault of the end of a description, if the number of inputs or of outputs is missing
 unfoldable pub end_faults : List Line → List (ℕ × LineFault)
 end_faults lines =
     if comes input_count (description lines) && comes output_count (description lines) then []
     else (end_number lines, MissingHead) ∷ []
 
--- all faults of an input's lines, each judged by the lines before it, and then that of the end
+-- all faults of an input's lines, each judged by the lines before it, and then the fault of the end
 unfoldable pub faults : List Line → List (ℕ × LineFault)
 faults lines = filter_map (judged (description lines)) (range_with_len 0 (length (description lines)))
     ++ end_faults lines

@@ -1,12 +1,12 @@
 -- What the program finds in a line.
---     line_of statement      the line that it stands for
+--     line_of statement      the meaning of the line that a statement stands for
 use Rattle.pla_reader.specs.declared.statements.Statement.{Statement}
 use Rattle.pla_reader.specs.declared.statements.Statement.TheVariants as found
 use Rattle.pla_reader.specs.Text.{words, positions}
 use Rattle.pla_reader.specs.Lines.{Line}
 use Rattle.pla_reader.specs.Lines.Line.{Empty, Inputs, Outputs, InputNames, OutputNames, Products, LogicalType, End, UnknownWord, Row}
 
--- the line that the program's finding stands for
+-- the meaning of the line that a statement stands for
 abbrev pub line_of : Statement → Line
 line_of found.Empty = Empty
 line_of (found.Inputs text) = Inputs (words text.now)

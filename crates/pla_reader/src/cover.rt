@@ -1,4 +1,4 @@
-//! Covers.
+//! Covers: product terms, and the names of inputs and outputs.
 
 ghost use Rattle.std.specs.Prelude.{◌≡◌, ◌≤◌, length, map};
 ghost use Rattle.std.specs.List.{All};

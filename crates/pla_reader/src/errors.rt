@@ -1,4 +1,4 @@
-//! Why an input is not read.
+//! Why an input is not read as a cover, and what is wrong with its lines.
 
 use std::alloc::AllocError;
 use thiserror::Error;
@@ -6,11 +6,11 @@ use thiserror::Error;
 /// What is wrong with a line of a PLA description.
 #[derive(Clone, Copy, Debug, PartialEq, Eq, Error)]
 pub enum LineFault {
-    /// A term or names stand before the numbers of inputs and outputs that they need, or the
+    /// A term or names stand before the numbers of inputs and outputs that they require, or the
     /// description ends without these numbers.
     #[error("MissingHead")]
     MissingHead,
-    /// A directive that may stand once comes again.
+    /// A directive that may occur only once comes again.
     #[error("RepeatedHead")]
     RepeatedHead,
     /// The number of inputs isn't 1 to 16.
@@ -19,10 +19,11 @@ pub enum LineFault {
     /// The number of outputs isn't 1 to 16.
     #[error("OutputCount")]
     OutputCount,
-    /// A directive that takes one number of one to nine decimal digits has something else.
+    /// A directive that takes one number, of one to nine decimal digits, is followed by something
+    /// else.
     #[error("BadNumber")]
     BadNumber,
-    /// There are not as many names as inputs or outputs.
+    /// A directive lists more or fewer names than there are inputs, or outputs.
     #[error("NameCount")]
     NameCount,
     /// A name with a byte outside 33 to 126.
@@ -54,8 +55,8 @@ pub enum LineFault {
 /// Why an input is not read as a cover.
 #[derive(Clone, Copy, Debug, PartialEq, Eq, Error)]
 pub enum PlaError {
-    /// The first faulty line, counted from 1, and its fault. An input with no line is faulty at
-    /// line 0.
+    /// The number of the first faulty line, counted from 1, and its fault. If the input has no
+    /// line, the number is 0.
     #[error("line {0}: {1}")]
     Line(usize, LineFault),
     /// The input has more than 16,777,216 bytes.

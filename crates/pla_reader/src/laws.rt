@@ -1,4 +1,5 @@
-//! What holds of all inputs.
+//! Laws of the reading of PLA descriptions. Each law is the contract of a function that does
+//! nothing.
 
 ghost use Rattle.std.specs.Prelude.{◌≡◌, ◌⊎◌, ℕ, List};
 ghost use Rattle.pla_reader.specs.declared.errors.LineFault.{LineFault};
@@ -6,7 +7,7 @@ ghost use Rattle.pla_reader.specs.Covers.{NamedCover, IsCover};
 ghost use Rattle.pla_reader.specs.Reading.{Reads, FirstFault};
 
 /// Each input is read as a cover or has a first fault, and not both. It is read as only one cover,
-/// and has only one first fault.
+/// and it has only one first fault.
 pub fn inputs_have_one_reading()
     ensures some { (bytes : List ℕ) →
         ((cover : NamedCover) × Reads bytes cover)

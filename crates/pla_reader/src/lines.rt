@@ -1,4 +1,4 @@
-//! Lines and their words.
+//! The lines of a text, and the words of a line.
 
 ghost use Rattle.std.specs.Prelude.{◌≡◌, ◌<◌, ◌≤◌, ◌==◌, ◌||◌, ◌∷◌, ◌++◌, [], List, ℕ, length, IfSome, IfNone, Some, None};
 ghost use Rattle.std.specs.List.{position_or_len, list_all};
@@ -6,7 +6,7 @@ ghost use Rattle.pla_reader.specs.Text.{lines_of, is_blank, bar, words, content 
 
 use memchr::{memchr, memchr3};
 
-/// The number of bytes before the first `byte`, or of all bytes if there is none.
+/// The number of bytes of `text` before the first `byte`, or of all its bytes if there is none.
 fn len_until(text: &[u8], byte: u8) -> usize
     ensures value { result ≡ position_or_len (λ b. b == byte) text.now }
     ensures bound { result ≤ length text.now }
@@ -21,14 +21,14 @@ pub(crate) fn is_blank_byte(b: u8) -> bool
     b == b' ' || (b == b'\t' || b == b'\r')
 }
 
-/// Whether a byte between the positions of a term is passed over: a blank or `|`.
+/// Whether a byte separates positions of a term, and is passed over: a blank or `|`.
 pub(crate) fn is_separator(b: u8) -> bool
     ensures { result ≡ (is_blank b || b == bar) }
 {
     is_blank_byte(b) || b == b'|'
 }
 
-/// The number of bytes before the first blank, or of all bytes if there is none.
+/// The number of bytes of `text` before the first blank, or of all its bytes if there is none.
 fn word_len(text: &[u8]) -> usize
     ensures value { result ≡ position_or_len is_blank text.now }
     ensures bound { result ≤ length text.now }
@@ -36,7 +36,8 @@ fn word_len(text: &[u8]) -> usize
     memchr3(b' ', b'\t', b'\r', text).unwrap_or(text.len())
 }
 
-/// The first line of a text that isn't empty, without its line feed, and the text after it.
+/// The first line of `text`, without its line feed, and the text after the line feed. Requires
+/// `text` not to be empty.
 #[tactic(auto, using(crate::proofs::TextLemmas::first_line_lem))]
 pub(crate) fn first_line(text: &[u8]) -> (&[u8], &[u8])
     requires { 0 < length text.now }

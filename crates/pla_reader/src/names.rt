@@ -10,7 +10,7 @@ use crate::lines::next_word;
 use std::alloc::{AllocError, Global};
 use std::str;
 
-/// A word as a string. The word may be a name: all its bytes are from 33 to 126.
+/// Copies a word to a string. Requires the word to be a name: all its bytes are from 33 to 126.
 fn name(alloc: Global, word: &[u8]) -> Result<String, AllocError>
     requires { is_name word.now ≡ true }
     ensures { IfOk result (λ name. string_bytes name ≡ word.now) }
@@ -21,7 +21,8 @@ fn name(alloc: Global, word: &[u8]) -> Result<String, AllocError>
     }
 }
 
-/// The words of a text as strings. Each may be a name: all its bytes are from 33 to 126.
+/// Copies the words of a text to strings. Requires each word to be a name: all its bytes are from
+/// 33 to 126.
 pub(crate) fn names(alloc: Global, text: &[u8]) -> Result<Vec<String>, AllocError>
     requires { list_all is_name (words text.now) ≡ true }
     ensures { IfOk result (λ names. map string_bytes names.items ≡ words text.now) }
@@ -35,7 +36,7 @@ pub(crate) fn names(alloc: Global, text: &[u8]) -> Result<Vec<String>, AllocErro
     Ok(names)
 }
 
-/// `count` names: `front` with 0, 1, 2 and so on after it.
+/// Makes `count` names: `front` followed by 0, 1, 2 and so on.
 pub(crate) fn default_names(
     alloc: Global,
     front: &str,

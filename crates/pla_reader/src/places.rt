@@ -20,14 +20,14 @@ pub struct TextPlace {
     pub length: usize,
 }
 
-/// Which names are meant: those of the inputs or those of the outputs.
+/// Which names a caller asks for: those of the inputs or those of the outputs.
 #[derive(Clone, Copy, Debug, PartialEq, Eq)]
 pub enum Names {
     Inputs,
     Outputs,
 }
 
-/// Whether a statement lists the names that are meant, of the inputs or of the outputs.
+/// Whether a statement lists the names of the inputs, or else of the outputs, as `names` says.
 fn gives(statement: &Statement<'_>, names: Names) -> bool
     ensures { result ≡ is_some (naming_by names (line_of statement.now)) }
 {
@@ -37,7 +37,7 @@ fn gives(statement: &Statement<'_>, names: Names) -> bool
     }
 }
 
-/// The places of the words of `text` in a longer text, where `text` begins at byte `start`.
+/// The places of the words of `text` in a longer text, in which `text` begins at byte `start`.
 fn word_places(alloc: Global, text: &[u8], start: usize) -> Result<Vec<TextPlace>, AllocError>
     requires { start + length text.now < 2 ^ 64 }
     ensures spell { IfOk result (λ v. (front back : List ℕ) → length front ≡ start →
@@ -56,8 +56,8 @@ fn word_places(alloc: Global, text: &[u8], start: usize) -> Result<Vec<TextPlace
     Ok(places)
 }
 
-/// The places of the names that a line lists, in a longer text, where the line begins at byte
-/// `start`. The first word of the line is the directive.
+/// The places of the names that `line` lists, in a longer text, in which the line begins at byte
+/// `start`. The first word of the line is the directive. Empty if the line has no word.
 fn given_places(alloc: Global, line: &[u8], start: usize) -> Result<Vec<TextPlace>, AllocError>
     requires { start + length line.now < 2 ^ 64 }
     ensures given { IfOk result (λ v. (front back : List ℕ) (names : Names) → length front ≡ start →

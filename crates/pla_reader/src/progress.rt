@@ -1,4 +1,4 @@
-//! What was read of a description so far.
+//! What the lines of a description that were read so far state.
 
 ghost use Rattle.std.specs.Prelude.{◌≡◌, ◌≤◌, ◌&&◌, length, true, false, None, Some, IfOk, IfErr, MatchResult, is_some, unwrap_or, map};
 ghost use Rattle.std.specs.List.{list_all};
@@ -28,7 +28,7 @@ pub(crate) enum LogicalType {
     Fd,
 }
 
-/// Why a line was not taken: an allocation was refused, or the line has a fault.
+/// Why a line was not recorded: an allocation was refused, or the line has a fault.
 #[derive(Clone, Copy)]
 pub(crate) enum LineError {
     Memory,
@@ -57,9 +57,9 @@ impl From<AllocError> for LineError {
     }
 }
 
-/// The number of inputs or outputs, 1 to 16, that the text after a directive states. `known` is the
-/// number that an earlier directive stated, and `outside` the fault of a number that is not 1 to
-/// 16.
+/// The number of inputs or outputs, 1 to 16, that the text after a directive states, or the fault.
+/// `known` is the number that an earlier directive stated, if there was one: this is then a fault.
+/// `outside` is the fault of a number that is not 1 to 16.
 fn count(known: Option<u8>, text: &[u8], outside: LineFault) -> Result<u8, LineFault>
     ensures { MatchResult result
         (λ d. (head_fault (is_some known) (words text.now) outside ≡ None)
@@ -79,7 +79,7 @@ fn count(known: Option<u8>, text: &[u8], outside: LineFault) -> Result<u8, LineF
     }
 }
 
-/// Whether a text is one number.
+/// Whether a text has exactly one word, and this is a number of one to nine decimal digits.
 fn is_number_alone(text: &[u8]) -> bool
     ensures { result ≡ is_one_number (words text.now) }
 {
@@ -89,8 +89,9 @@ fn is_number_alone(text: &[u8]) -> bool
     }
 }
 
-/// Accepts the names that the text after a directive lists, or returns their fault. `count` is the
-/// stated number of inputs or outputs, and `repeated` says whether names were listed before.
+/// Checks the names that the text after a directive lists, and returns their fault if they have
+/// one. `count` is the stated number of inputs or outputs, None if it wasn't stated yet, and
+/// `repeated` says whether names were listed before.
 fn check_names(count: Option<u8>, repeated: bool, text: &[u8]) -> Result<(), LineFault>
     ensures { MatchResult result
         (λ done. (naming_fault (is_some count) repeated (unwrap_or count 0) (words text.now) ≡ None)
@@ -112,8 +113,8 @@ fn check_names(count: Option<u8>, repeated: bool, text: &[u8]) -> Result<(), Lin
     }
 }
 
-/// The logical type that the text after a directive states. `repeated` says whether one was stated
-/// before, and `late` whether a term came before.
+/// The logical type that the text after a directive states, or the fault. `repeated` says whether a
+/// type was stated before, and `late` whether a term was read before.
 fn logical_type(repeated: bool, late: bool, text: &[u8]) -> Result<LogicalType, LineFault>
     ensures { MatchResult result
         (λ kind. (type_fault repeated late (words text.now) ≡ None)
@@ -130,7 +131,7 @@ fn logical_type(repeated: bool, late: bool, text: &[u8]) -> Result<LogicalType, 
     }
 }
 
-/// The names `given` or, without these, `count` names: `front` with 0, 1, 2 and so on after it.
+/// The names `given` or, if there are none, `count` names: `front` followed by 0, 1, 2 and so on.
 fn given_or_default_names(
     alloc: Global,
     given: Option<Vec<String>>,
@@ -159,7 +160,7 @@ pub(crate) struct Progress {
 }
 
 impl Progress {
-    /// What is known before the first line.
+    /// The progress before the first line, which states nothing.
     pub(crate) fn new(alloc: Global) -> Progress
         ensures { state_of result ≡ start }
     {
@@ -173,21 +174,23 @@ impl Progress {
         }
     }
 
-    /// Whether an output position of a term may be `-`, which has no meaning: only under `.type f`.
+    /// Whether an output position of a term may be `-` or `2`: only under `.type f`, where neither
+    /// has a meaning.
     fn takes_dont_cares(&self) -> bool
         ensures { result ≡ is_f self.now.logical_type }
     {
         matches!(self.logical_type, Some(LogicalType::F))
     }
 
-    /// Whether a term was read.
+    /// Whether a term was read so far.
     fn has_terms(&self) -> bool
         ensures { result ≡ is_filled self.now.terms.items }
     {
         !self.terms.is_empty()
     }
 
-    /// Takes the number of inputs from the text after its directive, or returns the fault.
+    /// Records the number of inputs that the text after the directive `.i` states, or returns the
+    /// fault.
     fn take_inputs(&mut self, text: &[u8]) -> Result<(), LineError>
         ensures { Takes self.old (Inputs (words text.now)) self.new result }
     {
@@ -195,7 +198,8 @@ impl Progress {
         Ok(())
     }
 
-    /// Takes the number of outputs from the text after its directive, or returns the fault.
+    /// Records the number of outputs that the text after the directive `.o` states, or returns the
+    /// fault.
     fn take_outputs(&mut self, text: &[u8]) -> Result<(), LineError>
         ensures { Takes self.old (Outputs (words text.now)) self.new result }
     {
@@ -203,7 +207,8 @@ impl Progress {
         Ok(())
     }
 
-    /// Takes the names of the inputs from the text after their directive, or returns the fault.
+    /// Records the names of the inputs that the text after the directive `.ilb` lists, or returns
+    /// the fault.
     fn take_input_names(&mut self, alloc: Global, text: &[u8]) -> Result<(), LineError>
         ensures { Takes self.old (InputNames (words text.now)) self.new result }
     {
@@ -212,7 +217,8 @@ impl Progress {
         Ok(())
     }
 
-    /// Takes the names of the outputs from the text after their directive, or returns the fault.
+    /// Records the names of the outputs that the text after the directive `.ob` lists, or returns
+    /// the fault.
     fn take_output_names(&mut self, alloc: Global, text: &[u8]) -> Result<(), LineError>
         ensures { Takes self.old (OutputNames (words text.now)) self.new result }
     {
@@ -221,7 +227,8 @@ impl Progress {
         Ok(())
     }
 
-    /// Takes the logical type from the text after its directive, or returns the fault.
+    /// Records the logical type that the text after the directive `.type` states, or returns the
+    /// fault.
     fn take_type(&mut self, text: &[u8]) -> Result<(), LineError>
         ensures { Takes self.old (TypeLine (words text.now)) self.new result }
     {
@@ -230,7 +237,7 @@ impl Progress {
         Ok(())
     }
 
-    /// Takes a term from its text, or returns the fault.
+    /// Records the term that a line states, or returns the fault.
     fn take_row(&mut self, text: &[u8]) -> Result<(), LineError>
         requires { IsSoundState (state_of self.old) }
         ensures { Takes self.old (Row (positions text.now)) self.new result }
@@ -245,7 +252,7 @@ impl Progress {
         }
     }
 
-    /// Takes what the next line states, or returns the fault of the line.
+    /// Records what the next line states, or returns the fault of the line.
     pub(crate) fn take(&mut self, alloc: Global, statement: Statement) -> Result<(), LineError>
         requires { IsSoundState (state_of self.old) }
         ensures { Takes self.old (line_of statement.entry) self.new result }
@@ -269,8 +276,8 @@ impl Progress {
         }
     }
 
-    /// The cover that the lines state. If none states the number of inputs, or of outputs, the
-    /// fault is `MissingHead` of line `number`, which ends the description.
+    /// Makes the cover that the lines state. If no line stated the number of inputs, or of outputs,
+    /// the fault is `MissingHead` at line `number`, the last line of the description.
     pub(crate) fn finish(self, alloc: Global, number: usize) -> Result<Cover, PlaError>
         requires { IsSoundState (state_of self) }
         ensures ok { IfOk result (IsCoverOf (state_of self)) }

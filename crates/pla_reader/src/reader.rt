@@ -1,4 +1,4 @@
-//! Covers from devices.
+//! Reads covers from devices, and from bytes.
 
 ghost use Rattle.std.specs.Prelude.{◌≡◌, IfOk, IfSome, OnOk};
 ghost use Rattle.std.specs.Io.KnownBytes.{IsAtEnd};
@@ -16,7 +16,7 @@ use std::alloc::Global;
 /// The most bytes that an input may have: 16 MiB.
 pub const MOST_BYTES: usize = 16_777_216;
 
-/// The cover that the bytes of an input describe, or their first fault.
+/// The cover that the bytes of an input describe. The error is the first fault.
 pub fn read_bytes(alloc: Global, bytes: &[u8]) -> Result<Cover, PlaError>
     ensures { Answers bytes.now result }
 {
@@ -41,9 +41,10 @@ pub fn read_bytes(alloc: Global, bytes: &[u8]) -> Result<Cover, PlaError>
 }
 
 /// Reads a PLA description (espresso(5), logical types f and fd) to its end, and returns its cover,
-/// or why there is none.
+/// or the reason why there is none.
 ///
-/// Nothing is decided before the last byte was read; time and memory are linear in the bytes.
+/// The whole input is read before a fault is looked for. Time and memory are linear in the number
+/// of bytes.
 pub fn read_cover<R: CountedRead>(alloc: Global, reader: &mut R) -> Result<Cover, PlaError>
     ensures answer { IfSome (R.remaining reader.old) (λ bytes. IsReading bytes result) }
     ensures formed { IfOk result IsCover }

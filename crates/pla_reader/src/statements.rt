@@ -1,4 +1,4 @@
-//! What a line states.
+//! Statements: what a line of a description states.
 
 ghost use Rattle.std.specs.Prelude.{◌≡◌, ◌==◌, slice_index};
 ghost use Rattle.pla_reader.specs.Text.{words};
@@ -8,7 +8,8 @@ ghost use Rattle.pla_reader.specs.Statements.{line_of};
 
 use crate::lines::{content, next_word};
 
-/// What a line states: a directive with the text after it, or a term with its text.
+/// What a line states: a directive with the text after its first word, or a term with the text of
+/// the line.
 #[derive(Drop)]
 pub(crate) enum Statement<'a> {
     /// The line has no word.
@@ -50,7 +51,8 @@ fn is_directive(word: &[u8]) -> bool
     }
 }
 
-/// The statement of the directive `word`, with the text `given` after it.
+/// The statement of a line whose first word is the directive `word` and has the text `given` after
+/// it.
 #[tactic(auto, unfolding(crate::specs::Lines::directive))]
 fn directive<'a>(word: &[u8], given: &'a [u8]) -> Statement<'a>
     ensures { line_of result ≡ directive_of word.now (words given.now) }
@@ -74,7 +76,7 @@ fn directive<'a>(word: &[u8], given: &'a [u8]) -> Statement<'a>
     }
 }
 
-/// The statement of a line, without its comment.
+/// The statement of a line. The line's comment is left out.
 #[tactic(auto, unfolding(crate::specs::Lines::line_said, crate::specs::Lines::meaning))]
 pub(crate) fn statement_of(line: &[u8]) -> Statement<'_>
     ensures { line_of result ≡ line_said line.now }

@@ -1,4 +1,4 @@
-//! Terms.
+//! Product terms, read from lines of a description.
 
 ghost use Rattle.std.specs.Prelude.{◌≡◌, ◌≤◌, ◌<◌, ◌+◌, None, Some, MatchResult, IfOk, IfErr};
 ghost use Rattle.std.specs.Int.{bit_at};
@@ -12,7 +12,7 @@ use crate::errors::LineFault;
 use crate::lines::is_separator;
 use order_model::{Mask, Term};
 
-/// The masks of a term, as `Term` has them, while the term is read.
+/// The masks of a term that is being read, as `Term` has them.
 #[derive(Clone, Copy)]
 pub(crate) struct Masks {
     care: Mask,
@@ -20,8 +20,8 @@ pub(crate) struct Masks {
     outs: Mask,
 }
 
-/// The masks of a term once its input position `at`, which has byte `b`, is read, or the fault of
-/// this byte. `masks` are those before.
+/// Adds to a term's masks its input position `at`, which has byte `b`, and returns the new masks,
+/// or the fault of this byte. `masks` are those of the positions before.
 fn with_input(masks: Masks, at: u8, b: u8) -> Result<Masks, LineFault>
     requires small { at < 16 }
     requires fresh { bit_at masks.value at ≡ 0 }
@@ -43,8 +43,9 @@ fn with_input(masks: Masks, at: u8, b: u8) -> Result<Masks, LineFault>
     Ok(new)
 }
 
-/// The masks of a term once its output position `at`, which has byte `b`, is read, or the fault of
-/// this byte. `masks` are those before. `takes_dont_cares` says whether `-` and `2` are allowed.
+/// Adds to a term's masks its output position `at`, which has byte `b`, and returns the new masks,
+/// or the fault of this byte. `masks` are those of the positions before. `takes_dont_cares` says
+/// whether `-` and `2` are allowed.
 fn with_output(masks: Masks, at: u8, b: u8, takes_dont_cares: bool) -> Result<Masks, LineFault>
     requires small { at < 16 }
     requires none { bit_at masks.outs at ≡ 0 }

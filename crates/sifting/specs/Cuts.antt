@@ -1,9 +1,9 @@
 -- The refs that paths come to between two levels of a diagram.
 --     code_of r      a ref as a number
---     split_ref nodes x r      the two refs below a variable: the children of a node that tests it, else the ref itself
+--     split_ref nodes x r      the two cofactors of a ref by variable x: the children of a node of x, else the ref itself twice
 --     NumbersFirst      nodes whose children are numbered by first occurrence of their keys
 --     IsBuilt      levels whose functions are those of a diagram's roots
---     AreLevelsOf order nodes roots built      the levels that are built of a diagram
+--     AreLevelsOf order nodes roots built      the levels that are built from a diagram
 use Rattle.std.specs.Prelude.{◌≡◌, ℕ, ◌+◌, ◌<◌, ◌≤◌, Bool, false, if◌then◌else◌, List, length, map, slice_index, get_or, slice_get, nat_eq}
 use Rattle.std.specs.declared.option.Option.{Option}
 use Rattle.std.specs.declared.option.Option.TheVariants.{Some, None}
@@ -17,17 +17,17 @@ use Rattle.sifting.specs.Leveled.{Children, function_at, NumbersFirst}
 use Rattle.sifting.specs.LevelLists.{IsLeveled, nodes_of}
 use Rattle.sifting.specs.declared.build.BuiltLevels.{BuiltLevels}
 
--- a ref as a number: the terminals are 0 and 1, and the nodes follow
+-- a ref as a number: the terminals are 0 and 1, and the node at place k is k + 2
 unfoldable pub code_of : Ref → ℕ
 code_of (Terminal b) = if b then 1 else 0
 code_of (Place k) = k + 2
 
--- the two refs below a variable, from a ref and the node that stands there
+-- the two cofactors of a ref by a variable, from the ref and the node that stands at its place, if there is one
 abbrev pub split_node : ℕ → Ref → Option Node → Ref × Ref
 split_node x r None = (r, r)
 split_node x r (Some node) = if nat_eq node.variable x then (node.low, node.high) else (r, r)
 
--- the two refs below a variable: the children of a node that tests it, else the ref itself
+-- the two cofactors of a ref by variable x: the children of a node of x, else the ref itself twice
 unfoldable pub split_ref : List Node → ℕ → Ref → Ref × Ref
 split_ref nodes x (Terminal b) = (Terminal b, Terminal b)
 split_ref nodes x (Place k) = split_node x (Place k) (slice_get nodes k)
@@ -78,6 +78,6 @@ pub record IsBuilt (order : List ℕ) (nodes : List Node) (roots : List Ref) (nu
       SameFunction (length order) (function_at levels terminals order (slice_index numbers j))
       (value nodes (ref_at roots j))
 
--- the levels that are built of a diagram
+-- the levels that are built from a diagram
 abbrev pub AreLevelsOf : List ℕ → List Node → List Ref → BuiltLevels → Type 0
 AreLevelsOf order nodes roots built = IsBuilt order nodes roots built.roots.items (nodes_of built.levels.items) built.terminals.items

@@ -23,7 +23,7 @@ problem_at levels terminals order roots =
       tables = map (λ r. table (length order) (function_at levels terminals order r)) roots;
     }
 
--- a diagram by levels: at most 16 roots, and no node or terminal twice
+-- a diagram by levels: it has at most 16 roots, and no node or terminal of it occurs twice
 pub record IsLeveled (levels : List (List Children)) (terminals : List Bool) (order roots : List ℕ) : Type 0 where
   pub long : length levels ≡ length order
   pub levels_are : AreLevels 16 terminals levels

@@ -3,7 +3,7 @@
 --     truth_tables_of d      the truth tables of a diagram's roots
 --     size_of m, count_of m i      the size and the level counts of the functions under the order
 --     sifted_order m      the order that one pass of sifting gives
---     SiftedOrder, IsSiftedOrder      an order with its size and level counts, and that they are true
+--     SiftedOrder, IsSiftedOrder      an order with a size and level counts; the size and the level counts are right
 --     IsNoLarger from to      another order of the same functions and pairs, of no more nodes
 use Rattle.std.specs.Prelude.{◌≡◌, ℕ, ◌<◌, ◌≤◌, List, length, map, slice_index}
 use Rattle.definitions.specs.Functions.{table}
@@ -55,7 +55,7 @@ pub record SiftedOrder : Type 0 where
   pub pairs : List Pair
   pub problem : TruthTables
 
--- the size and the level counts of 16 levels are those of the functions under the order
+-- the size and the level counts are those of the functions under the order; `levels` has 0 from the last level on
 pub record HasTrueSize (m : Managed) (size : ℕ) (levels : List ℕ) : Type 0 where
   pub size_is : size ≡ size_of m
   pub counts : (i : ℕ) → i < length m.order → slice_index levels i ≡ count_of m i

@@ -4,7 +4,7 @@
 --     PassesBetween, PassesBelow      why a variable can go back up, or down
 --     size_at m others x i      the size with a variable at a place among others
 --     FindsBest      where a variable has its uppermost place of least size, of those that it went through
---     WalksUp, WalksDown      what moving a variable as far as the pairs let it finds
+--     WalksUp, WalksDown      the result of moving a variable up, or down, as far as the pairs allow
 use Rattle.std.specs.Prelude.{◌≡◌, ℕ, ◌+◌, ◌-◌, ◌<◌, ◌≤◌, ◌⊎◌, List, length, map, slice_index, IsTrue, IsFalse, Bool, [], nat_lt}
 use Rattle.std.specs.List.{insert, fold, range_with_len}
 use Rattle.definitions.specs.Pairs.{Pair, Keeps, has_pair}
@@ -52,7 +52,7 @@ PassesBetween m upper lower = (others : List ℕ) (x : ℕ) → lower ≤ length
     (i : ℕ) → upper ≤ i → i < lower →
     IsFalse (has_pair m.pairs (slice_index others i) x)
 
--- whether a variable has a smaller count
+-- whether the count of variable y is smaller than `count`
 abbrev pub has_fewer : List ℕ → ℕ → ℕ → Bool
 has_fewer counts count y = nat_lt (slice_index counts y) count
 
@@ -80,14 +80,14 @@ pub record FindsBest (m : Managed) (place from to best least : ℕ) : Type 0 whe
       i < best →
       least < size_at m others x i
 
--- what moving a variable up as far as the pairs let it finds
+-- the result of moving a variable up as far as the pairs allow
 pub record WalksUp (m : Managed) (from : ℕ) (w : Walk) : Type 0 where
   pub moved : IsMoved from w.place m w.manager
   pub upward : w.place ≤ from
   pub stops : StopsAbove w.manager.pairs w.manager.order w.place
   pub best : FindsBest m from w.place from w.best.place w.best.size
 
--- what moving it down finds
+-- the result of moving a variable down as far as the pairs allow
 pub record WalksDown (m : Managed) (from : ℕ) (w : Walk) : Type 0 where
   pub moved : IsMoved from w.place m w.manager
   pub within : w.place < length m.order

@@ -1,6 +1,6 @@
 -- The nodes of a level in the making, each once, and slots by which they are found.
---     home_of homes c      where the search for a node's slot begins, among so many places
---     HasNumber base count slot number, IsFree base count slot      a slot has the number of one of so many nodes, counted on from a base, or none
+--     home_of homes c      the slot at which the search for a node begins, from 0 to `homes`
+--     HasNumber base count slot number, IsFree base count slot      a slot's value is `base` plus a number below `count`; it is not
 --     IsFreeSlot      the first free slot from a home on, or the end of the slots
 --     IsSet slots slots' place slot      a slot is set
 --     IsNodeTable t      each node is in a slot behind taken ones
@@ -9,19 +9,19 @@ use Rattle.std.specs.Prelude.{◌≡◌, ◌≢◌, ℕ, ◌+◌, ◌*◌, ◌/�
 use Rattle.sifting.specs.Leveled.{Children, at, branching}
 use Rattle.sifting.specs.declared.node_table.NodeTable.{NodeTable}
 
--- the high half of a product by a large odd number, spread over the places
+-- the slot at which the search for a node begins: a hash, the high half of the product with a large odd number
 unfoldable pub home_of : ℕ → Children → ℕ
 home_of homes c = (c.0 * 2 ^ 20 + c.1) * 11400714819323198485 % 2 ^ 64 / 2 ^ 32 * homes / 2 ^ 32
 
--- a slot has the number of one of so many nodes
+-- a slot's value is the base plus the number of one of `count` nodes
 abbrev pub HasNumber : ℕ → ℕ → ℕ → ℕ → Type 0
 HasNumber base count slot number = (number < count) × (slot ≡ base + number)
 
--- a slot has no number of one of so many nodes
+-- a slot is free: its value less the base is no number below `count`
 abbrev pub IsFree : ℕ → ℕ → ℕ → Type 0
 IsFree base count slot = (slot < base) ⊎ (base + count ≤ slot)
 
--- a node has a number
+-- the node with this number in the list is the given one
 abbrev pub Finds : List Children → Children → ℕ → Type 0
 Finds nodes c number = (number < length nodes) × (at nodes number ≡ c)
 
@@ -33,7 +33,7 @@ pub record IsFreeSlot (slots : List ℕ) (base : ℕ) (nodes : List Children) (c
   pub passed : (t : ℕ) → home ≤ t → t < slot →
       (k : ℕ) × HasNumber base (length nodes) (slice_index slots t) k × (at nodes k ≢ c)
 
--- a slot is set, which may be the one behind all others
+-- the slots after one was set; it may be the slot behind all others, which is then added
 pub record IsSet (slots slots' : List ℕ) (place slot : ℕ) : Type 0 where
   pub grows : length slots ≤ length slots'
   pub within : place < length slots'

@@ -49,8 +49,8 @@ fn references(alloc: Global, codes: &[usize]) -> Result<Vec<Ref>, AllocError>
     Ok(refs)
 }
 
-/// The children of a ref, seen as a node of `variable`: the low one and the high one if it is such
-/// a node, else the ref itself twice.
+/// The low and the high cofactor of `r` by `variable`: its children if it is a node of `variable`,
+/// else `r` itself twice.
 fn halves(nodes: &[Node], variable: VarIx, r: Ref) -> (Ref, Ref)
     requires { IsBefore (length nodes.now) r }
     ensures { result ≡ split_ref nodes.now variable r }
@@ -68,10 +68,10 @@ fn halves(nodes: &[Node], variable: VarIx, r: Ref) -> (Ref, Ref)
     }
 }
 
-/// Appends to `level` a node of `variable` for each ref of `cut`, the cut above the level: the
-/// places of its low and its high child in the cut below. Appends to `codes` the numbers of the
-/// refs in the cut below, by first occurrence. Both lists are empty before; n is the number of
-/// variables.
+/// Appends to `level`, for each ref of `cut`, a node of `variable`: the places of its low and its
+/// high child in the cut below. Appends to `codes` the numbers of the refs in the cut below, by
+/// first occurrence. Requires both lists to be empty. `cut` is the cut above the level, and n the
+/// number of variables.
 fn number_halves(
     n: u8,
     nodes: &[Node],
@@ -98,9 +98,9 @@ fn number_halves(
     Ok(())
 }
 
-/// The nodes of the level of `variable`, and the cut below it. `cut` is the cut above it: the refs
-/// that paths from the roots come to when the variables above are fixed. n is the number of
-/// variables.
+/// Returns the nodes of the level of `variable`, and the cut below the level. `cut` is the cut
+/// above the level: the refs that paths from the roots come to when the variables above are fixed.
+/// n is the number of variables.
 fn split(
     alloc: Global,
     n: u8,
@@ -122,7 +122,7 @@ fn split(
 }
 
 /// Appends to `numbers` the place of each root in the topmost cut, and to `codes` the numbers of
-/// the refs in this cut, by first occurrence. Both lists are empty before.
+/// the refs in this cut, by first occurrence. Requires both lists to be empty.
 fn number_roots(
     roots: &[Ref],
     codes: &mut IndexSet<usize>,
@@ -142,8 +142,8 @@ fn number_roots(
     Ok(())
 }
 
-/// The place of each root in the topmost cut, and this cut: the roots, each once. `size` is the
-/// number of nodes in the diagram.
+/// Returns the place of each root in the topmost cut, and this cut: the roots, each once. `size` is
+/// the number of nodes in the diagram.
 fn first_cut(alloc: Global, size: usize, roots: &[Ref]) -> Result<(Vec<u32>, Vec<Ref>), AllocError>
     requires small { size < 2 ^ 32 }
     requires few { length roots.now ≤ 16 }
@@ -157,7 +157,7 @@ fn first_cut(alloc: Global, size: usize, roots: &[Ref]) -> Result<(Vec<u32>, Vec
     Ok((numbers, cut))
 }
 
-/// For each ref of a cut, whether it is the terminal 1.
+/// For each ref of the cut below the lowest level, whether it is the terminal 1.
 fn terminal_values(alloc: Global, cut: &[Ref]) -> Result<Vec<bool>, AllocError>
     ensures { IfOk result (λ v. v.items ≡ map is_true cut.now) }
 {
@@ -168,7 +168,7 @@ fn terminal_values(alloc: Global, cut: &[Ref]) -> Result<Vec<bool>, AllocError>
     Ok(values)
 }
 
-/// A diagram by levels.
+/// A reduced diagram, stored by levels.
 #[derive(Drop)]
 pub(crate) struct BuiltLevels {
     /// The place of each root on the top level.
@@ -179,7 +179,8 @@ pub(crate) struct BuiltLevels {
     pub(crate) terminals: Vec<bool>,
 }
 
-/// A reduced diagram by levels. `order` has its variables, top first.
+/// Makes the levels of the reduced diagram with these nodes, each after its children, and these
+/// roots. `order` has the diagram's variables, top first.
 pub(crate) fn levels_of(
     alloc: Global,
     order: &[VarIx],

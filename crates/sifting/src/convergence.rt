@@ -1,5 +1,5 @@
-//! A tight bound for a search: sifting until nothing is gained, from the sifted order and from its
-//! reverse.
+//! A tight bound for a search: sifting until nothing is gained, from the sifted order and from the
+//! sifted order reversed.
 
 ghost use Rattle.std.specs.Prelude.{◌≡◌, ◌≤◌, ◌⊎◌, IfOk, IfSome};
 ghost use Rattle.std.specs.Thread.{IsSync};
@@ -12,24 +12,26 @@ use std::alloc::{AllocError, Global};
 use std::thread;
 use std::thread::Threads;
 
-/// Passes of sifting that are made at most. Two to five gain all that there is to be gained.
+/// The most passes of sifting that are made from one start. Two to five passes gain all that there
+/// is to be gained.
 const MOST_PASSES: u32 = 16;
 
-/// With fewer inputs a search takes no longer than sifting again.
+/// The fewest inputs for which sifting is repeated: with fewer, a search takes no longer than
+/// sifting again.
 const LEAST_INPUTS: usize = 13;
 
-/// Two sizes are near if they differ by at most a sixty-fourth of one of them. The sizes of random
-/// functions are near under all orders.
+/// Two sizes are near if they differ by at most one part in `NEAR_PART` of the second size. The
+/// sizes of random functions are near under all orders.
 const NEAR_PART: u32 = 64;
 
-/// Whether `size` and `other` differ by no more than a sixty-fourth of `other`.
+/// Whether `size` and `other` differ by at most a sixty-fourth of `other`.
 fn is_near(size: u32, other: u32) -> bool {
     size.abs_diff(other) <= other / NEAR_PART
 }
 
 impl Manager {
-    /// The manager with its order reversed, as far as the pairs allow: from the top, each variable
-    /// is moved above all that stood above it.
+    /// Reverses the manager's order as far as the pairs allow, and returns the manager: from the
+    /// top of the order on, each variable is raised as far as the pairs allow.
     fn turned_over(self, alloc: Global) -> Result<Manager, AllocError>
         ensures functions { IfOk result (λ m. m.problem ≡ self.problem) }
         ensures pairs { IfOk result (λ m. m.pairs ≡ self.pairs) }
@@ -48,8 +50,8 @@ impl Manager {
 impl Sifted {
     ghost use Rattle.sifting.specs.Managed.{IsNoLarger};
 
-    /// The order that sifting ends with when it is repeated from this order until a pass gains
-    /// nothing, or for `MOST_PASSES` passes.
+    /// Repeats passes of sifting from this order on until a pass gains nothing, but at most
+    /// `MOST_PASSES` times. Returns the order of the last pass. `sifter` moves the variables.
     fn repeat<S: Sifter>(self, sifter: &S, alloc: Global) -> Result<Sifted, AllocError>
         ensures { IfOk result (IsNoLarger self) }
     {
@@ -64,8 +66,9 @@ impl Sifted {
         Ok(sifted)
     }
 
-    /// This order reversed as far as the pairs allow, as a second start of sifting. None if
-    /// reversing it changes the size by no more than a sixty-fourth.
+    /// A second start of sifting: a copy of the diagram, with this order reversed as far as the
+    /// pairs allow. None if the size of this start differs from the size of this order by at most a
+    /// sixty-fourth.
     fn other_start(&self, alloc: Global) -> Result<Option<Manager>, AllocError>
         ensures { IfOk result (λ o. IfSome o (λ m. (m.problem ≡ self.now.problem)
             × (m.pairs ≡ self.now.pairs))) }
@@ -78,7 +81,7 @@ impl Sifted {
         }
     }
 
-    /// The smaller of two orders, and this one if their sizes are equal.
+    /// Of two orders the one of smaller size, or this order if the sizes are equal.
     fn or_smaller(self, other: Sifted) -> Sifted
         ensures size { result.size ≤ self.size }
         ensures either { (result ≡ self) ⊎ (result ≡ other) }
@@ -90,9 +93,9 @@ impl Sifted {
         }
     }
 
-    /// The smaller of two orders that are each sifted until a pass gains nothing: the first start
-    /// is this order, the second one is this order reversed. If reversing changes the size by no
-    /// more than a sixty-fourth, this order stays as it is.
+    /// Sifts from two starts, this order and this order reversed, until a pass gains nothing.
+    /// Returns the order of smaller size. If reversing changes the size by at most a sixty-fourth,
+    /// returns this order unchanged.
     pub fn sifted_to_convergence(self, alloc: Global) -> Result<Sifted, AllocError>
         ensures { IfOk result (IsNoLarger self) }
     {
@@ -104,9 +107,9 @@ impl Sifted {
         Ok(here.or_smaller(there))
     }
 
-    /// The order whose size bounds the search: that of sifting to convergence, or this one if it
-    /// has fewer than `LEAST_INPUTS` variables, since a search then takes no longer than sifting
-    /// again.
+    /// The order whose size bounds the search: the result of sifting to convergence. With fewer
+    /// than `LEAST_INPUTS` variables it is this order unchanged, because a search then takes no
+    /// longer than sifting again.
     pub fn search_bound(self, alloc: Global) -> Result<Sifted, AllocError>
         ensures { IfOk result (IsNoLarger self) }
     {
@@ -116,9 +119,9 @@ impl Sifted {
         self.sifted_to_convergence(alloc)
     }
 
-    /// The order whose size bounds the search, the one of `search_bound`, by as many threads as
-    /// there are workers, four at most: half of them for this order, and half for this order
-    /// reversed.
+    /// The order whose size bounds the search, as `search_bound` returns it. It is made by as many
+    /// threads as there are workers, at most four: half of them sift from this order, and half from
+    /// this order reversed.
     pub fn search_bound_by_threads<R: Threads + Sync>(
         self,
         rt: &R,

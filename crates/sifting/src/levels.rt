@@ -1,8 +1,8 @@
 //! The levels of a diagram, and the swap of two adjacent levels.
 //!
 //! A level has a node for each function that is left over when all variables above are fixed in
-//! some way: also for one that doesn't depend on the level's variable, and whose two children are
-//! then equal. So each edge goes to the next level, and a swap changes nothing outside its two
+//! some way. If such a function doesn't depend on the level's variable, the two children of its
+//! node are equal. So each edge goes to the next level, and a swap changes nothing outside its two
 //! levels.
 
 ghost use Rattle.std.specs.Prelude.{◌≡◌, ◌*◌, ◌<◌, ◌≤◌, ◌^◌, length, IfOk};
@@ -59,8 +59,9 @@ impl Level {
     }
 }
 
-/// Two adjacent levels after the swap of their variables, the upper one first. `upper` and `lower`
-/// are their nodes before. `table` numbers the new nodes of the lower level, and lends memory.
+/// Swaps the variables of two adjacent levels, whose nodes are `upper` and `lower`. Returns the new
+/// upper level and the new lower one. `table` numbers the new nodes of the lower level and lends
+/// its memory.
 pub(crate) fn swap_levels(
     alloc: Global,
     table: &mut NodeTable,

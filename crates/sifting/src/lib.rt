@@ -1,4 +1,4 @@
-//! Swaps of neighbouring levels and sifting, on the levels of a reduced diagram.
+//! Swaps of adjacent levels, and sifting, on the levels of a reduced diagram.
 #![tactic(auto)]
 
 mod build;

@@ -15,7 +15,7 @@ use std::marker::Model;
 use std::mem;
 
 /// A reduced diagram whose adjacent levels can be swapped, under an order that keeps some pairs. A
-/// call that takes the manager and runs out of memory drops it.
+/// call that takes the manager by value and runs out of memory drops the manager.
 #[derive(Debug, Drop)]
 pub struct Manager {
     order: Order,
@@ -47,7 +47,7 @@ impl Model for Manager {
         (nodes_of m.levels.items) m.terminals.items m.order m.roots.items m.pairs };
 }
 
-/// Copies of levels.
+/// Copies of these levels, in the same order.
 fn copies_of(alloc: Global, levels: &[Level]) -> Result<Vec<Level>, AllocError>
     ensures { IfOk result (λ v. nodes_of v.items ≡ nodes_of levels.now) }
 {
@@ -59,8 +59,8 @@ fn copies_of(alloc: Global, levels: &[Level]) -> Result<Vec<Level>, AllocError>
 }
 
 impl Manager {
-    /// The manager of a reduced diagram, without pairs. The time is that of a step for each node
-    /// and each level that an edge passes over.
+    /// Makes the manager of a reduced diagram, without pairs. Takes a step for each node and for
+    /// each level that an edge passes over.
     pub fn of(alloc: Global, diagram: Diagram) -> Result<Manager, AllocError>
         requires few { length diagram.graph.roots ≤ 16 }
         requires ordered { IsOrdered diagram.order diagram.graph }
@@ -74,8 +74,8 @@ impl Manager {
         Ok(manager)
     }
 
-    /// The manager of a reduced diagram whose order keeps the pairs. The time is that of a step for
-    /// each node and each level that an edge passes over.
+    /// Makes the manager of a reduced diagram whose order keeps `pairs`. Takes a step for each node
+    /// and for each level that an edge passes over.
     pub fn with_pairs(alloc: Global, diagram: Diagram, pairs: Pairs) -> Result<Manager, AllocError>
         requires few { length diagram.graph.roots ≤ 16 }
         requires ordered { IsOrdered diagram.order diagram.graph }
@@ -98,8 +98,8 @@ impl Manager {
         })
     }
 
-    /// Whether `level` may be swapped with the level below it: no pair requires the variable of the
-    /// upper one above that of the lower one.
+    /// Whether `level`, counted from 0 at the top, may be swapped with the level below it: no pair
+    /// requires the upper level's variable to stand above the lower one's.
     pub fn may_swap(&self, level: usize) -> bool
         requires { level + 1 < length self.now.order }
         ensures { result ≡ not
@@ -110,9 +110,9 @@ impl Manager {
         !contains(self.pairs.below(variables[level]), variables[level + 1])
     }
 
-    /// The manager after the swap of `level` with the level below it (Rudell 1993). The functions
-    /// and all other places stay, and the diagram is reduced again. The time is that of a step for
-    /// each node of the two levels.
+    /// Swaps `level`, counted from 0 at the top, with the level below it, and returns the manager.
+    /// Requires `may_swap`. The functions and all other levels stay, and the diagram stays reduced.
+    /// Takes a step for each node of the two levels.
     pub fn swap(self, alloc: Global, level: usize) -> Result<Manager, AllocError>
         requires below { level + 1 < length self.order }
         requires lawful { IsFalse
@@ -136,7 +136,7 @@ impl Manager {
         Ok(manager)
     }
 
-    /// How many nodes the reduced diagram has. Each level knows its own number, so no nodes are
+    /// The number of nodes in the reduced diagram. Each level stores its own count, so no nodes are
     /// counted again.
     pub fn size(&self) -> u32
         ensures value { result ≡ size_of self.now }

@@ -1,4 +1,4 @@
-//! The nodes of a level while it is made, each once.
+//! The table of the distinct nodes of a level that is being made.
 
 ghost use Rattle.std.specs.Prelude.{◌≡◌, [], ◌+◌, ◌*◌, ◌^◌, ◌<◌, ◌≤◌, length, IfOk, IfErr, OnOk, IfSome, IfNone};
 ghost use Rattle.sifting.specs.NodeTables.{home_of, HasNumber, IsFree, Finds, IsFreeSlot, IsSet, IsNodeTable, Inserted};
@@ -7,16 +7,17 @@ use crate::levels::{Children, Level};
 use std::alloc::{AllocError, Global};
 use std::mem;
 
-/// The nodes of a level while it is made, and a hash table that finds a node's number. The memory
-/// of earlier levels is used again.
+/// The distinct nodes of a level that is being made, and a hash table that finds a node's number.
+/// The memory of earlier levels is used again.
 #[derive(Debug, Drop)]
 pub(crate) struct NodeTable {
-    /// A slot with a node has the node's number plus `base`. What is less is left from earlier
-    /// levels, so that a new level begins without a pass over the slots.
+    /// A slot with a node of this level has the node's number plus `base`. A smaller value is left
+    /// from an earlier level and counts as free, so that a new level begins without clearing the
+    /// slots.
     pub slots: Vec<u32>,
-    /// The search for a node begins at this slot or an earlier one.
+    /// The search for a node begins at a slot from 0 to `homes`.
     pub homes: usize,
-    /// What the slots of this level add to the numbers of nodes.
+    /// The number that the slots of this level add to a node's number.
     pub base: u32,
     /// The nodes of the level so far, by first occurrence: a node's place is its number.
     pub nodes: Vec<Children>,
@@ -26,10 +27,10 @@ pub(crate) struct NodeTable {
     pub spare: Vec<Children>,
 }
 
-/// An odd number whose multiples spread over the words of 64 bits.
+/// The odd multiplier of the hash: its multiples spread over the words of 64 bits.
 const SPREAD: u64 = 11_400_714_819_323_198_485;
 
-/// The slot, at most `homes`, at which the search for a node begins: a hash of the node.
+/// The slot, from 0 to `homes`, at which the search for `node` begins: a hash of the node.
 #[inline(always)]
 fn home(homes: usize, node: Children) -> usize
     requires { homes ≤ 2 ^ 32 }
@@ -41,8 +42,8 @@ fn home(homes: usize, node: Children) -> usize
     ((high * homes as u64) >> 32) as usize
 }
 
-/// The number of the node in a slot with the value `slot`, which is the number plus `base`. None if
-/// the slot is free: it has none of the numbers below `count`, the number of nodes so far.
+/// The number of the node in a slot whose value is `slot`: the value less `base`. None if the slot
+/// is free, that is if this isn't a number below `count`. `count` is the number of nodes so far.
 #[inline(always)]
 fn number_in(slot: u32, base: u32, count: usize) -> Option<usize>
     ensures some { IfSome result (HasNumber base count slot) }
@@ -52,8 +53,9 @@ fn number_in(slot: u32, base: u32, count: usize) -> Option<usize>
     if number < count { Some(number) } else { None }
 }
 
-/// The number of `node`, if `nodes` has it. Else `Err` has the first free slot from `home` on,
-/// which may be the one behind all slots. A slot with a node has its number plus `base`.
+/// Searches `nodes` for `node` by linear probing from the slot `home`. `Ok` has the node's number.
+/// If the node is not there, `Err` has the first free slot, which may be the one behind all slots.
+/// A slot with a node has the node's number plus `base`.
 #[inline(always)]
 fn find(
     slots: &[u32],
@@ -78,8 +80,7 @@ fn find(
     Err(slots.len())
 }
 
-/// Writes the value `slot` to the slot at place `at`. It may be the one behind all slots, which is
-/// then added.
+/// Writes the value `slot` to the slot at index `at`, or appends it if `at` is the number of slots.
 fn set_slot(slots: &mut Vec<u32>, at: usize, slot: u32) -> Result<(), AllocError>
     requires { at ≤ length slots.old.items }
     ensures { OnOk result (IsSet slots.old.items slots.new.items at slot) }
@@ -106,14 +107,13 @@ impl NodeTable {
         }
     }
 
-    /// Keeps the memory of two levels that are done with for the next ones.
+    /// Takes two levels that are no longer needed, and keeps their memory for the next levels.
     pub fn reuse(&mut self, upper: Level, lower: Level) {
         self.spare = upper.nodes;
         self.nodes = lower.nodes;
     }
 
-    /// A list without nodes, with room for `most`, in the memory of an earlier level if there is
-    /// one.
+    /// An empty list with room for `most` nodes, in the memory of an earlier level if there is one.
     pub fn spare_list(&mut self, alloc: Global, most: usize) -> Result<Vec<Children>, AllocError>
         ensures { IfOk result (λ v. v.items ≡ []) }
     {
@@ -123,7 +123,7 @@ impl NodeTable {
         Ok(list)
     }
 
-    /// Begins a level of at most `most` nodes: the table has none of them yet.
+    /// Begins a new level, which may get at most `most` nodes: the table then has no nodes.
     pub fn begin(&mut self, most: usize) -> Result<(), AllocError>
         requires { 2 * most ≤ 2 ^ 32 }
         ensures table { OnOk result (IsNodeTable self.new) }
@@ -143,7 +143,7 @@ impl NodeTable {
         Ok(())
     }
 
-    /// The number of a node of the level, to which it is added if it is new.
+    /// Returns the number of `node` in the level, after adding the node to the level if it is new.
     #[inline(always)]
     pub fn number_of(&mut self, node: Children) -> Result<u32, AllocError>
         requires table { IsNodeTable self.old }
@@ -165,7 +165,7 @@ impl NodeTable {
         Ok(number)
     }
 
-    /// Takes out the level, which is finished.
+    /// Takes the finished level out of the table.
     pub fn finish(&mut self, alloc: Global) -> Level
         requires table { IsNodeTable self.old }
         requires room { self.old.base + length self.old.nodes.items < 2 ^ 32 }

@@ -14,10 +14,11 @@ use std::alloc::{AllocError, Global};
 use std::thread;
 use std::thread::Threads;
 
-/// With fewer nodes moving a variable takes no longer than starting a thread.
+/// The fewest nodes of a diagram for which two threads move a variable: with fewer, moving it takes
+/// no longer than starting a thread.
 const LEAST_NODES: u32 = 4096;
 
-/// Moves the variable at place `from` down to place `to`, as the pairs allow.
+/// Moves the variable at place `from` down to place `to`. Requires the pairs to allow this.
 fn lower(alloc: Global, manager: Manager, from: usize, to: usize) -> Result<Manager, AllocError>
     requires within { to < length manager.order }
     requires downward { from ≤ to }
@@ -31,8 +32,9 @@ fn lower(alloc: Global, manager: Manager, from: usize, to: usize) -> Result<Mana
     Ok(manager)
 }
 
-/// Moves the variable at place `from` up by one thread, and down by another one, each as far as the
-/// pairs allow. Returns what the way up gives, and what the way down gives.
+/// Moves the variable at place `from` up in one copy of the diagram, and down in another one, each
+/// by a thread of its own and as far as the pairs allow. Returns the result of the way up, and then
+/// that of the way down.
 fn walk_both<R: Threads>(
     rt: &R,
     alloc: Global,
@@ -60,8 +62,8 @@ fn walk_both<R: Threads>(
 
 /// A way to move a variable to its best place. All ways give the same order.
 pub(crate) trait Sifter {
-    /// The manager with variable x moved to its uppermost place of least size, among the places
-    /// that keep the pairs.
+    /// Moves variable x to its best place, and returns the manager: of the places that keep the
+    /// pairs, the uppermost at which the diagram has the fewest nodes.
     fn put_best(&self, alloc: Global, manager: Manager, x: VarIx) -> Result<Manager, AllocError>
         requires { x < length manager.order }
         ensures order { IfOk result
@@ -108,8 +110,7 @@ impl<'r, R: Threads> Sifter for ThreadedSifter<'r, R> {
 }
 
 impl Manager {
-    /// One pass of sifting, in which `sifter` moves the variables. It gives the order that `sift`
-    /// gives.
+    /// One pass of sifting, in which `sifter` moves the variables. It returns what `sift` returns.
     pub(crate) fn sift_by<S: Sifter>(self, sifter: &S, alloc: Global) -> Result<Sifted, AllocError>
         ensures order { IfOk result (λ s. s.order ≡ sifted_order self) }
         ensures functions { IfOk result (λ s. s.problem ≡ self.problem) }
@@ -124,8 +125,8 @@ impl Manager {
         Ok(Sifted::of(manager))
     }
 
-    /// One pass of sifting, which gives the order that `sift` gives, by two threads if there are
-    /// two workers or more and the diagram is large.
+    /// One pass of sifting by two threads, if there are two workers or more and the diagram is
+    /// large, and else by the calling thread. It returns what `sift` returns.
     pub fn sift_by_threads<R: Threads>(
         self,
         rt: &R,

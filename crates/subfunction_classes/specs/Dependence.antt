@@ -1,5 +1,5 @@
 -- The variables that a function depends on.
---     support n f, dependence n f      as a list, rising, and as a mask
+--     support n f, dependence n f      the variables that f depends on, as a list, rising, and as a mask
 --     joined_mask masks x p      the mask of a pair of classes
 --     AreMasks n F T masks      what the classes of a set depend on
 use Rattle.std.specs.Prelude.{◌≡◌, ℕ, ◌^◌, List, map, length, reverse, if◌then◌else◌, nat_eq, slice_index, bit_or}
@@ -14,15 +14,15 @@ use Rattle.definitions.specs.Orders.{variables, mask_of}
 unfoldable pub support : ℕ → Function → List ℕ
 support n f = filter (λ y. depends n f y) (variables n)
 
--- the mask of these: bit y stands for variable y
+-- the variables that f depends on, as a mask: bit y stands for variable y
 unfoldable pub dependence : ℕ → Function → ℕ
 dependence n f = mask_of (support n f)
 
--- the mask of a pair of classes: what its halves depend on, and x if they differ
+-- the mask of a pair of classes: the variables that one of the two classes depends on, and x if the classes differ
 abbrev pub joined_mask : List ℕ → ℕ → ℕ × ℕ → ℕ
 joined_mask masks x p = bit_or (bit_or (slice_index masks p.0) (slice_index masks p.1)) (if nat_eq p.0 p.1 then 0 else 2 ^ x)
 
--- one mask a class over T: what the functions of the class depend on
+-- one mask for each class over T: the variables that the functions of the class depend on
 pub record AreMasks (n : ℕ) (F : List Function) (T : List ℕ) (masks : List ℕ) : Type 0 where
   pub many : length masks ≡ distinct_count same_table (entries n F T)
   pub labels : map (λ c. slice_index masks c) (class_numbers n F T) ≡ map (dependence n) (reach F (reverse (outside n T)))

@@ -1,6 +1,6 @@
 -- Class tables whose entries are paired in one variable, and the numbers of the pairs.
---     AllBelow numbers k, AreApart numbers, AreOwn numbers      all numbers are below k; no two are equal; each is its own place
---     IsPaired numbers rank      the entries come in pairs, in blocks of 2 ^ rank of them
+--     AllBelow numbers k, AreApart numbers, AreOwn numbers      all numbers are below k; no two are equal; each number is its place in the list
+--     IsPaired numbers rank      the entries come in pairs, which stand in blocks of 2 ^ rank pairs
 --     IsPairTable numbers rank classes      a class table that is paired, with its classes below `classes`
 --     NumbersPairs masks x ps numbers joined      the numbers of pairs by first occurrence, and the mask of each number
 use Rattle.std.specs.Prelude.{◌≡◌, ◌≢◌, ℕ, ◌*◌, ◌^◌, ◌<◌, ◌≤◌, List, map, length, slice_index}
@@ -21,7 +21,7 @@ AreApart numbers = (i j : ℕ) → i < j → j < length numbers → slice_index 
 abbrev pub AreOwn : List ℕ → Type 0
 AreOwn numbers = (i : ℕ) → i < length numbers → slice_index numbers i ≡ i
 
--- the entries come in whole blocks, each 2 ^ rank with the variable 0 and then as many with it 1
+-- the entries come in whole blocks, each of 2 ^ rank entries with the variable 0, and then as many with the variable 1
 pub record IsPaired (numbers : List ℕ) (rank : ℕ) : Type 0 where
   pub small_rank : rank < 16
   pub short : length numbers < 2 ^ 32

@@ -1,6 +1,6 @@
--- What a contract sees of a class table: the problem, and the set. All else follows from them.
---     ClassesOf, functions_of t, set_of t      a table's value, its functions, and the variables of its set
---     classes_of problem set, with_variable t x      a set's table; one with one more variable in its set
+-- What a contract sees of a class table: the problem, and the set. Everything else follows from these two.
+--     ClassesOf, functions_of t, set_of t      the value of a class table, its functions, and the variables of its set
+--     classes_of problem set, with_variable t x      the table of a set; the table of the set with one more variable
 --     HoldsClasses t numbers masks      the numbers are the class numbers of the set's subfunctions, the masks what each class depends on
 --     free_below set x      how many variables below x are not in the set
 use Rattle.std.specs.Prelude.{◌≡◌, ℕ, bit_or, not, ◌==◌, ◌^◌, ◌≤◌, List, length}

@@ -1,7 +1,7 @@
-//! Class numbers of subfunctions and what these depend on: definitions, and laws for the crates
-//! that number classes, each in its own way. The class table of the empty set, in which each
-//! subfunction is the value at a point; masks of classes: that of a pair, and how many have a
-//! variable; and the rank of a variable outside a set.
+//! Class numbers of subfunctions, and the variables that classes depend on: definitions, and laws
+//! for the crates that number classes, each in its own way. The code makes the class table of the
+//! empty set, in which each subfunction is the value at a point, masks of classes, and the rank of
+//! a variable outside a set.
 #![tactic(auto)]
 
 pub mod laws;

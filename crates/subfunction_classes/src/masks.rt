@@ -1,4 +1,5 @@
-//! The masks of classes: the variables that a class's subfunctions depend on.
+//! The masks of classes: the mask of a class is the set of the variables that its subfunctions
+//! depend on.
 
 ghost use Rattle.std.specs.Prelude.{◌≡◌, ◌^◌, ◌<◌, ◌≤◌, ◌==◌, length};
 ghost use Rattle.std.specs.Int.{bit_at};
@@ -7,8 +8,8 @@ ghost use Rattle.subfunction_classes.specs.Dependence.{joined_mask};
 
 use definitions::{Mask, VarIx, contains};
 
-/// The mask of the function that is the first class of `pair` if x is 0 and the second one if x is
-/// 1: the masks of both, and x if they differ. `masks` has those of the classes.
+/// The mask of the function whose cofactors by x = 0 and x = 1 are the two classes of `pair`: the
+/// union of the masks of both, with x added if they differ. `masks` has the mask of each class.
 #[inline(always)]
 pub fn join_mask(masks: &[Mask], x: VarIx, pair: (u32, u32)) -> Mask
     requires variable { x < 16 }
@@ -25,7 +26,7 @@ pub fn join_mask(masks: &[Mask], x: VarIx, pair: (u32, u32)) -> Mask
     }
 }
 
-/// How many masks have variable x.
+/// How many of `masks` contain variable x.
 pub fn count_with(masks: &[Mask], x: VarIx) -> u32
     requires variable { x < 16 }
     requires few { length masks.now ≤ 2 ^ 20 }

@@ -1,4 +1,4 @@
-//! The class table of the empty set, whose classes are the two values.
+//! The class table of the empty set, whose classes are the values 0 and 1.
 
 ghost use Rattle.std.specs.Prelude.{◌≡◌, ℕ, ◌+◌, ◌*◌, ◌<◌, ◌≤◌, ◌++◌, map, length, slice_index, IfOk, OnOk, nat_eq};
 ghost use Rattle.std.specs.List.{list_any};
@@ -36,8 +36,9 @@ fn push_values(
     Ok(())
 }
 
-/// The class numbers of all values of a problem, function by function: 0 for the first value, and 1
-/// for the other one.
+/// The class table of the empty set: the class numbers of all values of a problem, function by
+/// function and by rising point. The value of function 0 at point 0 has the number 0, and the other
+/// value has 1.
 pub fn value_numbers(alloc: Global, problem: &Problem) -> Result<Vec<u32>, AllocError>
     ensures numbers { IfOk result
         (λ v. v.items ≡ map (number (value_at problem.now 0 0)) (values_of problem.now)) }
@@ -55,15 +56,15 @@ pub fn value_numbers(alloc: Global, problem: &Problem) -> Result<Vec<u32>, Alloc
     Ok(numbers)
 }
 
-/// Whether the class number 1 occurs, besides 0.
+/// Whether the class number 1 occurs in `numbers`, besides 0.
 fn has_both(numbers: &[u32]) -> bool
     ensures { result ≡ list_any (λ k. nat_eq k 1) numbers.now }
 {
     numbers.iter().any(|number| *number == 1)
 }
 
-/// The masks of the classes of the values: one class or two, as `numbers` has them, which depend on
-/// no variable.
+/// The masks of the classes of the empty set, of which `numbers` is the class table: an empty mask
+/// for each class, of which there are one or two.
 pub fn no_dependence(alloc: Global, numbers: &[u32]) -> Result<Vec<Mask>, AllocError>
     ensures long { IfOk result (λ v. length v.items ≡ class_count numbers.now) }
     ensures zeros { IfOk result (λ v. (c : ℕ) → slice_index v.items c ≡ 0) }

@@ -1,10 +1,10 @@
 -- The costs of the sets of a layer.
---     CostsOf, layer_of_costs c      a layer with a cell for each of its sets; of the empty set's layer there is none
+--     CostsOf, layer_of_costs c      a finished layer, with a cell for each set but the empty one; the layer itself
 --     cell_at c mask, cost_at c mask      the cell and the cost of a set, if it is in the layer; the empty set has the cost 0
 --     AreTrueCosts n F P r bound c      the costs are those of the definition's cells
 --     AreWidthsFor n F P r bound mask costs widths      the widths that the cell of a set takes are the definition's
---     IsCellFrom v P bound mask below widths cell      the cell of a set, once the costs of smaller sets and the widths are
---     IsCellOnce v P bound mask costs widths cell      the cell of a set, once these are
+--     IsCellFrom v P bound mask below widths cell      the definition's cell of a set, if the costs of smaller sets and the widths are the definition's
+--     IsCellOnce v P bound mask costs widths cell      the definition's cell of a set, if the costs of a layer and the widths are the definition's
 use Rattle.std.specs.Prelude.{◌≡◌, ℕ, ◌-◌, ◌^◌, ◌≤◌, Option, Some, None, List, [], if◌then◌else◌, ◌<◌, IsTrue, nat_eq, length, slice_get, slice_index, unwrap_or}
 use Rattle.std.specs.Option.{option_map_or}
 use Rattle.definitions.specs.Functions.{Function}
@@ -24,7 +24,7 @@ pub record CostsOf : Type 0 where
   pub size : ℕ
   pub cells : List Cell
 
--- their layer
+-- the layer that the costs are of
 abbrev pub layer_of_costs : CostsOf → LayerOf
 layer_of_costs c = layer_with c.inputs c.size
 
@@ -36,7 +36,7 @@ as_pair cell = (cell.cost, cell.variable)
 abbrev pub start_costs : ℕ → CostsOf
 start_costs inputs = record { inputs = inputs; size = 0; cells = [] }
 
--- the costs of a layer with cells
+-- the costs of a layer, from the cells of its sets
 abbrev pub costs_with : LayerOf → List Cell → CostsOf
 costs_with l cells = record { inputs = l.inputs; size = l.size; cells = cells }
 
@@ -49,7 +49,7 @@ pub record HaveCells (c : CostsOf) : Type 0 where
 unfoldable pub cell_at : CostsOf → ℕ → Option Cell
 cell_at c mask = slice_get c.cells (place_in (masks_of (layer_of_costs c)) mask)
 
--- the cost of a set of the layer: its cell's, and that of the empty set is 0
+-- the cost of a set of the layer: that of the set's cell, or 0 for the empty set
 unfoldable pub cost_at : CostsOf → ℕ → Option ℕ
 cost_at c mask =
     if has (masks_of (layer_of_costs c)) mask then Some (option_map_or (λ (cell : Cell). cell.cost) (cell_at c mask) 0)
@@ -70,7 +70,7 @@ AreTrueCells n F P r bound c =
 abbrev pub cost_without : CostsOf → ℕ → ℕ → ℕ
 cost_without c mask x = unwrap_or (cost_at c (mask - 2 ^ x)) 0
 
--- the cell of a set, once the costs of the sets without one member and the widths that it takes are the definition's
+-- the definition's cell of a set, if the costs of the sets without one member and the widths that the cell takes are the definition's
 abbrev pub IsCellFrom : LowerBoundsOf → List Pair → ℕ → ℕ → List ℕ → List ℕ → ℕ × ℕ → Type 0
 IsCellFrom v P bound mask below widths cell =
     AreForCell v.problem.inputs (functions v.problem) P v.lower_bound bound mask (slice_index below) (slice_index widths) →
@@ -82,7 +82,7 @@ AreWidthsFor n F P r bound mask c widths =
     IsTrue (is_lawful P (members n mask)) → (x : ℕ) → IsTrue (has (asked n r bound mask (cost_without c mask)) x) →
     slice_index widths x ≡ width n F (without x (members n mask)) x
 
--- the cell of a set, once the costs and the widths that it takes are the definition's
+-- the definition's cell of a set, if the costs of the layer before and the widths that the cell takes are the definition's
 abbrev pub IsCellOnce : LowerBoundsOf → List Pair → ℕ → ℕ → CostsOf → List ℕ → ℕ × ℕ → Type 0
 IsCellOnce v P bound mask c widths cell =
     AreTrueCosts c.inputs (functions v.problem) P v.lower_bound bound c →

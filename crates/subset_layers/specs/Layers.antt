@@ -1,7 +1,7 @@
 -- Layers of the sets of variables, and their blocks. Sets stand as masks, bit x for variable x.
 --     LayerOf, masks_of l      a layer, and its masks: all sets of one size, rising
 --     BlockOf, block_masks b      a block, and its masks: those of a layer with one low byte, rising
---     low_bytes l, blocks_of l      the low bytes of a layer's masks, rising; its blocks, in their order
+--     low_bytes l, blocks_of l      the low bytes of a layer's masks, rising; the layer's blocks, by rising low byte
 --     block_place l i      the place of the block to which the mask at a place belongs
 use Rattle.std.specs.Prelude.{◌≡◌, ◌≤◌, ℕ, ◌%◌, ◌^◌, List, map, length, nat_eq, slice_index}
 use Rattle.std.specs.List.{filter, list_any, range_with_len}

@@ -2,7 +2,7 @@
 --     IsBest n bound mask costs widths sum x      the sum is the least one over the members with a cost within the bound, and x the smallest that gives it
 use Rattle.std.specs.Prelude.{◌≡◌, ◌≢◌, ℕ, ◌+◌, ◌<◌, ◌≤◌}
 
--- over the members of S with a cost within the bound
+-- sum is the least `costs x + widths x` over the x in S with `costs x` at most the bound, and x is the smallest that gives it
 pub record IsBest (S : ℕ → Type 0) (bound : ℕ) (costs widths : ℕ → ℕ) (sum x : ℕ) : Type 0 where
   pub member : S x
   pub within : costs x ≤ bound

@@ -13,16 +13,16 @@ use order_model::{Mask, VarIx};
 use std::alloc::{AllocError, Global};
 use std::marker::Model;
 
-/// What is found for a set that is not empty: its least cost, and the smallest variable that gives
-/// it on top. If the set is pruned, the cost is the bound plus 1, and the variable the smallest
-/// member.
+/// What a search finds for a set that is not empty: its least cost, and the smallest variable that
+/// gives this cost on top. If the set is pruned, the cost is the bound plus 1, and the variable is
+/// the smallest member.
 #[derive(Clone, Copy, Debug, PartialEq, Eq)]
 pub struct Cell {
     pub cost: u32,
     pub variable: VarIx,
 }
 
-/// A finished layer: its sets and their cells. The layer of the empty set has a cost, 0, and no
+/// A finished layer: its sets and their cells. The layer of the empty set has the cost 0, and no
 /// cell.
 #[derive(Drop)]
 pub struct Costs {

@@ -35,7 +35,8 @@ impl Model for Layer {
         (layer_with l.inputs l.size) l.masks.numbers.items l.lows.numbers.items };
 }
 
-/// The sets of a layer whose masks have one low byte: they agree in the variables 0 to 7.
+/// The sets of a layer whose masks have one low byte: they have the same members among the
+/// variables 0 to 7.
 #[derive(Drop)]
 pub struct Block {
     inputs: u8,
@@ -75,7 +76,8 @@ fn size_flags(alloc: Global, inputs: u8, size: u8) -> Result<Vec<bool>, AllocErr
     Ok(flags)
 }
 
-/// For each number below `limit`, which is 256, whether it is the low byte of one of the masks.
+/// For each number below `limit`, whether it is the low byte of one of the masks. Requires `limit`
+/// to be 256.
 fn low_flags(alloc: Global, masks: &[u16], limit: usize) -> Result<Vec<bool>, AllocError>
     requires { limit ≡ 256 }
     ensures { IfOk result
@@ -89,7 +91,7 @@ fn low_flags(alloc: Global, masks: &[u16], limit: usize) -> Result<Vec<bool>, Al
     Ok(flags)
 }
 
-/// Zeros, as room for the masks of a block.
+/// Zeros, as room for the at most 256 masks of a block.
 fn no_masks() -> [u16; 256] {
     [0; 256]
 }
@@ -156,7 +158,7 @@ impl Layer {
         self.masks.numbers[i]
     }
 
-    /// The place of a mask in the layer. None if the layer doesn't have it.
+    /// The place of `mask` in the layer, counted from 0. None if the layer doesn't have it.
     pub fn position(&self, mask: Mask) -> Option<usize>
         ensures found { IfSome result (λ i. slice_get (masks_of self.now) i ≡ Some mask) }
         ensures none { IsNone result ↔ IsFalse (has (masks_of self.now) mask) }
@@ -171,7 +173,8 @@ impl Layer {
         self.lows.numbers.len()
     }
 
-    /// The place, among the blocks, of the block that has the mask at place `i` of the layer.
+    /// The place, among the blocks by rising low byte, of the block that has the mask at place `i`
+    /// of the layer.
     pub fn block_place(&self, i: usize) -> usize
         requires { i < length (masks_of self.now) }
         ensures place { result ≡ block_place self.now i }
@@ -181,7 +184,7 @@ impl Layer {
         self.lows.places[low as usize] as usize
     }
 
-    /// The block at place `i`. Blocks are arranged by rising low byte.
+    /// The block at place `i`, counted from 0. Blocks are arranged by rising low byte.
     pub fn block(&self, i: usize) -> Block
         requires { i < length (blocks_of self.now) }
         ensures { slice_get (blocks_of self.now) i ≡ Some result }

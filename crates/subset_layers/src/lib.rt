@@ -1,5 +1,5 @@
-//! Layers of the sets of variables in blocks, the costs of a layer, and the cell of a set from
-//! those of the layer before.
+//! Layers of the sets of variables, divided into blocks, the costs of a layer, and the cell of a
+//! set from the costs of the layer before.
 #![tactic(auto)]
 
 mod costs;

@@ -67,10 +67,10 @@ fn clipped_cell(mask: Mask, bound: u32) -> Cell
     }
 }
 
-/// The cell of a lawful set that isn't empty: the least sum `below[x] + widths[x]` over its
-/// members, and the smallest x that gives it, where `below[x]` is the cost of the set without x,
-/// and `widths[x]` the width of x. The set is pruned if the sum plus the lower bound on the nodes
-/// above, or each `below[x]`, exceeds the bound.
+/// The cell of a lawful set that isn't empty: the least sum `below[x] + widths[x]` over its members
+/// x, and the smallest x that gives this sum. `below[x]` is the cost of the set without x, and
+/// `widths[x]` the width of x. The set is pruned if each `below[x]` exceeds the bound, or the sum
+/// plus the lower bound on the nodes above does.
 fn lawful_cell(
     mask: Mask,
     inputs: u8,
@@ -104,9 +104,9 @@ fn lawful_cell(
     }
 }
 
-/// The cell of a set that is not empty. `below[x]` is the cost of the set without its member x.
-/// `widths` must have the widths of the members for which this is at most the bound, or of all
-/// members if the lower bound is by widths; its other entries may be anything.
+/// The cell of a set that is not empty. `below[x]` is the cost of the set without its member x, and
+/// `widths[x]` the width of x. Only the widths of members with `below[x]` at most the bound are
+/// needed, or those of all members if the lower bound is by widths.
 pub fn cell_from(
     mask: Mask,
     below: &[u32; 16],
@@ -130,8 +130,8 @@ pub fn cell_from(
     }
 }
 
-/// Entry x: the cost of the set `mask` without its member x. `costs` has the sets with one variable
-/// less. The entries of other variables are 0.
+/// Entry x is the cost of the set `mask` without its member x, or 0 if x is not a member. Requires
+/// `costs` to be the layer of the sets with one variable less.
 fn costs_below(mask: Mask, costs: &Costs) -> [u32; 16]
     requires { IsTrue (has (masks_of (layer_with costs.now.inputs (costs.now.size + 1))) mask) }
     ensures { (x : ℕ) → IsTrue (has (members costs.now.inputs mask) x) →
@@ -147,9 +147,10 @@ fn costs_below(mask: Mask, costs: &Costs) -> [u32; 16]
     below
 }
 
-/// The cell of a set with one member more than those of `costs`. `widths` must have the widths of
-/// the members for which the cost of the set without them is at most the bound, or of all members
-/// if the lower bound is by widths; its other entries may be anything.
+/// The cell of the set `mask`, which has one member more than the sets of the finished layer
+/// `costs`. `widths[x]` is the width of member x. Only the widths of members without which the
+/// set's cost is at most the bound are needed, or those of all members if the lower bound is by
+/// widths.
 pub fn least_cell(
     mask: Mask,
     costs: &Costs,

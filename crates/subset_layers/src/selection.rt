@@ -1,4 +1,4 @@
-//! Numbers below a limit with a table of their places.
+//! Numbers chosen below a limit, with a table of their places.
 
 ghost use Rattle.subset_layers.specs.Selections.{ArePlaced};
 ghost use Rattle.std.specs.Prelude.{◌≡◌, ℕ, ◌<◌, ◌≤◌, ◌≢◌, length, slice_index, slice_get, IfOk, IfSome, IsNone, ◌^◌};

@@ -1,6 +1,6 @@
 -- The points of all assignments of an order's variables.
---     assignments xs      their numbers, the first variable as the highest bit of the place
---     values_at ks tables      the values of functions there, as 0 and 1
+--     assignments xs      the points' numbers, by rising assignment, whose highest bit is the first variable
+--     values_at ks tables      the values of functions at the points with these numbers, as 0 and 1
 use Rattle.std.specs.Prelude.{ℕ, ◌^◌, Bool, false, List, [], ◌∷◌, ◌++◌, map, if◌then◌else◌, get_or, bit_or}
 use Rattle.std.specs.List.{flat_map}
 

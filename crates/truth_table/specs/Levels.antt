@@ -2,7 +2,7 @@
 --     ref_named c      the ref with a number
 --     node_over x u      the node of variable x with the two refs of a pair
 --     IsNumberOf base keys u c      the number of the ref that has the refs of a pair as its children
---     Seeks base x u keys keys' nodes nodes' c      such a ref is found, or put behind the others
+--     Seeks base x u keys keys' nodes nodes' c      the ref for a pair of children is found, or a node for it is appended
 --     IsNumbered x old pairs keys nodes numbers, IsLevelAbove x old below nodes above      the refs of a level
 use Rattle.std.specs.Prelude.{◌≡◌, ◌≢◌, ℕ, ◌+◌, ◌<◌, ◌≤◌, ◌⊎◌, List, [], ◌∷◌, ◌++◌, length, map, slice_index, get_or, slice_get}
 use Rattle.std.specs.List.{IsDistinct}
@@ -16,12 +16,12 @@ use Rattle.truth_table.specs.Numberings.{pairs_of}
 abbrev pub node_over : ℕ → ℕ × ℕ → Node
 node_over x u = record { variable = x; low = ref_named u.0; high = ref_named u.1 }
 
--- one of the two, if they are equal; else the node that was made for the pair: those of the level stand from place `base` on
+-- the number of the child, if both children are equal; else that of the node made for the pair: the level's nodes stand from place `base` on
 abbrev pub IsNumberOf : ℕ → List (ℕ × ℕ) → ℕ × ℕ → ℕ → Type 0
 IsNumberOf base keys u c = ((u.0 ≡ u.1) × (c ≡ u.0))
     ⊎ ((u.0 ≢ u.1) × ((i : ℕ) × (slice_get keys i ≡ Some u) × (c ≡ base + i + 2)))
 
--- unequal refs get a node, unless they have one
+-- a pair of unequal children gets a node, unless it has one
 pub record Seeks (base x : ℕ) (u : ℕ × ℕ) (keys keys' : List (ℕ × ℕ)) (nodes nodes' : List Node) (c : ℕ) : Type 0 where
   pub number : IsNumberOf base keys' u c
   pub once : IsDistinct same_pair keys → IsDistinct same_pair keys'

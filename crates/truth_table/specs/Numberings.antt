@@ -1,7 +1,7 @@
--- Pairs of entries that stand side by side, and numbers that tell pairs apart.
+-- Pairs of entries that stand side by side, and numbers that distinguish pairs.
 --     pair_at cs j, pairs_of cs      entries 2j and 2j+1; all pairs
 --     is_unequal p      whether the parts of a pair differ
---     IsNumbering ps ns      two places have one number exactly if they have one pair
+--     IsNumbering ps ns      two places have equal numbers if and only if they have equal pairs
 use Rattle.std.specs.Prelude.{◌≡◌, ◌↔◌, ℕ, ◌+◌, ◌*◌, ◌/◌, ◌<◌, Bool, not, List, map, length, slice_index, get_or, nat_eq}
 use Rattle.std.specs.List.{range_with_len, filter}
 use Rattle.std.specs.Set.{distinct_count}
@@ -23,7 +23,7 @@ is_unequal p = not (nat_eq p.0 p.1)
 unfoldable pub unequal_count : List (ℕ × ℕ) → ℕ
 unequal_count ps = distinct_count same_pair (filter is_unequal ps)
 
--- two places have one number exactly if they have one pair
+-- two places have equal numbers if and only if they have equal pairs
 pub record IsNumbering (ps : List (ℕ × ℕ)) (ns : List ℕ) : Type 0 where
   pub long : length ns ≡ length ps
   pub apart : (j k : ℕ) → j < length ps → k < length ps →

@@ -1,8 +1,8 @@
--- Terms at the numbers of points.
+-- The values of terms at points, which are given by their numbers.
 --     literal_at term k x      whether the term's literal of variable x, if it has one, holds at the point with number k
---     literals_at term k a len      whether those of the variables from a on, len of them, do
---     covered terms j k      whether some term of output j has only literals that hold there
---     AddsTerm term place before after      a term that is added to the words at a place of all tables
+--     literals_at term k a len      whether the term's literals of the variables a to a + len - 1 hold at the point with number k
+--     covered terms j k      whether some term of output j is 1 at the point with number k
+--     AddsTerm term place before after      a term is added to the words at a place of all tables
 --     AreGroupWords terms group words      the words of a group of 32 places of all tables
 use Rattle.std.specs.Prelude.{◌≡◌, ℕ, ◌+◌, ◌*◌, ◌<◌, Bool, not, ◌&&◌, ◌||◌, ◌==◌, List, [], get_or, slice_index}
 use Rattle.std.specs.Int.{bit_at}
@@ -13,15 +13,15 @@ use Rattle.definitions.specs.declared.terms.Term.{Term}
 abbrev pub literal_at : Term → ℕ → ℕ → Bool
 literal_at term k x = not (bit_at term.care x == 1) || (bit_at k x == bit_at term.value x)
 
--- whether the literals of the variables from a on, len of them, hold
+-- whether the term's literals of the variables a to a + len - 1 hold at the point with number k
 unfoldable pub literals_at : Term → ℕ → ℕ → ℕ → Bool
 literals_at term k a len = list_all (literal_at term k) (range_with_len a len)
 
--- whether a term belongs to output j and all its literals hold
+-- whether a term belongs to output j, and all its literals hold at the point with number k
 abbrev pub covers : Term → ℕ → ℕ → Bool
 covers term j k = (bit_at term.outs j == 1) && literals_at term k 0 16
 
--- whether some term of output j has only literals that hold
+-- whether some term of output j is 1 at the point with number k
 unfoldable pub covered : List Term → ℕ → ℕ → Bool
 covered terms j k = list_any (λ term. covers term j k) terms
 

@@ -21,8 +21,8 @@ fn refs_of(alloc: Global, numbers: &[u32]) -> Result<Vec<Ref>, AllocError>
     Ok(refs)
 }
 
-/// The reduced diagram of the functions of some truth tables under an order, made level by level
-/// from the bottom. The time is that of a step for each output and point.
+/// Makes the reduced diagram, under `order`, of the functions of `tables`, level by level from the
+/// bottom. Takes a step for each output and point.
 pub fn reduced_diagram(alloc: Global, tables: &Tables, order: &Order) -> Result<Diagram, AllocError>
     requires { length order.now ≡ tables.now.inputs }
     ensures diagram { IfOk result

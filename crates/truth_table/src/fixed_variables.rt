@@ -9,8 +9,8 @@ ghost use Rattle.truth_table.specs.Fixing.{fixed_bit};
 use order_model::VarIx;
 use order_model::packed::lower_half;
 
-/// The word that has at each point the value of `word` at that point with variable x set to
-/// `upper`. x is below 6.
+/// Fixes variable x to `upper` in one word of a packed truth table: the result has at each of the
+/// 64 points the value of `word` at that point with x set to `upper`. Requires x to be below 6.
 fn fixed_word(word: u64, x: VarIx, upper: bool) -> u64
     requires { x < 6 }
     ensures { (k : ℕ) → k < 64 → bit_at result k ≡ bit_at word (fixed_bit x upper k) }
@@ -20,7 +20,7 @@ fn fixed_word(word: u64, x: VarIx, upper: bool) -> u64
     half | (half << step)
 }
 
-/// Fixes variable x to `upper` in each word of a packed truth table. x is below 6.
+/// Fixes variable x to `upper` in each word of a packed truth table. Requires x to be below 6.
 fn fix_halves(words: &mut [u64], x: VarIx, upper: bool)
     requires { x < 6 }
     ensures { (i k : ℕ) → i < length words.new → k < 64 →

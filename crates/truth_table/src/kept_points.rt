@@ -1,10 +1,10 @@
-//! Words with the bits of a mask alone.
+//! Copies of the words of a truth table with the bits of a mask alone.
 
 ghost use Rattle.std.specs.Prelude.{◌≡◌, ◌<◌, ℕ, bit_and, length, slice_index, IfOk};
 
 use std::alloc::{AllocError, Global};
 
-/// The words with all bits outside `mask` set to 0.
+/// A copy of `words` in which all bits outside `mask` are set to 0 in each word.
 pub(crate) fn kept_points(alloc: Global, words: &[u64], mask: u64) -> Result<Vec<u64>, AllocError>
     ensures long { IfOk result (λ v. length v.items ≡ length words.now) }
     ensures words { IfOk result

@@ -11,17 +11,18 @@ use order_model::VarIx;
 use order_model::packed::bit_of;
 use std::alloc::{AllocError, Global};
 
-/// Pairs of class numbers, numbered by first occurrence.
+/// The numbers of pairs of class numbers, by first occurrence of a pair.
 #[derive(Debug, Drop)]
 pub(crate) struct Merged {
     /// The number of each pair, in the order of the pairs.
     pub(crate) numbers: Vec<u32>,
-    /// How many distinct pairs have two unequal parts.
+    /// How many distinct pairs have two unequal class numbers.
     pub(crate) unequal: u32,
 }
 
-/// The class numbers one level higher: entries 2j and 2j + 1 of `classes` form pair j, and pairs
-/// are numbered by first occurrence.
+/// Numbers the subfunctions one level higher: entries 2j and 2j + 1 of `classes` form pair j, the
+/// class numbers of the two cofactors, and equal pairs get one number. Pairs are numbered by first
+/// occurrence.
 pub(crate) fn merge(alloc: Global, classes: &[u32]) -> Result<Merged, AllocError>
     requires few { length classes.now < 2 ^ 32 }
     ensures numbers { IfOk result (λ r. IsNumbering (pairs_of classes.now) r.numbers.items) }
@@ -43,7 +44,7 @@ pub(crate) fn merge(alloc: Global, classes: &[u32]) -> Result<Merged, AllocError
     Ok(Merged { numbers, unequal })
 }
 
-/// Appends to `points` each of its points once more, with variable x set to 1.
+/// Appends to `points` a copy of each of its points, with variable x set to 1.
 fn push_upper(points: &mut Vec<u32>, x: VarIx) -> Result<(), AllocError>
     requires { x < 16 }
     ensures { OnOk result
@@ -56,8 +57,8 @@ fn push_upper(points: &mut Vec<u32>, x: VarIx) -> Result<(), AllocError>
     Ok(())
 }
 
-/// The points of all assignments of some variables, by rising number of the assignment, whose
-/// highest bit is the first variable. The other variables are 0.
+/// The points of all assignments to `variables`, by rising number of the assignment, whose highest
+/// bit is the first variable. All other variables are 0.
 pub(crate) fn assignment_points(alloc: Global, variables: &[VarIx]) -> Result<Vec<u32>, AllocError>
     requires small { All (λ x. x < 16) variables.now }
     requires few { length variables.now ≤ 16 }

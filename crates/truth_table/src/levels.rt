@@ -1,4 +1,4 @@
-//! One level of a reduced diagram, from the one below.
+//! One level of a reduced diagram, made from the level below.
 
 ghost use Rattle.std.specs.Prelude.{◌≡◌, ◌≢◌, ◌+◌, ◌<◌, ◌≤◌, ◌^◌, length, IfOk, map};
 ghost use Rattle.truth_table.specs.Numberings.{pairs_of};
@@ -19,9 +19,10 @@ pub(crate) fn ref_of(number: u32) -> Ref
     }
 }
 
-/// The number of the node of variable x whose children have the numbers `low` and `high`, or of the
-/// child itself if both are equal. `pairs` has the children of this level's nodes so far, the first
-/// of which stands at place `base` of `nodes`. A new node is appended to both.
+/// Returns the number of the node of variable x whose children have the numbers `low` and `high`,
+/// or of the child itself if both are equal. A new node is appended to `nodes`, and its children to
+/// `pairs`. `pairs` has the children of this level's nodes so far, the first of which stands at
+/// place `base` of `nodes`.
 fn number_over(
     nodes: &mut Vec<Node>,
     pairs: &mut IndexSet<(u32, u32)>,
@@ -48,9 +49,9 @@ fn number_over(
     Ok(base + place as u32 + 2)
 }
 
-/// The level of variable x, bottom-up: entry j is the number of the node whose low and high child
-/// are entries 2j and 2j + 1 of `below`, or of the child itself if both are equal. New nodes are
-/// appended to `nodes`.
+/// Makes the level of variable x from the level below: entry j of the result is the number of the
+/// node whose low and high child are entries 2j and 2j + 1 of `below`, or of the child itself if
+/// both are equal. New nodes are appended to `nodes`.
 pub(crate) fn level_above(
     alloc: Global,
     nodes: &mut Vec<Node>,

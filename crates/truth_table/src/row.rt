@@ -26,7 +26,7 @@ impl Model for Row {
 }
 
 impl Row {
-    /// The function of `inputs` variables whose packed truth table is `words`.
+    /// The truth table whose packed words are `words`, of a function of `inputs` variables.
     pub(crate) fn new(inputs: u8, words: Vec<u64>) -> Row
         requires { IsRow inputs words.items }
         ensures { result ≡ row_table inputs words.items }

@@ -36,9 +36,9 @@ impl Model for Tables {
 }
 
 impl Tables {
-    /// The truth tables of a cover's outputs, made by threads that share groups of 32 words. The
-    /// time is that of a step for each group and term, of one for each word of a group if the term
-    /// may hold there, and of one for each output of a word if it holds.
+    /// Makes the truth tables of a cover's outputs. Threads share the work, in groups of 32 words.
+    /// Takes a step for each group and term, one for each word of a group in which the term may be
+    /// 1, and one for each output of a word in which the term is 1 somewhere.
     pub fn of_cover<R: Threads + Sync>(
         rt: &R,
         alloc: Global,
@@ -58,7 +58,7 @@ impl Tables {
     }
 
     /// The truth tables of m functions of n variables, packed one after the other in `words`. Bits
-    /// past a table's last point are left out.
+    /// past a table's last point are ignored.
     pub fn of_words(alloc: Global, n: u8, m: u8, words: &[u64]) -> Result<Tables, AllocError>
         requires some_inputs { 1 ≤ n }
         requires few_inputs { n ≤ 16 }
@@ -80,7 +80,8 @@ impl Tables {
         &self.problem
     }
 
-    /// The value of output `output` at a point. Bit x of `point` is the value of variable x.
+    /// The value of output `output`, counted from 0, at a point. Bit x of `point` is the value of
+    /// variable x.
     pub fn value(&self, output: u8, point: u32) -> bool
         requires output { output < outputs_of self.now }
         requires point { point < 2 ^ self.now.inputs }
@@ -89,8 +90,8 @@ impl Tables {
         self.problem.value(output, point)
     }
 
-    /// The truth table of output `output`, with each variable x in the set `care` fixed to bit x of
-    /// `value`. The time is that of a step for each variable and word.
+    /// The truth table of a cofactor of output `output`: each variable x in the set `care` is fixed
+    /// to bit x of `value`. Takes a step for each variable and word.
     pub fn cofactor(
         &self,
         alloc: Global,
@@ -115,7 +116,8 @@ impl Tables {
         Ok(Row::new(n, words))
     }
 
-    /// The values of the `outputs` outputs at `points`, output by output, as 0 and 1.
+    /// The values of all outputs at `points`, output by output, as 0 and 1. Requires `outputs` to
+    /// be the number of outputs.
     fn values(&self, alloc: Global, outputs: u8, points: &[u32]) -> Result<Vec<u32>, AllocError>
         requires outputs { outputs ≡ outputs_of self.now }
         requires points { All (λ k. k < 2 ^ self.now.inputs) points.now }
@@ -128,8 +130,8 @@ impl Tables {
         Ok(values)
     }
 
-    /// The values of all outputs, output by output, as 0 and 1. Those of an output stand by rising
-    /// number of the assignment, whose highest bit is the top variable of `order`.
+    /// The values of all outputs, output by output, as 0 and 1. The values of an output stand by
+    /// rising number of the assignment, whose highest bit is the top variable of `order`.
     pub fn values_under(&self, alloc: Global, order: &Order) -> Result<Vec<u32>, AllocError>
         requires { length order.now ≡ self.now.inputs }
         ensures { IfOk result
@@ -140,9 +142,9 @@ impl Tables {
         self.values(alloc, self.problem.outputs(), &points)
     }
 
-    /// The level counts under an order, top first, directly from the truth tables: the distinct
-    /// subfunctions below each level are numbered, from the bottom level up, and those that depend
-    /// on the level's variable are counted.
+    /// The level counts under an order, top first, counted directly in the truth tables: from the
+    /// bottom level up, the distinct subfunctions below each level are numbered, and those that
+    /// depend on the level's variable are counted.
     pub fn widths_of(&self, alloc: Global, order: &Order) -> Result<Vec<u32>, AllocError>
         requires { length order.now ≡ self.now.inputs }
         ensures { IfOk result

@@ -24,8 +24,8 @@ const GROUP_WORDS: usize = 32;
 /// The words of a group: entry [place][o] is word `place` of the group in the table of output o.
 type GroupWords = [[u64; 16]; 32];
 
-/// The points of a word, as bits, at which a term's literal of variable x holds: all points if it
-/// has none. x is below 6.
+/// The points of a word, as bits, at which the term's literal of variable x holds: all points if
+/// the term has no such literal. Requires x to be below 6.
 fn literal_points(term: Term, x: VarIx) -> u64
     requires { x < 6 }
     ensures { (b : ℕ) → b < 64 → (bit_at result b == 1) ≡ literal_at term b x }
@@ -41,8 +41,8 @@ fn literal_points(term: Term, x: VarIx) -> u64
     }
 }
 
-/// The points of a word, as bits, at which a term's literals of the variables 0 to 5 hold. They are
-/// the same in each word.
+/// The points of a word, as bits, at which the term's literals of the variables 0 to 5 hold. They
+/// are the same in each word of a table.
 fn pattern(term: Term) -> u64
     ensures { (b : ℕ) → b < 64 → (bit_at result b == 1) ≡ literals_at term b 0 6 }
 {
@@ -53,8 +53,8 @@ fn pattern(term: Term) -> u64
     points
 }
 
-/// Whether a term's literals of the variables 6 to 15 hold at the points of word `place` of a
-/// table.
+/// Whether the term's literals of the variables 6 to 15 hold at the points of word `place` of a
+/// table, which all have the same values of these variables.
 fn holds_above(term: &Term, place: usize) -> bool
     requires { place < 1024 }
     ensures { result ≡ literals_at term.now (64 * place) 6 10 }
@@ -62,7 +62,7 @@ fn holds_above(term: &Term, place: usize) -> bool
     place & (term.care >> 6) as usize == (term.value >> 6) as usize
 }
 
-/// Sets the bits `points` in `words[o]` for each output o that has its bit in `outs`.
+/// Sets to 1 the bits `points` of `words[o]`, for each output o that has its bit in `outs`.
 #[inline(always)]
 fn add_points(words: &mut [u64; 16], outs: u16, points: u64)
     ensures { (o : ℕ) → o < 16 →
@@ -76,8 +76,8 @@ fn add_points(words: &mut [u64; 16], outs: u16, points: u64)
     }
 }
 
-/// Whether a term's literals of the variables 11 to 15 hold at the points of group `group`, which
-/// all have the same values of these variables. If not, the term is 0 at all points of the group.
+/// Whether the term may be 1 at a point of group `group`: its literals of the variables 11 to 15
+/// hold there. All points of a group have the same values of these variables.
 fn may_hold(term: &Term, group: usize) -> bool
     requires { group < 32 }
     ensures { IsFalse result → (place : ℕ) → place < 32 →
@@ -86,8 +86,8 @@ fn may_hold(term: &Term, group: usize) -> bool
     group & (term.care >> 11) as usize == (term.value >> 11) as usize
 }
 
-/// Sets the bits of the points of group `group` at which a term is 1, in the tables of the term's
-/// outputs: `words[place][o]` is word `place` of the group in the table of output o.
+/// Sets to 1 the bits of the points of group `group` at which the term is 1, in the tables of the
+/// term's outputs: `words[place][o]` is word `place` of the group in the table of output o.
 fn add_term(words: &mut GroupWords, term: &Term, group: usize)
     requires { group < 32 }
     ensures { (place : ℕ) → place < 32 →
@@ -102,8 +102,8 @@ fn add_term(words: &mut GroupWords, term: &Term, group: usize)
     }
 }
 
-/// The words of group `group`: entry [place][o] is word `place` of the group in the table of output
-/// o. Terms that are 0 in the whole group are not evaluated word by word.
+/// Makes the words of group `group`: entry [place][o] is word `place` of the group in the table of
+/// output o. Terms that are 0 in the whole group are not evaluated word by word.
 fn group_words(terms: &[Term], group: usize) -> GroupWords
     requires { group < 32 }
     ensures { AreGroupWords terms.now group result }
@@ -117,7 +117,8 @@ fn group_words(terms: &[Term], group: usize) -> GroupWords
     words
 }
 
-/// The bits of a word that stand for points of n variables: the lowest 2^n of them, or all 64.
+/// A mask of the bits of a word that stand for points of n variables: the lowest 2^n bits, or all
+/// 64.
 pub(crate) fn points_mask(n: u8) -> u64
     requires { n ≤ 16 }
     ensures { (b : ℕ) → b < 64 → (bit_at result b == 1) ≡ nat_lt b (2 ^ n) }
@@ -129,8 +130,9 @@ pub(crate) fn points_mask(n: u8) -> u64
     }
 }
 
-/// The packed tables of m outputs, one after the other, each of `size` words. `groups` has the
-/// words, by group, by place in the group and by output. Of each word the bits of `mask` are kept.
+/// Makes the packed tables of m outputs, one after the other, each of `size` words. `groups` has
+/// the words, by group, by place in the group and by output. Of each word only the bits of `mask`
+/// are kept.
 fn lay_out(
     alloc: Global,
     m: u8,
@@ -163,17 +165,17 @@ fn groups_of(size: usize) -> usize
     (size + GROUP_WORDS - 1) / GROUP_WORDS
 }
 
-/// How many terms a thread has to try in all to be worth its start.
+/// How many terms a thread has to evaluate in all to be worth its start.
 const TERMS_WORTH_A_THREAD: usize = 8_192;
 
-/// The least number of groups for which starting a thread is worth it, if each group tries `terms`
-/// terms.
+/// The least number of groups for which starting a thread is worth it, if `terms` terms are
+/// evaluated for each group.
 fn least_groups(terms: usize) -> usize {
     TERMS_WORTH_A_THREAD / terms.max(1)
 }
 
-/// The packed truth tables of m outputs of n inputs that product terms give, one table after the
-/// other. Threads share the groups of words.
+/// Makes the packed truth tables of m outputs of n inputs that product terms give, one table after
+/// the other. Threads share the groups of words.
 pub(crate) fn packed_words<R: Threads + Sync>(
     rt: &R,
     alloc: Global,
@@ -206,7 +208,7 @@ pub(crate) fn packed_words<R: Threads + Sync>(
     Ok(words)
 }
 
-/// The words of the first `count` groups, made by the calling thread.
+/// Makes the words of the first `count` groups, by the calling thread.
 fn groups_alone(alloc: Global, terms: &[Term], count: usize) -> Result<Vec<GroupWords>, AllocError>
     requires { count ≤ 32 }
     ensures long { IfOk result (λ v. length v.items ≡ count) }
@@ -220,7 +222,7 @@ fn groups_alone(alloc: Global, terms: &[Term], count: usize) -> Result<Vec<Group
     Ok(groups)
 }
 
-/// The packed truth tables of a cover's outputs, one table after the other, made by the calling
+/// Makes the packed truth tables of a cover's outputs, one table after the other, by the calling
 /// thread.
 pub fn cover_words(alloc: Global, cover: &Cover) -> Result<Vec<u64>, AllocError>
     ensures packed { IfOk result (λ v. IsPacked cover.now.inputs cover.now.outputs v.items) }

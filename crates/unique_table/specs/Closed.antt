@@ -8,7 +8,7 @@ use Rattle.unique_table.specs.declared.close.ClosedStore.TheInside as closed
 abbrev pub closed_store : closed.Inside → ClosedStoreOf
 closed_store c = record { plan = c.store.value.plan; words = slots_items c.closed.words }
 
--- the fields have the plan's numbers, and each word is there
+-- the fields of a closed store have the plan's numbers, and each of its words is there
 pub record IsClosedStore (c : closed.Inside) : Type 0 where
   pub plan : IsPlan c.store.value.plan
   pub places : c.places ≡ c.store.value.plan.places

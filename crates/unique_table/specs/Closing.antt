@@ -3,8 +3,8 @@
 --     root_word c j, root_id c j, root_functions c      the root words, the ids in them, and the functions that these denote
 --     HasAllRoots c, LacksRoot c fault      each root word is filled; the least root word that is empty
 --     AreFinal c, IsFinalStore s c      words that a store may end with, and those that agree with what a session knows
---     IsMissingRoot s j, MayLackRoot s fault      a root that is missing, and why a store gives no diagram, as a session knows it
---     SessionsLackWhatIsEmpty      what the last words lack their session lacks
+--     IsMissingRoot s j, MayLackRoot s fault      a root that is missing to a session, and why a store gives the session no diagram
+--     SessionsLackWhatIsEmpty      the least root that the last words lack is missing to the session
 use Rattle.std.specs.Prelude.{◌≡◌, ◌≢◌, ℕ, ◌+◌, ◌-◌, ◌<◌, List, length, slice_index, map}
 use Rattle.std.specs.List.{range_with_len}
 use Rattle.definitions.specs.Functions.{Function}
@@ -23,7 +23,7 @@ pub record ClosedStoreOf : Type 0 where
   pub plan : Plan
   pub words : List ℕ
 
--- how many roots there are, and the place of the first one's word
+-- how many roots there are, and the place of the word of root 0
 abbrev pub roots_count : Plan → ℕ
 roots_count b = outputs_of b.problem.value
 
@@ -64,7 +64,7 @@ pub record AreFinal (c : ClosedStoreOf) : Type 0 where
   pub entries : AreEntries c.plan (nodes_of c.plan c.words) c.words
   pub pieces : ArePieces c.plan (nodes_of c.plan c.words) (pieces_of c.plan c.words)
 
--- words that a session's store may end with, if the session knows what it knows
+-- words that the store of a session may end with: they agree with what the session knows
 pub record IsFinalStore (s : Knowledge) (c : ClosedStoreOf) : Type 0 where
   pub plan : c.plan ≡ s.store.plan
   pub final : AreFinal c
@@ -89,6 +89,6 @@ abbrev pub MayLackRoot : Knowledge → CloseFault → Type 0
 MayLackRoot s (MissingRoot j) = IsMissingRoot s j
 MayLackRoot s OutOfMemory = Unit {0}
 
--- a root that is the least empty one of its last words is missing to a session
+-- the least root that is empty in the last words of a session's store is missing to the session
 abbrev pub SessionsLackWhatIsEmpty : Type 0
 SessionsLackWhatIsEmpty = (s : Knowledge) (c : ClosedStoreOf) (fault : CloseFault) → IsFinalStore s c → LacksRoot c fault → MayLackRoot s fault

@@ -20,7 +20,7 @@ use Rattle.node_words.specs.Meaning.{depth}
 abbrev pub words_in : Closed (Unit {0}) Global → ℕ → List ℕ
 words_in closed places = take places (slots_items closed.words)
 
--- the first places of a closed table have the words of nodes of so many levels
+-- the first `places` words of a closed table are words of nodes, which are on `levels` levels
 pub record HasNodes (closed : Closed (Unit {0}) Global) (places levels : ℕ) : Type 0 where
   pub full : IsFull closed.words
   pub inside : places ≤ slots_len closed.words
@@ -40,7 +40,7 @@ node_of order numbers w = record {
   high = ref_of numbers (high_of w);
 }
 
--- the id is a terminal, or has a copy before that of place p
+-- the id is a terminal, or its node has a copy that stands before the copy of place p
 abbrev pub IsEarlier : List ℕ → ℕ → ℕ → Type 0
 IsEarlier numbers p id = 2 ≤ id →
     (slice_index numbers (id - 2) ≢ 0) × (slice_index numbers (id - 2) < slice_index numbers p)
@@ -61,7 +61,7 @@ unfoldable pub blanks : List ℕ → ℕ
 blanks [] = 0
 blanks (x ∷ xs) = blank x + blanks xs
 
--- the copies made so far: each numbered place has its copy, and each node is one
+-- the copies made so far: each place with a number has a copy, and each node of the list is a copy
 pub record AreCopied (order ws numbers : List ℕ) (nodes : List Node) : Type 0 where
   pub size : length numbers ≡ length ws
   pub copied : (p : ℕ) → slice_index numbers p ≢ 0 → IsCopied order ws numbers nodes p
@@ -70,18 +70,18 @@ pub record AreCopied (order ws numbers : List ℕ) (nodes : List Node) : Type 0 
   pub unequal : (p q : ℕ) → slice_index numbers p ≢ 0 → slice_index numbers p ≡ slice_index numbers q → p ≡ q
   pub count : length nodes + blanks numbers ≡ length numbers
 
--- a ref that paths from another come to
+-- a ref to which a path leads from the ref r
 pub data HasPath (nodes : List Node) (r : Ref) : Ref → Type 0 where
   here : {q : Ref} → r ≡ q → HasPath nodes r q
   below : {q : Ref} → (k : ℕ) (node : Node) → HasPath nodes r (Place k) → slice_get nodes k ≡ Some node → IsChild q node →
       HasPath nodes r q
 
--- nodes that were there stay
+-- the second list of nodes begins with the first one
 pub record Extends (nodes nodes' : List Node) : Type 0 where
   pub longer : length nodes ≤ length nodes'
   pub same : (k : ℕ) → k < length nodes → slice_get nodes' k ≡ slice_get nodes k
 
--- copying what an id reaches: it has a copy then, which leads to all new nodes, and no place above it got one
+-- copying the nodes that an id reaches: the id has a copy then, paths lead from this to all new nodes, and no place on a level above got a copy
 pub record Copies (order ws numbers : List ℕ) (nodes : List Node) (numbers' : List ℕ) (nodes' : List Node) (id : ℕ)
     (r : Ref) : Type 0 where
   pub copied : AreCopied order ws numbers' nodes'
@@ -93,13 +93,13 @@ pub record Copies (order ws numbers : List ℕ) (nodes : List Node) (numbers' : 
       slice_index numbers' q ≡ slice_index numbers q
   pub leads : (k : ℕ) → length nodes ≤ k → k < length nodes' → HasPath nodes' r (Place k)
 
--- the first i refs are those of the first i ids, which have copies
+-- the refs are those of the first i ids, which have copies
 pub record AreRefs (numbers : List ℕ) (refs : List Ref) (ids : List ℕ) (i : ℕ) : Type 0 where
   pub count : length refs ≡ i
   pub each : (j : ℕ) → j < i →
       (slice_get refs j ≡ Some (ref_of numbers (slice_index ids j))) × IsKnown numbers (slice_index ids j)
 
--- paths from the roots come to each node
+-- to each node a path leads from a root
 abbrev pub AreReached : List Node → List Ref → Type 0
 AreReached nodes roots = (k : ℕ) → k < length nodes → Reached record { nodes = nodes; roots = roots } (Place k)
 

@@ -9,7 +9,7 @@ use Rattle.unique_table.specs.declared.session.Session.TheInside as session
 abbrev pub store_id : store.Inside → StoreId
 store_id t = record { table = t.table.shared.table_id; plan = t.table.shared.key }
 
--- the fields have the plan's numbers
+-- the fields of a store have the numbers of its plan
 pub record IsStore (t : store.Inside) : Type 0 where
   pub plan : IsPlan t.table.shared.key
   pub places : t.places ≡ t.table.shared.key.places
@@ -33,7 +33,7 @@ knowledge s = let v = s.seat.me.0 in
       writes = v.writes;
     }
 
--- the session's view is good and current, and it holds no slot
+-- the view of a session is good and current, and the session's seat holds no slot
 pub record IsSession (s : session.Inside) : Type 0 where
   pub good : IsGoodView s.seat.me.0
   pub current : s.seat.me.0.current ≡ true

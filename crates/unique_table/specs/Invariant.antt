@@ -22,7 +22,7 @@ use Rattle.unique_table.specs.Stakes.{whole, half, joined, IsWhole, AreWithinWho
 abbrev pub StoreState : Type 0
 StoreState = State (Unit {0}) View
 
--- the state after a step of seat id, which has the view v now
+-- the state after a step of the seat with number id: the words, and v as the seat's view
 abbrev pub moved : StoreState → List ℕ → ℕ → View → StoreState
 moved s words id v = record { words = words; homes = s.homes; views = slice_set s.views id v }
 
@@ -49,12 +49,12 @@ ArePieces b nodes pieces = (q : ℕ) → slice_index pieces q ≢ 0 →
 abbrev pub AreMade : List ℕ → List ℕ → Type 0
 AreMade made ws = (p : ℕ) → slice_index ws p ≢ 0 → Contains made (slice_index ws p)
 
--- a seat put the word, or comes from one that did
+-- a seat put the word into the store, or was split or joined from a seat that did
 abbrev pub IsPut : List View → ℕ → Type 0
 IsPut views w = (i : ℕ) × (v : View) × (get_elem? views i ≡ some v) × (v.live ≡ true) × Contains v.made w
 
--- what a session saw of the words is so in them, and is a list of nodes by itself; it has some stake, and with the whole it
--- knows all pieces
+-- what a session saw of the words still stands in the words, and is a list of nodes by itself; the session has some stake, and with the whole
+-- stake it knows all pieces
 pub record IsSeen (b : Plan) (ws ps : List ℕ) (v : View) : Type 0 where
   pub plan : v.plan ≡ b
   pub size : length v.seen ≤ b.places
@@ -118,7 +118,7 @@ having made v =
 abbrev pub putting : ℕ → View → View
 putting w v = having (w ∷ v.made) v
 
--- after a step in which all words were seen as ws and pieces, and which wrote `wrote` of them
+-- a view after a step in which all words were seen, those of nodes and those of pieces, and which wrote `wrote` words
 abbrev pub sees : View → List ℕ → List ℕ → ℕ → View
 sees v ws pieces wrote =
     record {
@@ -155,7 +155,7 @@ stepped v =
       writes = v.writes;
     }
 
--- the second half: what a session knows that has seen as much
+-- the second half of a view: it has seen and put what the first half has, and made no step
 abbrev pub another : View → View
 another v = record {
   live = true;
@@ -171,7 +171,7 @@ another v = record {
   writes = 0;
 }
 
--- v is told what w saw, and has what w put; the stakes, steps and writes of both are added
+-- v receives what w saw and put; the stakes, steps and writes of both are added
 abbrev pub informed : View → View → View
 informed v w =
     record {
@@ -222,7 +222,7 @@ spent = record {
 abbrev Seated : Type 0
 Seated = Me (Unit {0}) View
 
--- the words were then such lists; a seat with the whole put each node
+-- the words ws of nodes and ps of pieces agree with the view v; if v has the whole stake, it put each node
 pub record Sees (v : View) (ws ps : List ℕ) : Type 0 where
   pub size : length ws ≡ v.plan.places
   pub nodes : AreNodeWords (levels_of v.plan) ws

@@ -1,6 +1,6 @@
 -- A number for each of many places, of which few are in use: by pages of 64 places.
 --     number_at pages numbers p      the number of place p, on its page
---     numbers_of places pages numbers      those of all places
+--     numbers_of places pages numbers      the numbers of all places
 --     ArePages pages numbers      the page of the places not in use has zeros, and no two parts of the places in use have one page
 use Rattle.std.specs.Prelude.{◌≡◌, ◌≢◌, ℕ, ◌+◌, ◌*◌, ◌/◌, ◌%◌, ◌<◌, ◌≤◌, List, length, map, slice_index}
 use Rattle.std.specs.List.{range_with_len}

@@ -1,5 +1,5 @@
 -- What a store is for.
---     order_of, levels_of, variable_at      its order
+--     order_of, levels_of, variable_at      the order of a plan, how many levels it has, and the variable of a level
 --     piece_function b q      the function of a piece
 --     IsPlan b      the numbers of a plan fit one another
 use Rattle.std.specs.Prelude.{◌≡◌, ℕ, ◌+◌, ◌-◌, ◌*◌, ◌/◌, ◌%◌, ◌^◌, ◌<◌, ◌≤◌, ◌==◌, nat_lt, if◌then◌else◌, List, [], ◌∷◌, length, slice_index, map, take}
@@ -16,7 +16,7 @@ use Rattle.unique_table.specs.declared.plan.Pieces.{Pieces}
 use Rattle.unique_table.specs.declared.plan.Pieces.TheVariants.{Tables, Terms}
 use Rattle.unique_table.specs.declared.plan.Plan.{Plan}
 
--- the order
+-- the order of a plan's variables
 abbrev pub order_of : Plan → List ℕ
 order_of b = b.order.value
 
@@ -41,11 +41,11 @@ fixed (x ∷ xs) v f = restrict x (bit_at v 0 == 1) (fixed xs (v / 2) f)
 abbrev pub top_variables : List ℕ → List ℕ
 top_variables order = take 2 order
 
--- in how many ways they are fixed
+-- how many assignments these variables on top have
 abbrev pub top_assignments : List ℕ → ℕ
 top_assignments order = 2 ^ length (top_variables order)
 
--- the products whose number, counted from 0, leaves b when divided by 64
+-- the products whose number, counted from 0, leaves the remainder b when divided by 64
 unfoldable pub share : ℕ → List Product → List Product
 share b products = map (λ e. e.1) (filter (λ e. e.0 % 64 == b) (enumerate_from 0 products))
 
@@ -58,7 +58,7 @@ abbrev pub parts_count : PieceKind → List ℕ → TruthTables → ℕ
 parts_count Restrictions order t = outputs_of t * top_assignments order
 parts_count (Products terms) order t = outputs_of t * 64
 
--- the function of such a piece
+-- the function of a piece that is a part of an output
 unfoldable pub part_function : PieceKind → List ℕ → TruthTables → ℕ → Function
 part_function Restrictions order t q = fixed (top_variables order) (q % top_assignments order) (output_at t (q / top_assignments order))
 part_function (Products terms) order t q = product_function (share (q % 64) (products_of t terms.value)) (q / 64)
@@ -74,7 +74,7 @@ AreTermsOf Restrictions t = Unit {0}
 AreTermsOf (Products terms) t = (j : ℕ) → j < outputs_of t →
     SameFunction t.inputs (product_function (products_of t terms.value) j) (output_at t j)
 
--- the numbers of a plan fit one another
+-- the numbers of a plan are those that belong to its order, functions and kind of parts
 pub record IsPlan (b : Plan) : Type 0 where
   pub places : b.places ≡ 262144
   pub entries : b.entries ≡ 65536
@@ -86,14 +86,14 @@ pub record IsPlan (b : Plan) : Type 0 where
   pub few_outputs : outputs_of b.problem.value ≤ 16
   pub terms : AreTermsOf b.kind b.problem.value
 
--- the plan's pieces are made of what was handed in
+-- the plan's kind of parts is the one that the caller gave
 abbrev pub IsKind : PieceKind → Pieces → Type 0
 IsKind Restrictions Tables = Unit {0}
 IsKind Restrictions (Terms terms) = ⊥
 IsKind (Products own) Tables = ⊥
 IsKind (Products own) (Terms terms) = own.value ≡ terms.now
 
--- the terms that are handed in, if any, give the problem's functions
+-- the terms that the caller gave, if any, give the problem's functions
 abbrev pub AreGivenBy : Pieces → TruthTables → Type 0
 AreGivenBy Tables t = Unit {0}
 AreGivenBy (Terms terms) t = (j : ℕ) → j < outputs_of t →

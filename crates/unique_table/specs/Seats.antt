@@ -2,8 +2,8 @@
 --     Board, Sitting      the table and a seat at it
 --     IsSeatOf t s, IsSeatAfter t s s' wrote      a seat of the table, and one after a step that wrote `wrote` words
 --     Searches t s s' word most      a seat searches for a node's word
---     IsNodePlace t place, IsEntryPlace t entry place, IsPiecePlace t piece place      if the words of nodes, of the cache and of pieces stand
---     IsNodeWord t s word, MayPut t s word place      a node's word, and the place at which a seat may put it
+--     IsNodePlace t place, IsEntryPlace t entry place, IsPiecePlace t piece place      the places of the words of nodes, of the cache and of pieces
+--     IsNodeWord t s word, MayPut t s word place      a node's word, and the place at which a seat may put the word
 use Rattle.std.specs.Prelude.{◌≡◌, ◌≢◌, ℕ, ◌+◌, ◌<◌, ◌≤◌, []}
 use Rattle.atomic_table.specs.declared.shared.Shared.{Shared}
 use Rattle.atomic_table.specs.declared.shared.Seat.{Seat}
@@ -35,7 +35,7 @@ pub record IsSeatAfter (t : Board) (s s' : Sitting) (wrote : ℕ) : Type 0 where
   pub seat : IsSeatOf t s'
   pub view : After s.me.0 s'.me.0 wrote
 
--- a seat searches for a node's word in at most so many steps, and puts no other
+-- a seat searches for a node's word in at most `most` steps, and puts no other word
 pub record Searches (t : Board) (s s' : Sitting) (word most : ℕ) : Type 0 where
   pub seat : IsSeatOf t s'
   pub view : Gains s.me.0 s'.me.0

@@ -7,11 +7,11 @@
 --     HasUniqueIds s      ids that a session knows are equal if they denote the same function
 --     HasLevels s      no id that a session knows lies below the terminals
 --     HasPiece s q id      the session knows that the piece has the id
---     IsAlone s, AloneStaysAlone      no other session of the store is left, and it stays so
---     MadeAll s      a session that is alone made each node that it knows, or comes from sessions that did
---     GainsOnly made made' w      no word was made but w
+--     IsAlone s, AloneStaysAlone      no other session of the store is left; a session that is alone stays alone
+--     MadeAll s      a session that is alone put each node that it knows, or was split or joined from sessions that did
+--     GainsOnly made made' w      no word was put into the store but w
 --     Follows s s'      a session goes on: what it knew it still knows
---     GoesOn s s' most      a session goes on by at most so many steps
+--     GoesOn s s' most      a session goes on by at most `most` steps
 --     MakesStep s s' wrote      a session goes on by one step
 --     HasParts s id parts      the level and the children of a node
 --     IsNodeOf s level low high id      the id of the node with a level and children
@@ -75,7 +75,7 @@ LiesNoHigher s a b id = (k : ℕ) → k ≤ depth_in s a → k ≤ depth_in s b 
 abbrev pub IsKnownBelow : Knowledge → ℕ → ℕ → Type 0
 IsKnownBelow s level id = Knows s id × (level < depth_in s id)
 
--- two ids that the session knows are one, if they denote the same function
+-- two ids that the session knows are equal if they denote the same function
 abbrev pub HasUniqueIds : Knowledge → Type 0
 HasUniqueIds s = (id other : ℕ) (f : Function) → Means s id f → Means s other f → id ≡ other
 
@@ -91,7 +91,7 @@ HasPiece s q id = slice_index s.pieces q ≡ id + 1
 abbrev pub IsAlone : Knowledge → Type 0
 IsAlone s = IsWhole s.stake
 
--- the node words that a session knows were all put by it, or by sessions from which it comes, if no other is left
+-- if no other session is left, the node words that a session knows were all put by it, or by sessions that it was split or joined from
 abbrev pub MadeAll : Knowledge → Type 0
 MadeAll s = IsAlone s → AreMade s.made s.seen
 
@@ -114,7 +114,7 @@ pub record Follows (s s' : Knowledge) : Type 0 where
 abbrev pub AloneStaysAlone : Type 0
 AloneStaysAlone = (s s' : Knowledge) → Follows s s' → IsAlone s → IsAlone s'
 
--- a session goes on by at most so many steps, with the stake that it had; its ids are unique
+-- a session goes on by at most `most` steps, with the stake that it had; its ids are unique
 pub record GoesOn (s s' : Knowledge) (most : ℕ) : Type 0 where
   pub follows : Follows s s'
   pub stake : s'.stake ≡ s.stake
@@ -130,7 +130,7 @@ pub record MakesStep (s s' : Knowledge) (wrote : ℕ) : Type 0 where
   pub steps : s'.steps ≡ s.steps + 1
   pub writes : s'.writes ≡ s.writes + wrote
 
--- the parts of a known node: its level, and two unequal children below it, of whose functions its own is made
+-- the parts of a known node: its level, and two unequal children below this level, whose functions are the cofactors of the node's function
 pub record HasParts (s : Knowledge) (id : ℕ) (parts : NodeParts) : Type 0 where
   pub word : slice_index s.seen (id - 2) ≡ node_word parts.level parts.low parts.high
   pub level : depth_in s id ≡ parts.level
@@ -142,7 +142,7 @@ pub record HasParts (s : Knowledge) (id : ℕ) (parts : NodeParts) : Type 0 wher
       function_in s id p ≡ branch (variable_at s.store.plan parts.level) (function_in s parts.low)
       (function_in s parts.high) p
 
--- the id of the node with this level and these children, or of the child if they are equal: it lies at the level or below it
+-- the id of the node with this level and these children, or of the child if both are equal; the id lies at the level or below
 pub record IsNodeOf (s : Knowledge) (level low high id : ℕ) : Type 0 where
   pub word : IsIdOf s.seen level low high id
   pub function : Means s id (branch (variable_at s.store.plan level) (function_in s low) (function_in s high))

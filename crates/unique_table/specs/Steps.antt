@@ -1,8 +1,8 @@
 -- The kinds of steps, over states under the rule.
---     Becomes b s id words' received      after a step of seat id the words are words', the rule holds, and the seat's view gained what it was told
+--     Becomes b s id v words v'      after a step of seat id to the words `words` and the view v', the rule holds, and v' has what v had
 --     IsStoreSeat b s id v      seat id has the view v, which is live
---     WholesAreAlone      a seat with the whole is the only one
---     EqualFunctionsHaveEqualIds, EqualIdsHaveEqualFunctions      what any two seats know of one function, and of one id
+--     WholesAreAlone      a seat with the whole stake is the only one
+--     EqualFunctionsHaveEqualIds, EqualIdsHaveEqualFunctions      ids that any two seats know are equal if and only if they denote equal functions
 use Rattle.std.specs.Prelude.{◌≡◌, ◌≢◌, ℕ, ◌+◌, ◌^◌, ◌<◌, ◌==◌, true, if◌then◌else◌, List, slice_index, slice_set}
 use mathlib.Core.Option.{some}
 use lib.ListN.{get_elem?}
@@ -29,17 +29,17 @@ pub record Becomes (b : Plan) (s : StoreState) (id : ℕ) (v : View) (words : Li
   pub kept : IsKept b (moved s words id v')
   pub gains : Gains v v'
 
--- a seat that has the whole is the only one
+-- a seat that has the whole stake is the only one
 abbrev pub WholesAreAlone : Type 0
 WholesAreAlone = (b : Plan) (s : StoreState) (i j : ℕ) (v w : View) → IsStoreSeat b s i v → IsStoreSeat b s j w →
     IsWhole v.stake → i ≡ j
 
--- ids that two seats know are one id if they denote one function, whichever threads made them
+-- ids that two seats know are equal if they denote the same function, whichever threads made them
 abbrev pub EqualFunctionsHaveEqualIds : Type 0
 EqualFunctionsHaveEqualIds = (b : Plan) (s : StoreState) (i j : ℕ) (v w : View) → IsStoreSeat b s i v → IsStoreSeat b s j w →
     (x y : ℕ) (f : Function) → Denotes (order_of b) v.seen x f → Denotes (order_of b) w.seen y f → x ≡ y
 
--- and one id denotes one function to both
+-- an id that two seats know denotes the same function to both
 abbrev pub EqualIdsHaveEqualFunctions : Type 0
 EqualIdsHaveEqualFunctions = (b : Plan) (s : StoreState) (i j : ℕ) (v w : View) → IsStoreSeat b s i v → IsStoreSeat b s j w →
     (x : ℕ) (f g : Function) → Denotes (order_of b) v.seen x f → Denotes (order_of b) w.seen x g →
@@ -62,7 +62,7 @@ Puts = (b : Plan) (s : StoreState) (id : ℕ) (v : View) (p w : ℕ) → IsStore
     (v' : View) × Becomes b s id v (put_words s.words p w) v'
     × (slice_index v'.seen p ≡ slice_index (put_words s.words p w) p)
 
--- a store of a piece's id: if there was one, it is the same
+-- a store of a piece's id: if an id was published before, it is equal
 abbrev pub Publishes : Type 0
 Publishes =
     (b : Plan) (s : StoreState) (id : ℕ) (v : View) (q ref : ℕ) → IsStoreSeat b s id v → q < b.pieces →

@@ -8,7 +8,7 @@ use Rattle.unique_table.specs.Plans.{levels_of}
 use Rattle.unique_table.specs.Stakes.{IsWhole}
 use Rattle.unique_table.specs.Invariant.{ArePieces, AreMade}
 
--- what was seen is a list of nodes by itself, with the pieces that were seen; with the whole it was all put
+-- the words that a view has seen are a list of nodes by itself, with the pieces that it has seen; with the whole stake it put all of these nodes
 pub record IsGoodView (v : View) : Type 0 where
   pub live : v.live ≡ true
   pub size : length v.seen ≤ v.plan.places

@@ -19,13 +19,13 @@ use std::snapshot::Snapshot;
 /// Why a store gives no diagram.
 #[derive(Clone, Copy, Debug, PartialEq, Eq)]
 pub enum CloseFault {
-    /// The least output whose root wasn't published.
+    /// The root of this output wasn't published. It is the least such output.
     MissingRoot(u8),
     /// An allocation was refused.
     OutOfMemory,
 }
 
-/// A store that no session shares any more: the words that it ended with.
+/// A store that was closed, so that no session writes to it any more: the words that it ended with.
 pub struct ClosedStore {
     /// The words that the store ended with.
     pub(crate) closed: Closed<(), Global>,
@@ -61,9 +61,9 @@ impl Drop for ClosedStore {
 }
 
 impl ClosedStore {
-    /// The reduced diagram of the store's functions: the published roots, with the nodes that they
-    /// reach. Else the closed store, and the least output whose root was not published, or
-    /// `OutOfMemory`.
+    /// Makes the reduced diagram of the store's functions: their published roots and the nodes that
+    /// the roots reach. The error gives the closed store back, with the reason: the least output
+    /// whose root was not published, or `OutOfMemory`.
     pub fn diagram(self, alloc: Global) -> Result<Diagram, (ClosedStore, CloseFault)>
         ensures roots { OnOk result (HasAllRoots self) }
         ensures order { IfOk result (λ d. d.order ≡ order_of self.plan) }
@@ -88,7 +88,7 @@ impl ClosedStore {
         Ok(Diagram::new(order, reached.nodes, reached.roots))
     }
 
-    /// Takes the closed store apart: its words and its order.
+    /// Takes the closed store apart and returns its words and the order of its variables.
     fn take_apart(self) -> (Closed<(), Global>, Order)
         ensures slots { slots_len result.0.slots ≡ 0 }
         ensures order { result.1 ≡ order_of self.plan }
@@ -104,8 +104,8 @@ impl ClosedStore {
         (closed, order)
     }
 
-    /// The ids of the roots of all outputs. Else the least output whose root was not published, or
-    /// `OutOfMemory`.
+    /// The ids of the roots, by rising output. The error is the least output whose root was not
+    /// published, or `OutOfMemory`.
     fn root_ids(&self, alloc: Global) -> Result<Vec<u32>, CloseFault>
         ensures roots { OnOk result (HasAllRoots self.now) }
         ensures ids { IfOk result
@@ -127,8 +127,8 @@ impl ClosedStore {
         Ok(ids)
     }
 
-    /// The word of the root of output `output`: 0 if the root was not published, else its id plus
-    /// 1.
+    /// The word of the root of output `output`: 0 if the root was not published, else the root's id
+    /// plus 1.
     fn root_word(&self, output: u8) -> u64
         requires { output < roots_count self.now.plan }
         ensures is { result ≡ root_word self.now output }

@@ -43,7 +43,8 @@ pub(crate) fn blank_words(count: usize) -> &'static [u64]
     &BLANK[..count]
 }
 
-/// What the parts of outputs are, as a store's plan has it. Terms are copied.
+/// Turns `pieces`, by which the caller says what the parts of outputs are, into the form of a
+/// store's plan. Terms are copied.
 pub(crate) fn kind_of(alloc: Global, pieces: Pieces<'_>) -> Result<PieceKind, AllocError>
     ensures { IfOk result (λ kind. IsKind kind pieces.entry) }
 {
@@ -58,7 +59,8 @@ pub(crate) fn kind_of(alloc: Global, pieces: Pieces<'_>) -> Result<PieceKind, Al
     }
 }
 
-/// How many assignments the top two variables of an order have, or its only one: 4, or 2.
+/// The number of assignments to the top two variables of an order: 4, or 2 if the order has only
+/// one variable.
 fn top_assignments(order: &Order) -> usize
     ensures is { result ≡ top_assignments order.now }
     ensures few { result ≤ 4 }
@@ -66,7 +68,8 @@ fn top_assignments(order: &Order) -> usize
     if order.len() < 2 { 2 } else { 4 }
 }
 
-/// How many parts all outputs together have. `outputs` is the number of outputs.
+/// How many parts all outputs together have, for parts of this kind. `outputs` is the number of
+/// outputs.
 pub(crate) fn parts_count(kind: &PieceKind, order: &Order, outputs: u8) -> usize
     requires { outputs ≤ 16 }
     ensures is { (t : TruthTables) → outputs ≡ outputs_of t →

@@ -23,16 +23,17 @@ pub fn steps_are_of_their_kinds()
     ensures remember { Remembers }
 {}
 
-/// A seat with the whole stake is the store's only one, and its session stays so. Two sessions with
-/// no less than the two halves of a stake have no less than the stake once they are joined.
+/// A seat with the whole stake in a store is the store's only one, and stays so while it makes
+/// steps. If two sessions have at least the two halves of a stake, the session joined from them has
+/// at least that stake.
 pub fn whole_stakes_are_alone()
     ensures only { WholesAreAlone }
     ensures stays { AloneStaysAlone }
     ensures joined { HalvesJoin }
 {}
 
-/// The least output whose root the words of a closed store lack is one whose root the session that
-/// closed it did not know to be published.
+/// If the words of a closed store have no root for an output, and this is the least such output,
+/// then the session that closed the store did not know this root to be published.
 pub fn sessions_lack_what_is_empty()
     ensures { SessionsLackWhatIsEmpty }
 {}

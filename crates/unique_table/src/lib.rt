@@ -1,7 +1,7 @@
-//! A store of nodes that threads share.
+//! A store of decision nodes that threads share, with a unique table and an operation cache.
 #![tactic(auto)]
 
-// The store: what it is for, what sessions know and do, how it begins and ends.
+// The store: its plan, its sessions and what they do, and how it begins and ends.
 mod close;
 mod create;
 mod plan;
@@ -13,7 +13,7 @@ mod node_copies;
 mod page_numbers;
 mod reached_nodes;
 
-// The words that the store lies in, the rule that they keep, and the kinds of steps on them.
+// The words in which the store is kept, their invariant, and the kinds of atomic steps on them.
 mod atomic_steps;
 pub mod laws;
 mod words;

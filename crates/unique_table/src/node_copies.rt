@@ -11,7 +11,7 @@ use node_words::node_parts;
 use order_model::{Node, Ref, VarIx};
 use std::alloc::{AllocError, Global};
 
-/// The node word at a place of a closed table, whose first `places` words are those of nodes.
+/// The node word at place `place` of a closed table, whose first `places` words are node words.
 fn word_at(closed: &Closed<(), Global>, places: usize, place: usize) -> u64
     requires full { IsFull closed.now.words }
     requires places { places ≤ slots_len closed.now.words }
@@ -21,8 +21,8 @@ fn word_at(closed: &Closed<(), Global>, places: usize, place: usize) -> u64
     closed.word(place)
 }
 
-/// Appends `node`, the copy of the store's node at `place`, to `nodes`, and returns the ref to it.
-/// In `numbers` the place gets the copy's index plus 1.
+/// Appends to `nodes` the copy `node` of the store's node at `place`, and returns the ref to the
+/// copy. Sets the number of `place` in `numbers` to the copy's index plus 1.
 fn add(
     numbers: &mut Numbers,
     nodes: &mut Vec<Node>,
@@ -43,9 +43,11 @@ fn add(
     Ok(Ref::Place(copied))
 }
 
-/// The ref to the copy of the node or terminal with id `id`. The nodes that it reaches are copied
-/// to `nodes`, children first, but for those that have a copy: `numbers` has for each place of the
-/// store 0 or the index of the copy plus 1, and gets those of new copies.
+/// Copies the node with id `id` and all nodes that it reaches to the end of `nodes`, children
+/// first, and returns the ref to the copy; a terminal's id gives the terminal. Nodes that have a
+/// copy are not copied again: `numbers` has for each place of the store 0, or the index of the copy
+/// in `nodes` plus 1, and gets those of the new copies. The first `places` words of `closed` are
+/// node words, and `order` has the variable of each level.
 pub(crate) fn copy(
     closed: &Closed<(), Global>,
     places: usize,

@@ -10,7 +10,7 @@ use std::marker::Model;
 const PAGE: usize = 64;
 
 /// A number for each place, 0 at first. The places in use stand on pages that are allocated, and
-/// all others share a page of zeros, so that the memory is that of the places in use.
+/// all others share a page of zeros, so that memory is taken for the pages in use alone.
 #[derive(Drop)]
 pub(crate) struct Numbers {
     /// How many places there are.
@@ -33,8 +33,9 @@ impl Model for Numbers {
         × (n.places ≤ length n.pages.items * 64) };
 }
 
-/// The page of the places from 64 * `part` on. If they are on the page of zeros, a page of their
-/// own is appended to `numbers` and entered in `pages`.
+/// Returns the index of the page that has the places from 64 * `part` to 64 * `part` + 63. If this
+/// was the shared page of zeros, a page of their own is first appended to `numbers` and entered in
+/// `pages`.
 fn open_page(
     pages: &mut Vec<usize>,
     numbers: &mut Vec<u32>,
@@ -70,7 +71,7 @@ impl Numbers {
         })
     }
 
-    /// The number of a place.
+    /// The number of `place`.
     pub fn get(&self, place: usize) -> u32
         requires { place < length self.now }
         ensures { result ≡ slice_index self.now place }
@@ -78,7 +79,7 @@ impl Numbers {
         self.numbers[self.pages[place / PAGE] * PAGE + place % PAGE]
     }
 
-    /// Sets the number of a place.
+    /// Sets the number of `place` to `number`.
     pub fn set(&mut self, place: usize, number: u32) -> Result<(), AllocError>
         requires { place < length self.old }
         ensures many { length self.new ≡ length self.old }

@@ -1,11 +1,11 @@
-//! What a store is for, and what its parts of outputs are.
+//! The plan of a store: what the store is for, and what the parts of its outputs are.
 
 use order_model::{Order, Problem, Term};
 use std::marker::Model;
 use std::snapshot::Snapshot;
 
-/// What a store is for, and how many places it has. The pieces are parts of outputs, and then the
-/// outputs themselves.
+/// A store's plan: the functions that it is for and their order, what the parts of outputs are, and
+/// how many places it has. The pieces are the parts of outputs, and then the outputs themselves.
 #[derive(Drop)]
 pub struct Plan {
     /// How many places for nodes there are.
@@ -24,8 +24,8 @@ pub struct Plan {
     pub kind: PieceKind,
 }
 
-/// How many parts each output of a cover has. Part i has the terms whose number leaves the
-/// remainder i when divided by this.
+/// How many parts each output of a cover has. Part i has those of the output's terms whose number
+/// leaves the remainder i when divided by `TERM_SHARES`.
 pub const TERM_SHARES: usize = 64;
 
 /// What the parts of a store's outputs are.
@@ -33,8 +33,8 @@ pub const TERM_SHARES: usize = 64;
 pub enum Pieces<'a> {
     /// Each part is an output with the top two variables, or the only one, fixed.
     Tables,
-    /// Each part is the disjunction of those of an output's terms whose number leaves one remainder
-    /// when divided by `TERM_SHARES`.
+    /// Part i of an output is the disjunction of those of its terms whose number leaves the
+    /// remainder i when divided by `TERM_SHARES`.
     Terms(&'a [Term]),
 }
 
@@ -58,7 +58,7 @@ impl Model for TermList {
 pub enum PieceKind {
     /// Each part is an output with the top two variables, or the only one, fixed.
     Restrictions,
-    /// Each part is the disjunction of those of an output's terms whose number leaves one remainder
-    /// when divided by `TERM_SHARES`.
+    /// Part i of an output is the disjunction of those of its terms whose number leaves the
+    /// remainder i when divided by `TERM_SHARES`.
     Products(Snapshot<TermList>),
 }

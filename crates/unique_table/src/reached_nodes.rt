@@ -1,4 +1,4 @@
-//! The diagram of what some roots reach.
+//! The diagram of the nodes that some roots reach.
 
 ghost use Rattle.std.specs.Prelude.{IfOk, length, map};
 ghost use Rattle.std.specs.List.{All};
@@ -20,8 +20,8 @@ pub(crate) struct Reached {
     pub roots: Vec<Ref>,
 }
 
-/// The reduced diagram of the functions that `ids` denote under an order. The first `places` words
-/// of the closed table are the words of nodes.
+/// Makes the reduced diagram, under `order`, of the functions that `ids` denote, with one root per
+/// id. The first `places` words of the closed table are node words.
 pub(crate) fn reached_nodes(
     alloc: Global,
     closed: &Closed<(), Global>,

@@ -42,20 +42,23 @@ pub struct View {
     pub current: bool,
     /// The session's stake in the store.
     pub stake: Stake,
-    /// What the store is for.
+    /// The store's plan.
     pub plan: Plan,
     /// The words of nodes as the session saw them.
     pub seen: [u64; 0],
-    /// The words of nodes as a session saw them that was joined into this one.
+    /// The words of nodes as the session saw them that was joined into this one. Empty from the
+    /// next step on.
     pub received: [u64; 0],
-    /// The words of nodes that this session put into the store, or one that it comes from.
+    /// The words of nodes that this session put into the store, or that a session did from which
+    /// this one was split or joined.
     pub made: [u64; 0],
     /// The words of pieces as the session saw them.
     pub pieces: [u64; 0],
-    /// The words of pieces as a session saw them that was joined into this one.
+    /// The words of pieces as the session saw them that was joined into this one. Empty from the
+    /// next step on.
     pub pieces_received: [u64; 0],
     /// How many atomic steps the session made, with those of sessions that were joined into it.
     pub steps: u64,
-    /// How many of these steps could write a word.
+    /// How many of these steps were of a kind that can write a word.
     pub writes: u64,
 }

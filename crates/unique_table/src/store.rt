@@ -53,14 +53,14 @@ impl Model for Store {
     ghost invariant = { IsStore };
 }
 
-/// The store has no place left: each one is taken by another node.
+/// Why a node wasn't made: each place of the store is taken by another node.
 #[derive(Clone, Copy, Debug, PartialEq, Eq)]
 pub struct StoreFull;
 
 impl Store {
     /// An empty store for the functions of a problem under an order, and its first session.
-    /// `pieces` says what the parts of outputs are; if it has terms, they give the problem's
-    /// functions.
+    /// `pieces` says what the parts of outputs are. If it has terms, requires them to give the
+    /// problem's functions.
     pub fn new(
         alloc: Global,
         order: Order,
@@ -102,7 +102,7 @@ impl Store {
         Ok((store, Session { seat }))
     }
 
-    /// The order, top first.
+    /// The order of the store's variables, top first.
     pub fn order(&self) -> &Order
         ensures value { result.now ≡ order_of self.now.plan }
         ensures plan { IsPlan self.now.plan }
@@ -118,8 +118,8 @@ impl Store {
         self.pieces
     }
 
-    /// How many pieces are parts of outputs. The outputs follow these, so it is the number of the
-    /// first output among the pieces.
+    /// How many pieces are parts of outputs. The outputs are the pieces after these, so this is
+    /// also the piece number of output 0.
     pub fn roots(&self) -> usize
         ensures value { result ≡ self.now.plan.roots }
         ensures plan { IsPlan self.now.plan }
@@ -135,9 +135,10 @@ impl Store {
         self.entries
     }
 
-    /// States what holds of a session of the store, and does nothing. The words that it knows are
-    /// those of nodes, no two of them equal, so ids are equal if they denote the same function, and
-    /// no id lies below the terminals. A session that is alone made all nodes that it knows.
+    /// States what holds of each session of the store, and does nothing. The words that the session
+    /// knows are words of nodes, no two of them equal, so two ids are equal if they denote the same
+    /// function, and no id lies below the terminals. A session that is alone made all nodes that it
+    /// knows.
     pub fn canonical_ids(&self, session: &Session)
         requires { session.now.store ≡ self.now }
         ensures unique { HasUniqueIds session.now }
@@ -151,9 +152,10 @@ impl Store {
         let _seat = &session.seat;
     }
 
-    /// The id of the node of `level` with the children `low` and `high`, or of the child itself if
-    /// both are equal. A node that the store lacks is put into it; `StoreFull` if no place is left.
-    /// It takes at most two steps per place.
+    /// Returns the id of the node of `level` with the children `low` and `high`, after putting the
+    /// node into the store if it isn't there. If both children are equal, returns the child itself.
+    /// Requires the session to know both children, and both to lie below `level`. `StoreFull` if
+    /// every place is taken. Makes at most two atomic steps per place.
     pub fn make(
         &self,
         session: &mut Session,
@@ -182,8 +184,8 @@ impl Store {
         Ok(place as u32 + 2)
     }
 
-    /// The level and the children of the node with id `id`, which the session knows from then on.
-    /// None for a terminal. It takes at most one step.
+    /// Looks up the level and the children of the node with id `id`; `session` knows the children
+    /// from then on. None for a terminal. Makes at most one atomic step.
     pub fn node(&self, session: &mut Session, id: NodeId) -> Option<NodeParts>
         requires session { session.old.store ≡ self.now }
         requires known { Knows session.old id }
@@ -203,8 +205,9 @@ impl Store {
         Some(node_parts(word))
     }
 
-    /// The id that cache place `place` holds as the result of an operation on `first` and `second`.
-    /// None if the place is empty or holds the result of another operation. It takes one step.
+    /// Looks up the operation cache: returns the id that cache place `place` holds as the result of
+    /// `operation` on `first` and `second`. None if the place is empty or holds another result.
+    /// Makes one atomic step.
     pub fn entry(
         &self,
         session: &mut Session,
@@ -231,8 +234,8 @@ impl Store {
         Some((word % (1 << 20)) as u32)
     }
 
-    /// Stores `id` in cache place `place` as the result of an operation on `first` and `second`. It
-    /// takes one step.
+    /// Stores `id` in cache place `place` as the result of `operation` on `first` and `second`, in
+    /// place of what was there. Requires `id` to denote this result. Makes one atomic step.
     pub fn set_entry(
         &self,
         session: &mut Session,
@@ -255,8 +258,8 @@ impl Store {
         words::remember(&self.table.shared, seat, at, place, word);
     }
 
-    /// Publishes `id`, which denotes the function of piece `piece`, to all sessions. It takes one
-    /// step.
+    /// Publishes `id` to all sessions as the id of piece `piece`. Requires `id` to denote the
+    /// piece's function. Makes one atomic step.
     pub fn publish(&self, session: &mut Session, piece: usize, id: NodeId)
         requires session { session.old.store ≡ self.now }
         requires piece { piece < self.now.plan.pieces }
@@ -268,8 +271,8 @@ impl Store {
         words::publish(&self.table.shared, &mut session.seat, place, piece, id);
     }
 
-    /// The id of the function of piece `piece`. None if the session doesn't see one published. It
-    /// takes one step.
+    /// Reads the published id of piece `piece`, which denotes the piece's function. None if no
+    /// published id is seen. Makes one atomic step.
     pub fn collect(&self, session: &mut Session, piece: usize) -> Option<NodeId>
         requires session { session.old.store ≡ self.now }
         requires piece { piece < self.now.plan.pieces }
@@ -287,8 +290,8 @@ impl Store {
         Some((word - 1) as u32)
     }
 
-    /// Splits a session: both results know what it knew, each with half of its stake. The second
-    /// one's counts of steps and writes begin at 0.
+    /// Splits a session in two, each of which knows what `session` knew and has half of its stake.
+    /// The first one keeps the counts of steps and writes; those of the second one begin at 0.
     pub fn split(&self, session: Session) -> (Session, Session)
         requires { session.store ≡ self.now }
         ensures first { result.0 ≡
@@ -301,8 +304,8 @@ impl Store {
         (Session { seat }, Session { seat: other })
     }
 
-    /// Joins two sessions: the result knows what both knew, with the stakes and the counts of both.
-    /// It takes two steps.
+    /// Joins two sessions into one, which knows what both knew and has the sums of their stakes and
+    /// counts. Makes two atomic steps.
     pub fn join(&self, one: Session, two: Session) -> Session
         requires one { one.store ≡ self.now }
         requires two { two.store ≡ self.now }
@@ -321,8 +324,8 @@ impl Store {
         Session { seat }
     }
 
-    /// Closes the store with its last session: its words stay as they are then. Other sessions may
-    /// have published roots that this one doesn't know of.
+    /// Closes the store, and uses up `session`, which is one of its sessions. The words stay as
+    /// they are then. Other sessions may have published roots that `session` doesn't know of.
     pub fn into_closed(self, session: Session) -> ClosedStore
         requires { session.store ≡ self }
         ensures plan { result.plan ≡ self.plan }
@@ -344,9 +347,9 @@ impl Store {
         }
     }
 
-    /// The reduced diagram of the store's functions: the published roots, with the nodes that they
-    /// reach. Else the closed store, and why it gives none. Other sessions may have published roots
-    /// that `session` doesn't know of.
+    /// Closes the store and makes the reduced diagram of its functions: their published roots and
+    /// the nodes that the roots reach. The error gives the closed store, and the reason why there
+    /// is no diagram. Other sessions may have published roots that `session` doesn't know of.
     pub fn close(
         self,
         alloc: Global,

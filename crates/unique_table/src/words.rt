@@ -19,7 +19,7 @@ use node_words::{probe, start};
 /// The words of a store as its sessions share them.
 type SharedWords = Shared<(), View, Plan, Words>;
 
-/// Loads the node word at a place: 0 if the place is empty. The seat's view has it from then on.
+/// Loads the node word at `place`, 0 if the place is empty, and enters it in the seat's view.
 pub(crate) fn look(shared: &SharedWords, seat: &mut Seat<(), View>, place: usize) -> u64
     requires seat { IsSeatOf shared.now seat.old }
     requires place { IsNodePlace shared.now place }
@@ -29,8 +29,9 @@ pub(crate) fn look(shared: &SharedWords, seat: &mut Seat<(), View>, place: usize
     shared.load::<Looks>(seat, place)
 }
 
-/// Stores `word`, that of a node, at a place if the place is empty, and returns the word that was
-/// there before: 0 if it was empty. The place is the next one in the search for the node.
+/// Stores the node word `word` at `place` if the place is empty, and returns the word that was
+/// there before: 0 if the place was empty. Requires `place` to be the next place in the search for
+/// `word`.
 fn put(shared: &SharedWords, seat: &mut Seat<(), View>, place: usize, word: u64) -> u64
     requires { MayPut shared.now seat.old word place }
     ensures seat { IsSeatOf shared.now seat.new }
@@ -43,8 +44,8 @@ fn put(shared: &SharedWords, seat: &mut Seat<(), View>, place: usize, word: u64)
     shared.compare_exchange::<Puts>(seat, place, 0, word)
 }
 
-/// Whether `word`, that of a node, stands at a place. If the place is empty, the word is stored
-/// there first. The place is the next one in the search for the node.
+/// Stores the node word `word` at `place` if the place is empty. Returns whether the place has
+/// `word` then. Requires `place` to be the next place in the search for `word`.
 pub(crate) fn take(shared: &SharedWords, seat: &mut Seat<(), View>, place: usize, word: u64) -> bool
     requires { MayPut shared.now seat.old word place }
     ensures searches { Searches shared.now seat.old seat.new word 2 }
@@ -60,8 +61,8 @@ pub(crate) fn take(shared: &SharedWords, seat: &mut Seat<(), View>, place: usize
     found == 0 || found == word
 }
 
-/// Stores `id`, which denotes the function of piece `piece`, plus 1 in the word of the piece, which
-/// stands at `place`.
+/// Stores `id` plus 1 in the word of piece `piece`, which stands at `place`. Requires `id` to
+/// denote the piece's function.
 pub(crate) fn publish(
     shared: &SharedWords,
     seat: &mut Seat<(), View>,
@@ -112,8 +113,8 @@ pub(crate) fn recall(
     shared.load::<Recalls>(seat, place)
 }
 
-/// Stores `word` in entry `entry` of the operation cache, which stands at `place`. The word has an
-/// operation with its operands, and the id of its result.
+/// Stores `word` in entry `entry` of the operation cache, which stands at `place`. Requires the
+/// word to have an operation with its operands, and the id of the operation's result.
 pub(crate) fn remember(
     shared: &SharedWords,
     seat: &mut Seat<(), View>,
@@ -129,8 +130,9 @@ pub(crate) fn remember(
     shared.store::<Remembers>(seat, place, word);
 }
 
-/// The place of `word`, that of a node. If the search for it comes to an empty place, it is stored
-/// there. None if each of the `places` places is taken by another word.
+/// Searches the store for the node word `word` and returns its place, after storing it at the first
+/// empty place that the search comes to. None if each of the `places` places is taken by another
+/// word.
 pub(crate) fn find_or_put(
     shared: &SharedWords,
     seat: &mut Seat<(), View>,

@@ -48,7 +48,8 @@ returns-else-rest-eq0-clause-member c =
     let e = c.from.ensures in
     subst (λ k. (c.args.from ≤ c.args.from + trailing_zeros w32 (k / 2 ^ c.args.from)) × (c.args.from + trailing_zeros w32 (k / 2 ^ c.args.from) < 16)
     × (bit_at c.args.set (c.args.from + trailing_zeros w32 (k / 2 ^ c.args.from)) ≡ 1)) (sym e)
-    (omega arith, below c.args.set c.args.from c.ranges.set.fits (some_left c) (left_fits c), here c.args.set c.args.from c.ranges.set.fits (some_left c) (left_fits c))
+    (omega arith, below c.args.set c.args.from c.ranges.set.fits (some_left c) (left_fits c),
+    here c.args.set c.args.from c.ranges.set.fits (some_left c) (left_fits c))
 
 pub returns-else-rest-eq0-clause-first : goal.returns-else-rest-eq0-clause-first
 returns-else-rest-eq0-clause-first c =
