@@ -1,6 +1,6 @@
 -- The cell of a set, from the sums of costs and widths of its members.
 --     IsBestBelow      the cell of the least sum over the members below a variable, if any cost is within the bound
---     best_skipped, best_taken, best_all      one variable more, and all
+--     best_skipped, best_taken, best_gap, best_all      one variable more; no members from a variable on; all variables
 --     cost_at      the cost of a smaller set is in the list of cells
 --     few_sum, few_taken, few_above      how large sums of costs and widths are, and the lower bound by variables
 use Rattle.std.proofs.Common.{◌≡◌, ℕ, ◌+◌, ◌-◌, ◌*◌, ◌^◌, ◌<◌, ◌≤◌, true, count_ones, Option, Some, None, IfSome, if◌then◌else◌, inl, inr, eq-eqb, ne_eqb, List, not, get_or, sym, ap, ◌∙◌, subst, arith}
@@ -39,6 +39,11 @@ module _ (S : ℕ → Type 0) (bound : ℕ) (costs widths : ℕ → ℕ) where
       next ≡ record { cost = sum; variable = k } →
       (o ≡ None → r ≡ next) → IfSome o (λ b. (b.cost ≤ next.cost → r ≡ b) × (next.cost < b.cost → r ≡ next)) → IsBestBelow (k + 1) (Some r)
   best_taken k sum o next r h l m e p q s = grind (arith, cases_lt)
+
+  -- no members from a variable on
+  pub best_gap : (k m : ℕ) (o : Option Cell) → k ≤ m → ((y : ℕ) → k ≤ y → y < m → S y → ⊥) → IsBestBelow k o → IsBestBelow m o
+  best_gap k m None le none h = λ y lt s. elim (cases_lt y k) [ inl l ↦ h y l s | inr g ↦ absurd (none y g lt s) ]
+  best_gap k m (Some c) le none h = grind (arith, cases_lt)
 
   -- all members
   pub best_all : (k : ℕ) (c : Cell) → ((y : ℕ) → S y → y < k) → IsBest (λ y. (y < k) × S y) bound costs widths c.cost c.variable →

@@ -1,7 +1,7 @@
 -- Members of a set and how many stand above each: its place in the set's values.
 --     member_parts      the members below one, it, and the others
 --     member_at      where it stands among the members
---     members_none, members_next, members_passed      the members below 0; below one more variable
+--     members_none, members_next      the members below 0; below one more variable
 --     width_of_values      a width is how many of the values that occur depend on the variable's place
 use Rattle.std.proofs.Common.{◌≡◌, ℕ, zero, suc, ◌+◌, ◌-◌, ◌^◌, ◌<◌, ◌≤◌, Bool, true, false, cond, ◌&&◌, List, [], ◌∷◌, ◌++◌, length, get_or, count_ones, refl, sym, ap, ◌∙◌, subst, arith, eqb, eq-eqb, ne_eqb, nat_eq}
 use Rattle.std.specs.Int.{bit_at}
@@ -67,15 +67,6 @@ module _ (set : ℕ) where
       ap length (member_parts (x + 1) x (omega arith) bit)
       ∙ length-append (members x set) (x ∷ filter (λ y. eqb (bit_at set y) 1) (range_with_len (x + 1) (x + 1 - suc x)))
       ∙ ap (λ k. length (members x set) + suc (length (filter (λ y. eqb (bit_at set y) 1) (range_with_len (x + 1) k)))) (one_less x)
-
-  pub members_passed : (x : ℕ) → (bit_at set x ≡ 1 → ⊥) → length (members (x + 1) set) ≡ length (members x set)
-  members_passed x none =
-      ap length (split (x + 1) x (omega arith))
-      ∙ length-append (members x set) (filter (λ y. eqb (bit_at set y) 1) (x ∷ range_with_len (x + 1) (x + 1 - suc x)))
-      ∙ ap (λ b. length (members x set) + length (cond b (x ∷ filter (λ y. eqb (bit_at set y) 1) (range_with_len (x + 1) (x + 1 - suc x)))
-      (filter (λ y. eqb (bit_at set y) 1) (range_with_len (x + 1) (x + 1 - suc x))))) (ne_eqb (bit_at set x) 1 none)
-      ∙ ap (λ k. length (members x set) + length (filter (λ y. eqb (bit_at set y) 1) (range_with_len (x + 1) k))) (one_less x)
-      ∙ omega arith
 
 -- a value over fewer variables, as one over three
 up_to_three : (k v j : ℕ) → k ≤ 3 → v < 2 ^ 2 ^ k → j < k → bit_at (places 3 v) j ≡ bit_at (places k v) j

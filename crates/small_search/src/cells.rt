@@ -11,7 +11,7 @@ ghost use Rattle.small_search.specs.Occurrences.{AreOf};
 
 use crate::instance::{NO_BOUND, SmallSearch};
 use crate::width_counts::Subfunctions;
-use order_model::{Mask, contains};
+use order_model::{Mask, next_member};
 use subset_layers::Cell;
 
 /// The cell of lower cost: `best`, if there is one and it costs no more than `next`, else `next`.
@@ -45,20 +45,21 @@ fn best_cell(
     ensures few { IfSome result (λ c. c.cost ≤ count_ones set * 2 ^ 20) }
     ensures none { IfNone result (IsNoneWithin search.now set) }
 {
+    prove!(search.inputs() <= 16);
     let mut best: Option<Cell> = None;
     let mut place = set.count_ones();
-    for x in 0..search.inputs() {
-        if contains(set, x) {
-            place -= 1;
-            let cost = cells[(set - (1 << x)) as usize].cost;
-            if cost <= NO_BOUND {
-                let next = Cell {
-                    cost: cost + subfunctions.width(x, place),
-                    variable: x,
-                };
-                best = Some(cheaper(best, next));
-            }
+    let mut from = 0;
+    while let Some(x) = next_member(set, from) {
+        place -= 1;
+        let cost = cells[(set - (1 << x)) as usize].cost;
+        if cost <= NO_BOUND {
+            let next = Cell {
+                cost: cost + subfunctions.width(x, place),
+                variable: x,
+            };
+            best = Some(cheaper(best, next));
         }
+        from = x + 1;
     }
     best
 }

@@ -3,11 +3,12 @@
 --     supports_next, supports_all      the masks of a problem's functions, one after another
 --     count_is, union_without_is      how many of them have a variable; what some has that doesn't have a variable
 --     entry_written      one more entry of a row
---     most_none, most_with, most_gap      the most that the members of a mask ask for, one after another
+--     most_none, most_with      the most that the members of a mask ask for, one after another
+--     members_gap      no members from a variable on
 use Rattle.std.proofs.Common.{◌≡◌, ◌≢◌, ℕ, zero, suc, ◌+◌, ◌<◌, ◌≤◌, max, Bool, true, false, not, cond, ◌&&◌, ◌||◌, List, [], ◌∷◌, ◌++◌, length, map, slice_index, get_or, set, take, get_or-set_same, get_or-set_other, refl, sym, ap, ap₂, ◌∙◌, arith, eqb, eq-eqb, ne_eqb, bit_or, IsTrue}
 use Rattle.std.specs.Int.{bit_at}
 use Rattle.std.specs.List.{filter, fold, list_any, range_with_len}
-use Rattle.std.proofs.lemmas.List.{take_more, take_more_set, take_all, map-append, length-map}
+use Rattle.std.proofs.lemmas.List.{append-nil, take_more, take_more_set, take_all, map-append, length-map}
 use Rattle.std.proofs.lemmas.List.Elements.{filter-append}
 use Rattle.std.proofs.lemmas.List.Sums.{fold-append}
 use Rattle.std.proofs.lemmas.Simd.{map-map}
@@ -115,15 +116,15 @@ pub most_with : (f : ℕ → ℕ) (a x mask : ℕ) → bit_at mask x ≡ 1 →
     fold max a (map f (members (x + 1) mask)) ≡ max (fold max a (map f (members x mask))) (f x)
 most_with f a x mask e = most_next f a x mask true (eq-eqb (bit_at mask x) 1 e)
 
--- no members from a variable on change nothing
-pub most_gap : (f : ℕ → ℕ) (a mask x gap : ℕ) → ((y : ℕ) → x ≤ y → y < x + gap → bit_at mask y ≡ 0) →
-    fold max a (map f (members (x + gap) mask)) ≡ fold max a (map f (members x mask))
-most_gap f a mask x zero none = ap (λ n. fold max a (map f (members n mask))) (let e : x + 0 ≡ x = omega arith in e)
-most_gap f a mask x (suc gap) none =
+-- no members from a variable on
+pub members_gap : (mask x gap : ℕ) → ((y : ℕ) → x ≤ y → y < x + gap → bit_at mask y ≡ 0) → members (x + gap) mask ≡ members x mask
+members_gap mask x zero none = ap (λ n. members n mask) (let e : x + 0 ≡ x = omega arith in e)
+members_gap mask x (suc gap) none =
     let here = none (x + gap) (omega arith) (omega arith) in
-    ap (λ n. fold max a (map f (members n mask))) (let e : x + suc gap ≡ x + gap + 1 = omega arith in e)
-    ∙ most_next f a (x + gap) mask false (ne_eqb (bit_at mask (x + gap)) 1 (λ e. absurd (omega arith)))
-    ∙ most_gap f a mask x gap (λ y h lt. none y h (omega arith))
+    ap (λ n. members n mask) (let e : x + suc gap ≡ x + gap + 1 = omega arith in e)
+    ∙ members_next (x + gap) mask
+    ∙ ap (λ b. members (x + gap) mask ++ cond b ((x + gap) ∷ []) []) (ne_eqb (bit_at mask (x + gap)) 1 (λ e. absurd (omega arith)))
+    ∙ append-nil (members (x + gap) mask) ∙ members_gap mask x gap (λ y h lt. none y h (omega arith))
 
 pub member_has : (n mask x : ℕ) → x < n → bit_at mask x ≡ 1 → IsTrue (has (members n mask) x)
 member_has n mask x lt e = bit_has n mask x lt ∙ eq-eqb (bit_at mask x) 1 e
