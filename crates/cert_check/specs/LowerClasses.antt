@@ -1,6 +1,6 @@
--- Lower classes of pairs, which tell what widths with one more variable are at least.
+-- Lower classes of pairs, which give lower bounds on the widths after adding one variable.
 --     pairs_with masks x y ps      how many distinct pairs have y in their masks
---     AreLowerMasks masks x ps labels      a class's mask has variables alone that are in the mask of a pair whose lower class it is
+--     AreLowerMasks masks x ps labels      each variable in a class's entry of `labels` is in the mask of a pair whose lower class it is
 --     IsWide t needed      the width of each variable of a table's set, over the set without it, is at least what is needed
 use Rattle.std.specs.Prelude.{◌≡◌, ◌==◌, ◌<◌, ◌≤◌, ℕ, true, List, length, get_or, slice_index}
 use Rattle.std.specs.Int.{bit_at}
@@ -16,7 +16,7 @@ use Rattle.cert_check.specs.Tables.{TableOf, classes_at}
 unfoldable pub pairs_with : List ℕ → ℕ → ℕ → List (ℕ × ℕ) → ℕ
 pairs_with masks x y ps = distinct_count same_pair (filter (λ p. bit_at (joined_mask masks x p) y == 1) ps)
 
--- each variable in a class's mask is in that of a pair whose lower class it is
+-- each variable in a class's entry of `labels` is in the mask of a pair whose lower class it is
 abbrev pub AreLowerMasks : List ℕ → ℕ → List (ℕ × ℕ) → List ℕ → Type 0
 AreLowerMasks masks x ps labels = (c y : ℕ) → bit_at (slice_index labels c) y ≡ 1 →
     (j : ℕ) × (j < length ps) × ((get_or ps j (0, 0)).0 ≡ c) × (bit_at (joined_mask masks x (get_or ps j (0, 0))) y ≡ 1)

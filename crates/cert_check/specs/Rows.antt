@@ -1,7 +1,7 @@
 -- Lists in rows, of which some that have come before are left out.
 --     AreWholeRows w xs      whole rows of w
 --     IsWithout w long short      `short` is `long` without a part, of whole rows, that has come before
---     IsShortened w steps long short      so many parts are left out
+--     IsShortened w steps long short      `short` is `long` without `steps` such parts, one after the other
 use Rattle.std.specs.Prelude.{◌≡◌, ℕ, zero, suc, ◌*◌, ◌++◌, List, length}
 
 -- whole rows
@@ -20,7 +20,7 @@ pub record IsWithout {K : Type 0} (w : ℕ) (long short : List K) : Type 0 where
   pub part_rows : AreWholeRows w part
   pub between_rows : AreWholeRows w between
 
--- so many are
+-- `steps` parts are left out, one after the other
 abbrev pub IsShortened : {K : Type 0} → ℕ → ℕ → List K → List K → Type 0
 IsShortened w zero long short = long ≡ short
 IsShortened {K} w (suc steps) long short = (mid : List K) × IsShortened w steps long mid × IsWithout w mid short

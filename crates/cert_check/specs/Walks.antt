@@ -20,15 +20,15 @@ use Rattle.cert_check.specs.Tables.{TableOf}
 abbrev pub FailsAmong : Edges → ℕ → ℕ → Type 0
 FailsAmong e = EdgeFails e.problem.now.inputs (functions e.problem.now) e.values.now e.judged.now
 
--- one into the 2 ^ y sets from `set` on does
+-- an edge of e into one of the 2 ^ y sets from `set` on fails
 abbrev pub FailsInBlock : Edges → ℕ → ℕ → ℕ → ℕ → Type 0
 FailsInBlock e = FailsWithin e.problem.now.inputs (functions e.problem.now) e.values.now e.judged.now
 
--- one into the sets at which a walk stands does
+-- an edge into one of the sets at which the walk stands fails
 abbrev pub FailsAt : Position → ℕ → ℕ → Type 0
 FailsAt p = FailsInBlock p.edges p.table.now.set p.free
 
--- one into those of them that have the highest variable that is free
+-- an edge into one of those of them that have the highest free variable fails
 abbrev pub FailsInUpper : Position → ℕ → ℕ → Type 0
 FailsInUpper p = FailsInBlock p.edges (p.table.now.set + 2 ^ (p.free - 1)) (p.free - 1)
 
@@ -40,7 +40,7 @@ LeadsOnIn e = LeadsOn e.problem.now.inputs (functions e.problem.now) e.values.no
 abbrev pub AreEnough : Edges → List ℕ → Type 0
 AreEnough e = AreFewer (LeadsOnIn e) e.judged.now
 
--- one into the first does
+-- with each edge into T that fails, one into `first` does
 abbrev pub LeadsToFirst : Edges → ℕ → ℕ → Type 0
 LeadsToFirst e first T = (T < 2 ^ e.problem.now.inputs) × LeadsTo e.problem.now.inputs (functions e.problem.now) e.values.now e.judged.now T first
 

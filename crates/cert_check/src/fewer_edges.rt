@@ -35,7 +35,8 @@ fn keeps_edges(edges: Edges, images: &[Mask]) -> bool
     true
 }
 
-/// The exchanges of variables under which no function, no value and no judged edge changes.
+/// Finds exchanges of variables under which no function, no value and no judged edge changes. Some
+/// may be missed.
 fn guides_of(alloc: Global, edges: Edges) -> Result<Vec<Exchange>, AllocError>
     ensures { IfOk result (λ v. AreAllGuides edges.entry v.items) }
 {
@@ -63,7 +64,8 @@ fn has_greater_image(edges: Edges, guides: &[Exchange], set: Mask) -> bool
     false
 }
 
-/// Leaves out of `fewer` the edges into sets that an exchange in `guides` takes to greater ones.
+/// Empties `fewer[set]`, the variables by which edges are still to be judged into `set`, for each
+/// set that an exchange in `guides` takes to a greater mask.
 fn leave_out(edges: Edges, guides: &[Exchange], fewer: &mut Vec<u16>)
     requires guides { AreAllGuides edges guides.now }
     requires fewer { AreEnough edges fewer.old.items }
@@ -103,8 +105,9 @@ impl Reached {
     }
 }
 
-/// Adds to `reached` the sets to which exchanges take `set`, and leaves out of `fewer` the edges
-/// into those of them below `first`. Requires that `set` is of the orbit of `first`.
+/// Adds to `reached` the sets to which the exchanges in `guides` take `set`, unless they were
+/// reached before. Empties `fewer[image]`, the variables by which edges are still to be judged into
+/// `image`, for each of these sets below `first`. Requires that `set` is in the orbit of `first`.
 fn step_from(
     edges: Edges,
     guides: &[Exchange],
@@ -130,7 +133,9 @@ fn step_from(
     Ok(())
 }
 
-/// Leaves out of `fewer` the edges into those sets of the orbit of `first` that are below `first`.
+/// Empties `fewer[set]`, the variables by which edges are still to be judged into `set`, for each
+/// set below `first` in the orbit of `first`. The sets of this orbit replace those in
+/// `reached.sets`.
 fn leave_out_orbit(
     edges: Edges,
     guides: &[Exchange],
@@ -155,7 +160,8 @@ fn leave_out_orbit(
     Ok(())
 }
 
-/// Leaves out of `fewer` the edges into all sets of each orbit but its greatest.
+/// Empties `fewer[set]`, the variables by which edges are still to be judged into `set`, for each
+/// set that isn't the greatest of its orbit under the exchanges in `guides`.
 fn leave_out_orbits(
     alloc: Global,
     edges: Edges,
@@ -178,7 +184,8 @@ fn leave_out_orbits(
     Ok(())
 }
 
-/// Into how many sets some edge is judged. `judged` has the variables of the edges into each set.
+/// The number of sets into which some edge is judged. `judged` has for each set the variables by
+/// which edges into it are judged.
 pub(crate) fn count_judged(judged: &[Mask]) -> usize {
     let mut count = 0usize;
     for edges in judged {

@@ -1,5 +1,7 @@
-//! Lower bounds on the widths after adding one variable. Distinct lower classes belong to distinct
-//! pairs, so there are at least as many pairs as lower classes, and pairs need not be numbered.
+//! Lower bounds on the widths after adding a variable x to a set. A class of the larger set is a
+//! pair of classes of the smaller one: the lower class, where x is 0, and the class where x is 1.
+//! Distinct lower classes belong to distinct pairs, so there are at least as many pairs as lower
+//! classes, and pairs need not be numbered.
 
 ghost use Rattle.std.specs.Prelude.{◌≡◌, ℕ, ◌<◌, ◌≤◌, ◌^◌, length, slice_index, IfOk, IsTrue};
 ghost use Rattle.subfunction_classes.specs.PairTables.{IsPairTable};
@@ -11,8 +13,9 @@ use pair_buckets::pair_at;
 use std::alloc::{AllocError, Global};
 use subfunction_classes::{count_with, join_mask};
 
-/// For each class the union of the joined masks of the pairs whose lower class it is. `numbers` has
-/// a table's entries, which are paired by `x`, and `masks` the mask of each class.
+/// For each class the union of the masks of the pairs whose lower class it is. The mask of a pair
+/// has the variables that the subfunction joined from both depends on. `numbers` has a class
+/// table's entries, which are paired by `x`, and `masks` the mask of each class.
 fn lower_masks(
     alloc: Global,
     numbers: &[u32],
@@ -32,9 +35,10 @@ fn lower_masks(
     Ok(labels)
 }
 
-/// Whether the lower classes show that, for each variable y, at least `needed[y]` distinct pairs
-/// have y in their joined masks; false shows nothing. `numbers` has a table's entries, which are
-/// paired by `x`, and `masks` the mask of each class.
+/// Whether the lower classes show that, for each variable y, at least `needed[y]` distinct pairs of
+/// classes join to subfunctions that depend on y; false shows nothing. `numbers` has a class
+/// table's entries, which are paired by `x`, and `masks` for each class the variables that it
+/// depends on.
 pub(crate) fn are_wide(
     alloc: Global,
     numbers: &[u32],

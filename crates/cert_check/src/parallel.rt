@@ -38,8 +38,8 @@ fn part_of(place: usize, end: u8) -> Mask
     (mixed & ((1 << end) - 1)) as Mask
 }
 
-/// The first of the edges that the parts found, None if they found none; an error if memory was
-/// refused to a part.
+/// The first, by mask and then by variable, of the edges that the parts found; None if they found
+/// none. An error if memory was refused to a part.
 fn first_of_parts(parts: &[Result<Option<Edge>, AllocError>]) -> Result<Option<Edge>, AllocError>
     ensures { IfOk result (IsFirstOfParts parts.now) }
 {
@@ -145,9 +145,9 @@ impl Walker for CallingThread {
     }
 }
 
-/// The first judged edge that fails; None if none does. If variables may be exchanged without a
-/// change, fewer edges are judged first. If one of these fails, the first failing edge of all leads
-/// from the same set or a smaller mask.
+/// The first judged edge that fails; None if none does. If exchanges of variables change no
+/// function, value or judged edge, fewer edges are judged first. If one of these fails, the first
+/// failing edge of all leads from the same mask as that one, or from a smaller one.
 pub(crate) fn first_failure<W: Walker>(
     walker: &W,
     alloc: Global,

@@ -6,14 +6,15 @@ ghost use Rattle.cert_check.specs.Blocks.{StandsAt};
 use crate::class_table::ClassTable;
 use order_model::{Mask, Problem, VarIx};
 
-/// An edge: the mask of the set from which it leads, and the variable that it adds.
+/// An edge: the mask of the set from which it leads, and the variable that it adds. Edges come in
+/// the order of their masks; with equal masks, in the order of their variables.
 pub(crate) type Edge = (Mask, VarIx);
 
-/// What a walk judges: the edges between sets.
+/// What a walk judges: edges between sets, for the functions of `problem`.
 #[derive(Clone, Copy)]
 pub(crate) struct Edges<'a> {
     pub(crate) problem: &'a Problem,
-    /// The value of each set, at its mask.
+    /// The value of each set, at its mask (see `values.rt`).
     pub(crate) values: &'a [u32],
     /// For each set the variables by which edges are judged into it.
     pub(crate) judged: &'a [Mask],

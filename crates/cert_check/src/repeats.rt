@@ -66,8 +66,8 @@ fn has_repeat(alloc: Global, numbers: &[u32], y: VarIx) -> Result<bool, AllocErr
 }
 
 /// Appends the rows of 2^y entries of `numbers` to `kept`, mostly each once, by first occurrence.
-/// Requires that `kept` is empty before. `places` has for each bucket the place of its last row in
-/// `kept`, counted from 1, or 0.
+/// Requires that `kept` is empty before. `places` has for each bucket the place in `kept`, counted
+/// from 1, of the last row that was put into this bucket; 0 if there is none.
 fn keep_rows(
     numbers: &[u32],
     y: VarIx,

@@ -60,8 +60,8 @@ fn add_variable<'t>(
 }
 
 /// The class tables of the non-empty sets of variables from `y` on that the walk needs: an edge is
-/// judged into the set, or into it with smaller variables added. `root` is to stand at the empty
-/// set.
+/// judged into the set, or into it with smaller variables added. Expects `root` to stand at the
+/// empty set.
 pub(crate) fn top_tables<'t>(
     alloc: Global,
     root: Position<'_, 't>,

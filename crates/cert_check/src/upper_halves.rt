@@ -34,8 +34,8 @@ fn needed_widths(alloc: Global, edges: Edges, set: Mask) -> Result<Vec<u32>, All
     Ok(needed)
 }
 
-/// Whether an edge is judged into one of the 2^y sets from `set` on, but for `set` itself. `judged`
-/// has for each set the variables of the judged edges into it.
+/// Whether an edge is judged into a set whose mask is above `set` and below `set` + 2^`y`. `judged`
+/// has for each set the variables by which edges into it are judged.
 fn has_later(judged: &[Mask], set: Mask, y: VarIx) -> bool
     requires variable { y ≤ 16 }
     requires within { set + 2 ^ y ≤ length judged.now }
@@ -50,9 +50,8 @@ fn has_later(judged: &[Mask], set: Mask, y: VarIx) -> bool
     false
 }
 
-/// Whether the value of `set` is so high that the set is most likely not listed. If it is listed,
-/// the widths into it are mostly no greater than needed, and lower classes seldom show that they
-/// suffice.
+/// Whether the value of `set` is so high that the set is most likely not listed. Into a listed set
+/// the widths are mostly no greater than needed, and lower classes seldom show that they suffice.
 fn is_hardly_listed(edges: Edges, set: Mask) -> bool
     requires { set < 2 ^ edges.problem.now.inputs }
 {
@@ -62,9 +61,9 @@ fn is_hardly_listed(edges: Edges, set: Mask) -> bool
     u64::from(edges.values[set as usize]) + u64::from(outside) >= u64::from(total)
 }
 
-/// Whether the lower classes of the table show that no edge into the upper half fails. They are
-/// tried only if edges are judged into the smallest of its sets alone, and that set is hardly
-/// listed. False shows nothing.
+/// Whether the lower classes of the table at `at` show that no edge into the upper half fails;
+/// false shows nothing. They are tried only if no edge is judged into a set of the upper half but
+/// its smallest, and this is most likely not listed.
 fn passes_by_lower_classes(alloc: Global, at: Position) -> Result<bool, AllocError>
     requires { 0 < at.free }
     ensures { IfOk result (λ none. IsTrue none → IsFirstEdge (FailsInUpper at.entry) None) }
@@ -79,8 +78,8 @@ fn passes_by_lower_classes(alloc: Global, at: Position) -> Result<bool, AllocErr
     table.tells_wide(alloc, x, &needed)
 }
 
-/// Whether it can be shown without another table that no edge into the upper half fails. False
-/// shows nothing.
+/// Whether it can be shown without another table that no edge fails into the upper half of the sets
+/// where the walk stands. False shows nothing.
 pub(crate) fn upper_half_passes(alloc: Global, at: Position) -> Result<bool, AllocError>
     requires { 0 < at.free }
     ensures { IfOk result (λ passes. IsTrue passes → IsFirstEdge (FailsInUpper at.entry) None) }

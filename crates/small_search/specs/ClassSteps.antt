@@ -1,6 +1,6 @@
 -- Class tables of one size after the other.
---     IsReadyAt classes i x      table i is paired in x
---     IsNumberedFrom old new i x      the next table has the numbers of its pairs and their masks, and the others stay
+--     IsReadyAt classes i x      the entries of table i are paired by x, and it has at most 2^20 classes
+--     IsNumberedFrom old new i x      table i + 1 of `new` has the numbers and masks of the pairs of table i of `old`; the others stay
 use Rattle.std.specs.Prelude.{◌≡◌, ◌≢◌, ℕ, ◌+◌, ◌^◌, ◌≤◌, List, length, slice_index_or}
 use Rattle.pair_buckets.specs.declared.numbers.Numbered.{Numbered}
 use Rattle.subfunction_classes.specs.PairTables.{IsPairTable, NumbersPairs}

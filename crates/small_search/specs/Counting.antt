@@ -1,8 +1,8 @@
 -- Sets of values over up to three variables, in four words: a bit for each of the 256.
---     is_in words v      whether a value is in a set
---     AreOccurring values words      a set has those values of a list that are below 256
---     AreDependent place words      a set has the values over three variables that depend on the variable at a place
---     is_dependent_in words place v, dependents_in words place      a value of a set depends on that variable; how many do
+--     is_in words v      whether the value v is in the set `words`
+--     AreOccurring values words      the set `words` has those of the list `values` that are below 256
+--     AreDependent place words      the set `words` has the values over three variables that depend on the variable at `place`
+--     is_dependent_in words place v, dependents_in words place      v is in the set and depends on that variable; how many values do so
 use Rattle.std.specs.Prelude.{◌≡◌, ℕ, ◌/◌, ◌%◌, ◌<◌, ◌==◌, ◌&&◌, Bool, List, length, slice_index}
 use Rattle.std.specs.List.{filter, range_with_len}
 use Rattle.std.specs.Int.{bit_at}

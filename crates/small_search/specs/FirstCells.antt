@@ -1,7 +1,7 @@
 -- The cells of the first sets, in the order of their masks.
 --     cost_without t set y, width_without t set y      the cost of the cell of a set without a member, and the member's width over it
 --     IsBestOf t set cell      the least sum of both over the members without which the cost is within the bound, by the smallest such member
---     IsNoneWithin t set      there is no such member
+--     IsNoneWithin t set      there is no member without which the cost is within the bound
 --     IsFew t set cost      a cost within the bound is at most 2^20 a member
 --     AreFirstCells t count cells      the cell of each set whose mask is below `count`, and a cost of 0 at that of the empty set
 use Rattle.std.specs.Prelude.{◌≡◌, ℕ, ◌-◌, ◌*◌, ◌^◌, IsTrue, ◌<◌, ◌≤◌, List, count_ones, length, slice_index_or}

@@ -1,6 +1,6 @@
 -- Values of pairs, joined.
---     AreJoined before x count values      each is that of the entry where x is 0, and `count` times that where x is 1
---     IsJoinedAt entries old new x size      of the values of all sizes those of one are those of the size before, joined, and the others stay
+--     AreJoined before x count values      each of `values` is the entry of `before` where x is 0, plus `count` times the one where x is 1
+--     IsJoinedAt entries old new x size      the values over `size` variables are those over one variable less, joined; the others stay
 use Rattle.std.specs.Prelude.{◌≡◌, ◌≢◌, ℕ, ◌+◌, ◌-◌, ◌*◌, ◌/◌, ◌^◌, ◌<◌, ◌≤◌, List, length, slice_index}
 use Rattle.subfunction_classes.specs.Places.{pair_at}
 use Rattle.small_search.specs.ValuePlaces.{values_at}

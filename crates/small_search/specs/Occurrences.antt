@@ -1,8 +1,8 @@
--- The different subfunctions over a set.
---     AreOf t s      they are those of a set: the values that occur, if it has up to three variables, or what each of up to 2^20 classes
---                    depends on
---     CanBeCounted s place      a place is one of three if they are values; classes aren't too many to be counted
---     IsAtPlace t x place      a member of a set, and how many of its members are greater
+-- The distinct subfunctions over a set.
+--     AreOf t s      s has the distinct subfunctions over the set of t: the values that occur, if it has up to three variables, or what each
+--                    of up to 2^20 classes depends on
+--     CanBeCounted s place      if s has values `place` is below 3; if it has classes they are at most 2^20
+--     IsAtPlace t x place      x is a member of the set of t, and `place` is the number of greater members
 use Rattle.std.specs.Prelude.{◌≡◌, ℕ, ◌+◌, ◌^◌, ◌<◌, ◌≤◌, IsTrue, count_ones, length}
 use Rattle.definitions.specs.Orders.{has, members}
 use Rattle.definitions.specs.Problems.{functions}

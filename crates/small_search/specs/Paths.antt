@@ -1,8 +1,8 @@
 -- The subfunctions over the sets on the way to a set.
 --     without_lowest set      a set without its lowest variable
---     HoldValues p set tables size      at a size stand the values of a set, if it has up to three variables
---     HoldNumbers p set classes size d      at a size stands the class table of a set, if it has more
---     HoldPath p set tables      this holds of each set that has the variables of `set` from some bound on, at its size
+--     HoldValues p set tables size      the values over `set` stand at `size` in `tables`, if it has up to three variables
+--     HoldNumbers p set classes size d      the class table of `set` stands at `size` in `classes`, if it has more
+--     HoldPath p set tables      HoldValues and HoldNumbers hold of each set that has the variables of `set` from some bound on, at its size
 use Rattle.std.specs.Prelude.{◌≡◌, ℕ, ◌+◌, ◌-◌, ◌*◌, ◌/◌, ◌^◌, ◌<◌, ◌≤◌, List, count_ones, length, slice_index_or}
 use Rattle.std.specs.Int.{trailing_zeros, w16}
 use Rattle.definitions.specs.Problems.{TruthTables}

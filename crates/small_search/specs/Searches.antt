@@ -2,7 +2,7 @@
 --     ArePacked n m words      words of m truth tables of n variables, 1 to 16 of each; what stands behind a last point doesn't count
 --     plain_instance p pairs      the functions and the pairs, with a bound that no cost reaches, and the lower bound by variables
 --     IsPlainSearch t      this bound, this lower bound, and pairs of its variables that some order keeps
---     HoldsSearch n m words pairs      the fields of a search
+--     HoldsSearch n m words pairs      what holds of the fields of a search
 use Rattle.std.specs.Prelude.{◌≡◌, ℕ, ◌*◌, ◌^◌, ◌≤◌, List, length}
 use Rattle.definitions.specs.Problems.{TruthTables, packed_tables, words_per_table}
 use Rattle.definitions.specs.KeptPairs.{KeptPairs}

@@ -1,5 +1,5 @@
 -- Where the values of a path stand: one size behind the other, from no variable on, each with half as many as the one before.
---     start_of entries size, values_at entries values size      where those over so many variables begin; they themselves
+--     start_of entries size, values_at entries values size      where the values over `size` variables begin; these values
 use Rattle.std.specs.Prelude.{ℕ, zero, suc, ◌+◌, ◌/◌, ◌^◌, List, drop, take}
 
 unfoldable pub start_of : ℕ → ℕ → ℕ

@@ -27,9 +27,10 @@ fn cheaper(best: Option<Cell>, next: Cell) -> Cell
     }
 }
 
-/// The cell of a set, as if it were lawful: the least sum, over its members, of the cost of the set
-/// without the member and the member's width, and the smallest member that gives it. Members
-/// without which the cost exceeds `NO_BOUND` don't count; nothing if there is no other.
+/// The cell of `set`, as if the set were lawful: the least sum, over its members, of the cost of
+/// the set without the member and the member's width, and the smallest member that gives it.
+/// Members without which the cost exceeds `NO_BOUND` don't count. None if no member counts. `cells`
+/// has the cells of all smaller masks, and `subfunctions` are those over the set.
 #[inline(always)]
 fn best_cell(
     search: &SmallSearch<'_>,
@@ -64,9 +65,10 @@ fn best_cell(
     best
 }
 
-/// The cell of a set, from the cells of all smaller masks and the subfunctions over the set. If
-/// `lawful` is false, or no member counts, its cost is above `NO_BOUND` and its variable the
-/// smallest member.
+/// The cell of `set`. `cells` has the cells of all smaller masks, and `subfunctions` are those over
+/// the set. Requires that `lawful` is true exactly if the set is lawful. If it is not, or if the
+/// cost exceeds `NO_BOUND` without each of its members, the cell has a cost above `NO_BOUND` and
+/// the smallest member.
 pub(crate) fn cell_of_set(
     search: &SmallSearch<'_>,
     cells: &[Cell],

@@ -1,6 +1,6 @@
 //! Class tables of sets of four variables, from the values over three of them. A value is the truth
-//! table of a subfunction as a number; the variables of a set have places, and the lowest variable
-//! has the highest place.
+//! table of a subfunction as a number. The variables of a set have places, from 0 on: the highest
+//! variable has place 0, and the lowest one the highest place.
 
 ghost use Rattle.std.specs.Prelude.{◌≡◌, ◌<◌, ◌+◌, ◌*◌, ◌/◌, ◌^◌, ◌≤◌, count_ones, get_or, if◌then◌else◌, ◌==◌, length, map, slice_index, ℕ, OnOk};
 ghost use Rattle.std.specs.Int.{bit_at};
@@ -14,10 +14,11 @@ use order_model::{Mask, VarIx};
 use pair_buckets::{Numbered, PairNumbers};
 use std::alloc::AllocError;
 
-/// An odd number whose multiples spread over the words of 32 bits.
+/// The factor of hashes: an odd number whose multiples spread over the numbers of 32 bits.
 const SPREAD: u32 = 2_654_435_761;
 
-/// The least number of buckets for each pair: most pairs are then the first of their bucket.
+/// At least so many buckets are taken for each pair that is to be numbered: most pairs are then the
+/// first of their bucket.
 const BUCKETS_EACH: usize = 8;
 
 /// For each value over three variables, the places of the variables that it depends on, as a mask.
@@ -56,7 +57,7 @@ fn joined_places(pair: (u32, u32)) -> u8
     if pair.0 == pair.1 { halves } else { halves | 8 }
 }
 
-/// The variables of a set of four, the lowest first.
+/// The variables of `set`, the lowest first. Requires that there are four.
 fn variables_of(set: Mask) -> [VarIx; 4]
     requires { count_ones set ≡ 4 }
     ensures { result ≡ members 16 set }
@@ -107,8 +108,8 @@ fn masks_by_places(variables: &[VarIx; 4]) -> [Mask; 16]
     masks
 }
 
-/// Writes to `masks`, for each distinct pair in `pairs`, the mask of those of the four variables
-/// that its function depends on. The halves of the function are the values of the pair.
+/// Overwrites `masks` with a mask for each of `pairs`, in the order of their numbers: those of the
+/// four `variables` on which the function depends whose two halves, as truth tables, are the pair.
 fn write_masks(
     pairs: &PairNumbers,
     variables: &[VarIx; 4],
@@ -129,8 +130,8 @@ fn write_masks(
     Ok(())
 }
 
-/// Pair j of the values: the value where variable x is 0, and the one where it is 1. They stand 2^x
-/// apart, because the set has no variable below x.
+/// Pair `j` of `values`: the value where variable x is 0, and the one where it is 1. They stand 2^x
+/// apart, because the values are over variables above x alone.
 #[inline(always)]
 fn value_pair(values: &[u8], x: VarIx, j: usize) -> (u32, u32)
     requires paired { IsPaired values.now x }
@@ -142,8 +143,9 @@ fn value_pair(values: &[u8], x: VarIx, j: usize) -> (u32, u32)
     (u32::from(values[low]), u32::from(values[low + step]))
 }
 
-/// Writes the class table of `set`, which has four variables, to `to`. `values` are those over the
-/// set without its lowest variable x. `seen` is working memory.
+/// Writes the class table of `set` to `to`, over what was there. Requires that `set` has four
+/// variables. `values` are those over the set without its lowest variable x. `seen` is working
+/// memory.
 pub(crate) fn number_values(
     values: &[u8],
     x: VarIx,

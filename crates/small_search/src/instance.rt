@@ -1,4 +1,4 @@
-//! The input of a search.
+//! The input of a search for a small problem.
 
 ghost use Rattle.std.specs.Prelude.{◌≡◌, ◌<◌, ◌≤◌, [], length, IfOk, IsTrue};
 ghost use Rattle.definitions.specs.Orders.{members};
@@ -39,8 +39,8 @@ impl<'a> Model for SmallSearch<'a> {
 }
 
 impl<'a> SmallSearch<'a> {
-    /// The search for the functions whose packed truth tables stand in `words`, one after the
-    /// other. The pairs are of their variables.
+    /// The input of a search for the `outputs` functions of `inputs` variables whose packed truth
+    /// tables stand in `words`, one after the other. Requires that `pairs` are of these variables.
     pub fn new(inputs: u8, outputs: u8, words: &'a [u64], pairs: &'a Pairs) -> SmallSearch<'a>
         requires packed { ArePacked inputs outputs words.now }
         requires pairs { pairs.now.inputs ≡ inputs }
@@ -91,7 +91,7 @@ impl<'a> SmallSearch<'a> {
         self.pairs.count() == 0
     }
 
-    /// Whether a set is lawful: for each pair (a, b), if it has a it has b.
+    /// Whether `set` is lawful: for each pair (a, b), if it has a it has b.
     #[inline(always)]
     pub(crate) fn lawful(&self, set: Mask) -> bool
         ensures { result ≡ is_lawful self.now.pairs.pairs

@@ -1,7 +1,8 @@
-//! The search for problems whose truth tables are small: the subfunctions over each set of
-//! variables and its cell, one set after the other by the calling thread, with no bound that any
-//! cell reaches. Over up to three variables a subfunction is its truth table, over more its class.
-//! All tables lie in memory that is taken once.
+//! The search for problems whose truth tables are small. The calling thread goes over all sets of
+//! variables, one after the other, and finds the subfunctions over each, and from these its cell.
+//! Its bound exceeds all costs, so nothing is pruned. Over up to three variables a subfunction is
+//! kept as its truth table, over more as its class number. All tables lie in memory that is taken
+//! once.
 #![tactic(auto)]
 
 mod cells;

@@ -1,4 +1,4 @@
-//! The order that the cells of all sets give.
+//! Reads the first order of the fewest nodes, and its level counts, off the cells of all sets.
 
 ghost use Rattle.std.specs.Prelude.{◌≡◌, length};
 ghost use Rattle.definitions.specs.Levels.{level_counts};
@@ -10,8 +10,9 @@ use crate::instance::SmallSearch;
 use order_model::{Mask, VarIx};
 use subset_layers::Cell;
 
-/// Writes to `order` the order that the cells give, from the top down: the variable in the cell of
-/// the set of all variables, then the one in the cell of the set that is left, and so on.
+/// Writes to `order` the order that `cells` gives, from the top down: the variable in the cell of
+/// the set of all variables, then the one in the cell of the set without it, and so on. `cells` has
+/// the cell of each set, at its mask.
 fn read_variables(search: &SmallSearch<'_>, cells: &[Cell], order: &mut [VarIx])
     requires cells { AreFlatCells search.now cells.now }
     requires long { length order.old ≡ search.now.problem.inputs }
@@ -27,8 +28,9 @@ fn read_variables(search: &SmallSearch<'_>, cells: &[Cell], order: &mut [VarIx])
     }
 }
 
-/// Writes to `levels` the level counts of `order`, which is the one that the cells give: by how
-/// much the cost falls when each variable is taken off the top.
+/// Writes to `levels` the level counts of `order`, top first. That of a variable is the cost of the
+/// set of it and all below it, less the cost of the set of those below it; `cells` has these costs.
+/// Requires that `order` is the one that `cells` gives.
 fn count_levels(search: &SmallSearch<'_>, cells: &[Cell], order: &[VarIx], levels: &mut [u32])
     requires cells { AreFlatCells search.now cells.now }
     requires read { IsReadOff search.now order.now }
@@ -48,8 +50,8 @@ fn count_levels(search: &SmallSearch<'_>, cells: &[Cell], order: &[VarIx], level
     }
 }
 
-/// Writes the order that the cells give to `order` and its level counts to `levels`, and returns
-/// its size.
+/// Writes the first order of the fewest nodes, which `cells` gives, to `order` and its level counts
+/// to `levels`. Returns its size: the number of nodes.
 pub(crate) fn read_optimum(
     search: &SmallSearch<'_>,
     cells: &[Cell],

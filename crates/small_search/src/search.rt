@@ -1,4 +1,4 @@
-//! The optimum of a small problem.
+//! The search for a small problem's first order of the fewest nodes.
 
 ghost use Rattle.std.specs.Prelude.{◌≡◌, ◌*◌, ◌+◌, ◌-◌, ◌^◌, ◌<◌, ◌≤◌, ◌↔◌, [], length, IfOk, IsTrue, OnOk, OnErr};
 ghost use Rattle.definitions.specs.Problems.{functions, outputs_of};
@@ -24,15 +24,16 @@ use solutions::{AllCells, Instance, Solution, optimum_of, solution_of};
 use std::alloc::{AllocError, Global};
 use subset_layers::Cell;
 
-/// A small problem has at most so many variables. With more of them the search by layers leaves out
-/// sets, by its bound and by symmetric variables.
+/// How many variables a small problem has at most. With more of them the search by layers
+/// (`order_solve`) leaves out sets, by its bound and by symmetric variables.
 const MOST_INPUTS: u8 = 10;
 
-/// A small problem has at most so many entries of truth tables. With more of them the search by
-/// layers is faster.
+/// How many entries the truth tables of a small problem have together at most. With more of them
+/// the search by layers (`order_solve`) is faster.
 const MOST_ENTRIES: usize = 1 << 13;
 
-/// Whether a problem is small: the search of this crate is then faster than the one by layers.
+/// Whether `problem` is small: the search of this crate is then faster than the search by layers
+/// (`order_solve`).
 pub fn is_small(problem: &Problem) -> bool
     ensures { IsTrue result ↔ ((problem.now.inputs ≤ 10)
         × (outputs_of problem.now * 2 ^ problem.now.inputs ≤ 2 ^ 13)) }
@@ -41,7 +42,7 @@ pub fn is_small(problem: &Problem) -> bool
 }
 
 /// Whether a problem of `inputs` variables and `outputs` functions is small: the search of this
-/// crate is then faster than the one by layers.
+/// crate is then faster than the search by layers (`order_solve`).
 pub fn are_few(inputs: u8, outputs: u8) -> bool
     requires inputs { inputs ≤ 16 }
     ensures { IsTrue result ↔ ((inputs ≤ 10) × (outputs * 2 ^ inputs ≤ 2 ^ 13)) }
@@ -66,7 +67,8 @@ impl Workspace {
     }
 }
 
-/// The distinct subfunctions over `set`, read from the tables on the way to it.
+/// The distinct subfunctions over `set`, read from `tables`. Requires that these are the tables on
+/// the way to `set`.
 #[inline(always)]
 fn subfunctions_in<'a>(
     search: &SmallSearch<'_>,
@@ -88,8 +90,9 @@ fn subfunctions_in<'a>(
     }
 }
 
-/// The cell of `set`, from the cells of all smaller masks. `tables` are those on the way to the set
-/// with the mask before, and become those on the way to this one. `all_lawful` may be true only if
+/// Finds the cell of `set`. `cells` has the cells of all smaller masks. Requires that `tables` are
+/// those on the way to the set whose mask is smaller by 1, and turns them into those on the way to
+/// `set`. If `all_lawful` is true, the set counts as lawful without a test; this requires that
 /// there are no pairs.
 #[inline(always)]
 fn next_cell(
@@ -114,8 +117,8 @@ fn next_cell(
     Ok(cell_of_set(search, cells, &subfunctions, set, lawful))
 }
 
-/// Writes the cells of all sets to `cells`, each at its set's mask, over what was there. `tables`
-/// is working memory.
+/// Overwrites `cells` with the cells of all sets, each at its set's mask. `tables` is working
+/// memory.
 fn find_cells(
     alloc: Global,
     search: &SmallSearch<'_>,
@@ -141,8 +144,9 @@ fn find_cells(
 }
 
 /// Writes the first order of the fewest nodes among those that keep the pairs to `order` and its
-/// level counts to `levels`, and returns its size. It takes a step for each entry of the class
-/// tables of all sets, so it is for small problems.
+/// level counts to `levels`, and returns its size. If memory is refused, both stay as they are.
+/// `workspace` is working memory. The search takes a step for each entry of the class tables of all
+/// sets, so it is for small problems.
 pub fn write_optimum(
     alloc: Global,
     search: &SmallSearch<'_>,
@@ -164,7 +168,8 @@ pub fn write_optimum(
     Ok(read_optimum(search, &workspace.cells, order, levels))
 }
 
-/// The cells of all sets of a problem's variables, each at its set's mask.
+/// The cells of all sets of `problem`'s variables, each at its set's mask. Requires that `pairs`
+/// are of these variables.
 fn all_cells(alloc: Global, problem: &Problem, pairs: &Pairs) -> Result<Vec<Cell>, AllocError>
     requires { pairs.now.inputs ≡ problem.now.inputs }
     ensures { IfOk result (λ v. AreFlatCells (plain_instance problem.now pairs.now) v.items) }
@@ -177,7 +182,8 @@ fn all_cells(alloc: Global, problem: &Problem, pairs: &Pairs) -> Result<Vec<Cell
     Ok(cells)
 }
 
-/// The problem instance of a search in which nothing is pruned: its bound exceeds all costs.
+/// The problem instance of a search in which nothing is pruned, because its bound exceeds all
+/// costs.
 fn instance_of<'a>(problem: &'a Problem, pairs: &'a Pairs) -> Instance<'a>
     requires { pairs.now.inputs ≡ problem.now.inputs }
     ensures instance { result ≡ plain_instance problem.now pairs.now }
@@ -193,8 +199,9 @@ fn instance_of<'a>(problem: &'a Problem, pairs: &'a Pairs) -> Instance<'a>
     Instance::new(problem, pairs, limit)
 }
 
-/// The first order of the fewest nodes among those that keep the pairs. It takes a step for each
-/// entry of the class tables of all sets, so it is for small problems.
+/// The first order of the fewest nodes among those that keep `pairs`, with its size and level
+/// counts. The search takes a step for each entry of the class tables of all sets, so it is for
+/// small problems.
 pub fn find_optimum(
     alloc: Global,
     problem: &Problem,
@@ -208,7 +215,7 @@ pub fn find_optimum(
     optimum_of(alloc, &AllCells::of_cells(&instance, cells))
 }
 
-/// The first order of the fewest nodes among those that keep the pairs, with what its certificate
+/// The first order of the fewest nodes among those that keep `pairs`, with what its certificate
 /// lists.
 pub fn solve(alloc: Global, problem: &Problem, pairs: &Pairs) -> Result<Solution, AllocError>
     requires { pairs.now.inputs ≡ problem.now.inputs }

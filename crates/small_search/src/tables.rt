@@ -1,6 +1,7 @@
-//! The tables of the subfunctions over the sets on the way to a set. The way takes the variables
-//! from the highest one on, and each table is made from that of the set without its lowest
-//! variable. By rising mask the sets come depth first, so one table of each size is kept.
+//! The tables of the subfunctions over the sets on the way to a set S. On the way are the empty
+//! set, the set of S's highest variable, that of its two highest, and so on up to S. Each table is
+//! made from that of the set without its lowest variable. By rising mask the sets come depth first,
+//! so one table of each size is kept.
 
 ghost use Rattle.std.specs.Prelude.{◌≡◌, ◌+◌, ◌-◌, ◌*◌, ◌/◌, ◌^◌, ◌<◌, ◌≤◌, OnOk, length};
 ghost use Rattle.small_search.specs.Joining.{IsJoinedAt};
@@ -16,24 +17,27 @@ use order_model::{Mask, VarIx};
 use pair_buckets::{Numbered, PairNumbers, number_pairs};
 use std::alloc::{AllocError, Global};
 
-/// Over at most so many variables subfunctions are kept as values, over more as class numbers.
+/// Over at most so many variables a subfunction is kept as its value, the truth table in a byte;
+/// over more as its class number.
 pub(crate) const MOST_VALUE_VARIABLES: u32 = 3;
 
-/// The tables on the way to a set, in memory that is used again for the next sets and searches.
+/// The tables of the subfunctions over the sets on the way to a set: the sets of its k highest
+/// variables, for each k. Their memory is used again for the next sets and searches.
 #[derive(Drop)]
 pub(crate) struct PathTables {
-    /// How many values there are over no variable.
+    /// How many values there are over no variable: one for each function and point.
     pub(crate) entries: usize,
     /// The values over 0, 1, 2 and 3 variables, one size behind the other.
     pub(crate) values: Vec<u8>,
-    /// The class tables of sets of four and more variables: at index i the one of i + 4.
+    /// The class tables of sets of four and more variables: at index i that of the set of i + 4
+    /// variables.
     pub(crate) classes: Vec<Numbered>,
     /// Working memory in which pairs are numbered.
     seen: PairNumbers,
 }
 
-/// The index in `values` at which those over `size` variables begin. There are `entries` values
-/// over no variable.
+/// The index in `PathTables::values` at which the values over `size` variables begin, if there are
+/// `entries` values over no variable.
 #[inline(always)]
 fn start_of(entries: usize, size: u32) -> usize
     requires size { size ≤ 3 }
@@ -48,8 +52,8 @@ fn start_of(entries: usize, size: u32) -> usize
     }
 }
 
-/// The part of `values` that has those over `size` variables. There are `entries` values over no
-/// variable.
+/// The part of `values` that has the values over `size` variables. `values` has those over 0, 1, 2
+/// and 3 variables, one size behind the other, and `entries` of them are over no variable.
 #[inline(always)]
 pub(crate) fn values_over(values: &[u8], entries: usize, size: u32) -> &[u8]
     requires size { size ≤ 3 }
@@ -62,9 +66,9 @@ pub(crate) fn values_over(values: &[u8], entries: usize, size: u32) -> &[u8]
     own
 }
 
-/// `values` has the truth tables over 0, 1, 2 and 3 variables, one size behind the other. Writes
-/// those over `size` variables: each joins two of those over `size - 1` whose assignments differ in
-/// x alone.
+/// Writes to `values` the values over `size` variables: each joins two of those over `size - 1`
+/// variables whose assignments differ in x alone. `values` has the values over 0, 1, 2 and 3
+/// variables, one size behind the other, and `entries` of them are over no variable.
 #[inline(always)]
 fn make_values(values: &mut [u8], entries: usize, x: VarIx, size: u32)
     requires some { 1 ≤ size }
@@ -81,8 +85,9 @@ fn make_values(values: &mut [u8], entries: usize, x: VarIx, size: u32)
     join_values(before, x, 1 << (size - 1), own);
 }
 
-/// Writes the class table of a set of `size` variables, at index `size - 4` of `classes`. It is
-/// made from the one before, of the set without its lowest variable x. `seen` is working memory.
+/// Writes the class table of a set of `size` variables to index `size - 4` of `classes`. It is made
+/// from the table at the index before, of the set without its lowest variable x. `seen` is working
+/// memory.
 #[inline(always)]
 fn make_classes(
     classes: &mut [Numbered],
@@ -101,8 +106,8 @@ fn make_classes(
     number_pairs(numbers, x, masks, seen, &mut others[0])
 }
 
-/// Appends class tables with room for `room` pairs to `classes` until it has one for each size from
-/// 4 to `inputs`.
+/// Appends to `classes` empty class tables, each with room for `room` pairs, until there is one for
+/// each size of a set from 4 to `inputs`.
 fn add_tables(
     alloc: Global,
     room: usize,
@@ -119,7 +124,7 @@ fn add_tables(
 }
 
 impl PathTables {
-    /// The memory of path tables before the first search: it holds none.
+    /// Path tables that have no memory yet and are of no search. `restart` makes them those of one.
     pub(crate) fn new(alloc: Global) -> Result<PathTables, AllocError> {
         Ok(PathTables {
             entries: 0,
@@ -129,8 +134,8 @@ impl PathTables {
         })
     }
 
-    /// Makes these the tables on the way to the empty set: writes the values at all points, and
-    /// makes room for the other sizes.
+    /// Makes these the tables on the way to the empty set, for the functions of `search`: writes
+    /// their values at all points, and makes room for the other sizes.
     pub(crate) fn restart(
         &mut self,
         alloc: Global,
@@ -154,8 +159,9 @@ impl PathTables {
         Ok(())
     }
 
-    /// Turns the tables on the way to the set with the mask before into those on the way to `set`.
-    /// One table is made, from that of the set without its lowest variable.
+    /// Turns these into the tables on the way to `set`. Requires that they are those on the way to
+    /// the set whose mask is smaller by 1. One table is made, from that of `set` without its lowest
+    /// variable.
     #[inline(always)]
     pub(crate) fn add_lowest(
         &mut self,

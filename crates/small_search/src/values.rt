@@ -1,5 +1,5 @@
-//! Values: the truth tables of subfunctions of up to three variables, a byte each. The lowest
-//! variable of the set stands for the highest bit of a point's number.
+//! Values: the truth tables of subfunctions of up to three variables, a byte each. The lowest of
+//! these variables stands for the highest bit of a point's number.
 
 ghost use Rattle.std.specs.Prelude.{◌≡◌, ◌*◌, ◌/◌, ◌^◌, ◌<◌, ◌≤◌, ◌++◌, [], map, length, OnOk};
 ghost use Rattle.definitions.specs.Functions.{weight};
@@ -14,7 +14,8 @@ use order_model::VarIx;
 use order_model::packed::bit_of;
 use std::alloc::AllocError;
 
-/// Appends a function's values at all points to `values`. `words` is its packed truth table.
+/// Appends to `values` a function's value, 0 or 1, at each point of `inputs` variables. `words` is
+/// the function's packed truth table.
 fn push_values(values: &mut Vec<u8>, words: &[u64], inputs: u8) -> Result<(), AllocError>
     requires few { inputs ≤ 16 }
     requires long { length words.now ≡ words_per_table inputs }
@@ -27,8 +28,8 @@ fn push_values(values: &mut Vec<u8>, words: &[u64], inputs: u8) -> Result<(), Al
     Ok(())
 }
 
-/// Appends the values of all functions at all points, function by function, to `values`, which is
-/// empty.
+/// Writes to `values` the values of all functions of `search` at all points, function by function.
+/// Requires that `values` is empty before.
 pub(crate) fn push_points(values: &mut Vec<u8>, search: &SmallSearch<'_>) -> Result<(), AllocError>
     requires { values.old.items ≡ [] }
     ensures { OnOk result (values.new.items ≡ map weight (values_of search.now.problem)) }
@@ -39,9 +40,9 @@ pub(crate) fn push_points(values: &mut Vec<u8>, search: &SmallSearch<'_>) -> Res
     Ok(())
 }
 
-/// Writes to `values` a value for each pair of `before`: the low one in the lowest `shift` bits,
-/// and the high one above them. Values that differ in variable x alone are a pair: they stand
-/// `step`, which is 2^x, apart.
+/// Writes to `values` one value for each pair of values in `before` whose assignments differ in
+/// variable x alone: the one where x is 0 in the lowest `shift` bits, and the one where x is 1
+/// above them. Requires that `step` is 2^x, the distance of the two.
 #[inline(always)]
 fn join_blocks(before: &[u8], x: VarIx, step: usize, shift: u32, values: &mut [u8])
     requires paired { IsPaired before.now x }
@@ -60,9 +61,9 @@ fn join_blocks(before: &[u8], x: VarIx, step: usize, shift: u32, values: &mut [u
     }
 }
 
-/// Writes to `values` a value for each pair of `before`: the low one in the lowest `shift` bits,
-/// and the high one above them. Values that differ in variable x alone, 2^x apart, are a pair.
-/// Small x have a loop each, which is faster.
+/// Writes to `values` one value for each pair of values in `before` whose assignments differ in
+/// variable x alone: the one where x is 0 in the lowest `shift` bits, and the one where x is 1
+/// above them. The two stand 2^x apart. Each x below 3 has a loop of its own, which is faster.
 pub(crate) fn join_values(before: &[u8], x: VarIx, shift: u32, values: &mut [u8])
     requires paired { IsPaired before.now x }
     requires shift { shift ≤ 4 }
@@ -78,7 +79,8 @@ pub(crate) fn join_values(before: &[u8], x: VarIx, shift: u32, values: &mut [u8]
     }
 }
 
-/// Which values occur, a bit for each value. All are below 64.
+/// Which values occur in `values`: bit v % 64 of word v / 64 is 1 if v occurs. Requires that all of
+/// them are below 64.
 #[inline(always)]
 fn few_occurring(values: &[u8]) -> [u64; 4]
     requires { AllBelow values.now 64 }
@@ -91,7 +93,7 @@ fn few_occurring(values: &[u8]) -> [u64; 4]
     [found, 0, 0, 0]
 }
 
-/// Which values occur, a bit for each value.
+/// Which values occur in `values`: bit v % 64 of word v / 64 is 1 if v occurs.
 #[inline(always)]
 fn all_occurring(values: &[u8]) -> [u64; 4]
     ensures { AreOccurring values.now result }
@@ -103,7 +105,8 @@ fn all_occurring(values: &[u8]) -> [u64; 4]
     found
 }
 
-/// Which values over `size` variables occur in `values`, a bit for each value.
+/// Which values occur in `values`, which are over `size` variables: bit v % 64 of word v / 64 is 1
+/// if v occurs.
 pub(crate) fn occurring(values: &[u8], size: u32) -> [u64; 4]
     requires { size ≤ 2 → AllBelow values.now 64 }
     ensures { AreOccurring values.now result }

@@ -1,4 +1,5 @@
-//! The widths of a set's members over the set without them, from its distinct subfunctions.
+//! The width of each member of a set over the set without it, from the distinct subfunctions over
+//! the set.
 
 ghost use Rattle.std.specs.Prelude.{◌≡◌, ◌^◌, ◌<◌, ◌≤◌};
 ghost use Rattle.definitions.specs.Orders.{without};
@@ -14,14 +15,15 @@ use subfunction_classes::count_with;
 /// The distinct subfunctions over a set.
 #[derive(Drop)]
 pub(crate) enum Subfunctions<'a> {
-    /// Over up to three variables: which values occur, a bit for each value.
+    /// Over up to three variables: which values occur. Bit v % 64 of word v / 64 is 1 if v does.
     Values([u64; 4]),
     /// Over more variables: for each class the mask of the variables that it depends on.
     Classes(&'a [Mask]),
 }
 
-/// For each place the values over three variables that depend on the variable there, a bit for each
-/// value. A value over fewer variables depends on the same places if it is read as one over three.
+/// For each place the values over three variables that depend on the variable there. Value v has
+/// bit v % 64 of word v / 64. A value over fewer variables depends on the same places if it is read
+/// as one over three.
 const DEPENDENT: [[u64; 4]; 3] = [
     [
         0x6ff6ffffffff6ff6,
@@ -43,7 +45,8 @@ const DEPENDENT: [[u64; 4]; 3] = [
     ],
 ];
 
-/// The values over three variables that depend on the variable at `place`, a bit for each value.
+/// The values over three variables that depend on the variable at `place`. Value v has bit v % 64
+/// of word v / 64.
 fn dependent_values(place: u32) -> [u64; 4]
     requires { place < 3 }
     ensures { AreDependent place result }
@@ -51,8 +54,8 @@ fn dependent_values(place: u32) -> [u64; 4]
     DEPENDENT[place as usize]
 }
 
-/// How many of the values in `occurring`, which has a bit for each, depend on the variable at
-/// `place`.
+/// How many of the values in `occurring` depend on the variable at `place`. Value v has bit v % 64
+/// of word v / 64.
 #[inline(always)]
 pub(crate) fn count_dependent(occurring: &[u64; 4], place: u32) -> u32
     requires { place < 3 }
@@ -68,8 +71,8 @@ pub(crate) fn count_dependent(occurring: &[u64; 4], place: u32) -> u32
 }
 
 impl<'a> Subfunctions<'a> {
-    /// How many of the subfunctions depend on x: its width over the set without it. x is a member
-    /// of the set, and `place` the number of greater members.
+    /// How many of the subfunctions depend on x: the width of x over the set without it, if x is a
+    /// member of the set and `place` the number of greater members.
     #[inline(always)]
     pub(crate) fn width(&self, x: VarIx, place: u32) -> u32
         requires variable { x < 16 }

@@ -1,10 +1,10 @@
 -- Sets that exchanges of variables take to one another.
---     ExchangeOf      the partners of the variables, and the image of each set
---     IsExchangeOf p e      an exchange under which no function changes, with its images
+--     ExchangeOf      an exchange: the partners of the variables, and the image of each set
+--     IsExchangeOf p e      e is an exchange under which no function of p changes, with its images
 --     width_into p S x      the width of a variable over a set without it
---     IsAfter e T variables U moved      where an exchange takes a set and variables
+--     IsAfter e T variables U moved      e takes T to U, and each of `variables` to the one of `moved` in its place
 --     TakesWidths p q S T variables      variables of p go to ones of q so that those of S go to those of T, with their widths
---     KeepsWidths p S T variables      so it is within one problem
+--     KeepsWidths p S T variables      TakesWidths with p for q: variables of p go to variables of p
 --     AreKept p images      each set keeps its widths in its image
 use Rattle.std.specs.Prelude.{◌≡◌, ℕ, ◌^◌, ◌<◌, List, length, get_or, slice_index}
 use Rattle.std.specs.Int.{bit_at}
@@ -15,7 +15,7 @@ use Rattle.symmetries.specs.Exchanges.{AreSymmetric, IsExchange}
 use Rattle.symmetries.specs.Images.{AreImages}
 use Rattle.symmetries.specs.declared.orbits.Image.{Image}
 
--- the partner of each variable, and the image of each set
+-- an exchange: the partner of each variable, and the image of each set
 pub record ExchangeOf : Type 0 where
   pub partners : List ℕ
   pub images : List ℕ
@@ -43,7 +43,7 @@ pub record TakesWidths (p q : TruthTables) (S T : ℕ) (variables : List ℕ) : 
   pub bits : (x : ℕ) → x < p.inputs → bit_at T (slice_index variables x) ≡ bit_at S x
   pub widths : (x : ℕ) → x < p.inputs → width_into q T (slice_index variables x) ≡ width_into p S x
 
--- so it is within one problem
+-- TakesWidths with p for q: variables of p go to variables of p
 abbrev pub KeepsWidths : TruthTables → ℕ → ℕ → List ℕ → Type 0
 KeepsWidths p = TakesWidths p p
 

@@ -1,8 +1,8 @@
 -- Pairs of variables that may be exchanged without a change of any function.
 --     exchange_of n a b      the partners of n variables, of which a and b are exchanged
 --     IsSymmetricPair n F a b      a is the smaller of two variables in which all functions are symmetric
---     AreSymmetricPairs n F P      each pair is one
---     IsHarmless n F P Q      Q may be kept where P is asked for
+--     AreSymmetricPairs n F P      each pair of P is a symmetric pair
+--     IsHarmless n F P Q      the first order of the fewest nodes among those that keep Q is also the one among those that keep P
 use Rattle.std.specs.Prelude.{◌≡◌, ◌≢◌, ℕ, ◌<◌, if◌then◌else◌, List, map, nat_eq, IsTrue}
 use Rattle.std.specs.List.{range_with_len}
 use Rattle.std.specs.Ordering.{nat_cmp}
@@ -24,11 +24,11 @@ pub record IsSymmetricPair (n : ℕ) (F : List Function) (a b : ℕ) : Type 0 wh
   pub inside : b < n
   pub symmetric : AreSymmetric n F (exchange_of n a b)
 
--- each pair is one
+-- each pair of P is a symmetric pair
 abbrev pub AreSymmetricPairs : ℕ → List Function → List Pair → Type 0
 AreSymmetricPairs n F P = (a b : ℕ) → IsTrue (has_pair P a b) → IsSymmetricPair n F a b
 
--- Q asks no less than P, and each order that keeps P can be sorted into one that keeps Q, has as many nodes, and does not come later
+-- each order that keeps Q keeps P, and each order that keeps P can be sorted into one that keeps Q, has as many nodes, and does not come later
 pub record IsHarmless (n : ℕ) (F : List Function) (P Q : List Pair) : Type 0 where
   pub more : (order : List ℕ) → IsOrder n order → Keeps Q order → Keeps P order
   pub sorted : (order : List ℕ) → IsOrder n order → Keeps P order →

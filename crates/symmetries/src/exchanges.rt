@@ -14,10 +14,12 @@ use std::alloc::{AllocError, Global};
 use std::marker::Model;
 
 /// An exchange of variables in pairs: the partner of each variable, which may be itself, and the
-/// image of each set.
+/// image of each set, which has the partners of the set's members.
 #[derive(Drop)]
 pub struct Exchange {
+    /// The partner of each variable, at the variable's number.
     partners: Vec<VarIx>,
+    /// The image of each set, at the set's mask.
     images: Vec<Mask>,
 }
 
@@ -32,8 +34,9 @@ impl Model for Exchange {
 impl Exchange {
     ghost use Rattle.definitions.specs.Problems.{TruthTables};
 
-    /// The exchange with these partners. Nothing if they aren't one for each of the `inputs`
-    /// variables, or if a variable isn't its partner's partner.
+    /// The exchange that `partners` lists: at each variable's number its partner. None if the list
+    /// has not one of the `inputs` variables for each of them, or if a variable isn't its partner's
+    /// partner.
     pub(crate) fn of(
         alloc: Global,
         inputs: u8,
@@ -51,8 +54,9 @@ impl Exchange {
         Ok(Some(Exchange { partners, images }))
     }
 
-    /// The exchange with these partners, if it changes no function. `points` has the values of all
-    /// functions at each point, as one number. Nothing if the partners are no exchange.
+    /// The exchange that `partners` lists, if no function changes under it. None if some function
+    /// changes, or if the list is no exchange. `points` has at each point's number the values of
+    /// all functions there, as one number.
     fn if_alike(
         alloc: Global,
         inputs: u8,
@@ -73,14 +77,14 @@ impl Exchange {
         Ok(Some(exchange))
     }
 
-    /// The partner of each variable.
+    /// The partner of each variable, at the variable's number.
     pub fn partners(&self) -> &[VarIx]
         ensures { result.now ≡ self.now.partners }
     {
         &self.partners
     }
 
-    /// The image of each set: the partners of its variables.
+    /// The image of each set, at the set's mask: the partners of its members.
     pub fn images(&self) -> &[Mask]
         ensures { result.now ≡ self.now.images }
     {
@@ -88,8 +92,8 @@ impl Exchange {
     }
 }
 
-/// Groups of variables, each with a representative. Variables that exchanges, or pairs that orders
-/// keep, relate are in one group.
+/// Groups of variables, each with a representative. Two variables are in one group if found
+/// exchanges, or pairs that orders must keep, lead from one to the other.
 #[derive(Clone, Copy)]
 struct Groups {
     /// For each variable the representative of its group.
@@ -97,7 +101,7 @@ struct Groups {
 }
 
 impl Groups {
-    /// The groups of variables that the pairs relate.
+    /// The groups of variables that `pairs` connect.
     fn of(pairs: &Pairs) -> Groups {
         let mut groups = Groups {
             representative: [0, 1, 2, 3, 4, 5, 6, 7, 8, 9, 10, 11, 12, 13, 14, 15],
@@ -113,7 +117,7 @@ impl Groups {
         groups
     }
 
-    /// Makes the groups of x and y one.
+    /// Unites the groups of x and y.
     fn join(&mut self, x: VarIx, y: VarIx)
         requires first { x < 16 }
         requires second { y < 16 }
@@ -127,7 +131,8 @@ impl Groups {
         }
     }
 
-    /// Makes the groups of each variable and its partner one.
+    /// Unites the group of each variable with that of its partner. `partners` has the partners at
+    /// the variables' numbers; partners above 15 are ignored.
     fn join_partners(&mut self, partners: &[VarIx; 16]) {
         for x in 0..16 {
             let partner = partners[x as usize];
@@ -137,7 +142,7 @@ impl Groups {
         }
     }
 
-    /// Whether x and y are in two groups.
+    /// Whether x and y are in different groups.
     fn are_apart(&self, x: VarIx, y: VarIx) -> bool
         requires first { x < 16 }
         requires second { y < 16 }
@@ -145,7 +150,8 @@ impl Groups {
         self.representative[x as usize] != self.representative[y as usize]
     }
 
-    /// Whether two of the `inputs` variables that have equal marks are in two groups.
+    /// Whether two of the `inputs` variables have equal marks and are in different groups. `marks`
+    /// has each variable's mark at its number.
     fn have_equal_marks(&self, inputs: u8, marks: &[u32; 16]) -> bool
         requires { inputs ≤ 16 }
     {
@@ -163,21 +169,24 @@ impl Groups {
 /// How many exchanges that change a function are tried before the search for exchanges ends.
 const MOST_FAILURES: u8 = 8;
 
-/// A search for exchanges: the values of all functions by points, the marks of the variables, their
-/// groups so far, and how many exchanges changed a function.
+/// A search for exchanges under which no function of `problem` changes.
 #[derive(Drop)]
 struct Search<'a> {
     problem: &'a Problem,
+    /// At each point's number the values of all functions there, as one number.
     points: Vec<u16>,
     marks: Marks,
+    /// The groups of variables so far. No exchange is sought of two variables in one group.
     groups: Groups,
+    /// How many exchanges were tried under which some function changes.
     failures: u8,
     ghost long: { length points.items ≡ 2 ^ problem.now.inputs },
     ghost labels: { TellValues problem.now points.items },
 }
 
 impl<'a> Search<'a> {
-    /// A search that has tried no exchange yet. Variables in one of `groups` count as exchanged.
+    /// A search for exchanges under which no function of `problem` changes, before any is tried. No
+    /// exchange is sought of two variables in one of `groups`.
     fn new(alloc: Global, problem: &'a Problem, groups: Groups) -> Result<Search<'a>, AllocError>
         ensures { IfOk result (λ s. s.problem.now ≡ problem.now) }
     {
@@ -192,9 +201,10 @@ impl<'a> Search<'a> {
         })
     }
 
-    /// An exchange of x with y under which no function changes, if they are in two groups and one
-    /// is found. The groups of all partners are then joined. After `MOST_FAILURES` exchanges that
-    /// change a function nothing more is tried.
+    /// Looks for an exchange with x and y as partners under which no function changes. If one is
+    /// found, the groups of all its partners are united. An exchange that is tried and changes a
+    /// function counts as a failure. None if none is found, and without a try if x and y are in one
+    /// group or after `MOST_FAILURES` failures.
     fn exchange_of(
         &mut self,
         alloc: Global,
@@ -224,13 +234,14 @@ impl<'a> Search<'a> {
     }
 }
 
-/// Exchanges of variables under which no function changes. They are to lead, alone or by several,
-/// from each variable to any other that it may be exchanged with; some may be missed. Variables
-/// that the pairs relate count as exchanged.
+/// Finds exchanges of `problem`'s variables under which no function changes. Chains of them should
+/// lead from each variable to any other that it may be exchanged with, but some exchanges may be
+/// missed. None are sought of two variables that `pairs` connect.
 ///
-/// At most n - 1 exchanges of n variables are found, and after `MOST_FAILURES` that fail the search
-/// ends. Each takes a step a point. If no two variables have equal quick marks none is tried. Each
-/// variable is tried with near smaller ones first: sets without a greater image are then few.
+/// At most n - 1 exchanges of n variables are found, and after `MOST_FAILURES` tried ones that
+/// change a function the search ends. The test of one takes a step for each point. If no two
+/// variables have equal marks by `quick_marks`, none is tried. Each variable is tried with near
+/// smaller ones first, so that few sets have no greater image.
 pub fn exchanges_of(
     alloc: Global,
     problem: &Problem,

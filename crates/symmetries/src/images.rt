@@ -1,4 +1,5 @@
-//! Exchanges of variables in pairs: which lists of partners are one, and the images of sets.
+//! Exchanges of variables in pairs: which lists of partners are exchanges, the images of sets, and
+//! whether an exchange changes a function.
 
 ghost use Rattle.std.specs.Prelude.{◌≡◌, ℕ, ◌++◌, ◌<◌, ◌≤◌, ◌^◌, bit_or, map, length, slice_index, IfOk, OnOk, IsTrue};
 ghost use Rattle.symmetries.specs.Exchanges.{IsExchange};
@@ -7,8 +8,8 @@ ghost use Rattle.symmetries.specs.Images.{AreImages};
 use order_model::{Mask, VarIx};
 use std::alloc::{AllocError, Global};
 
-/// Whether `partners` has one of the `inputs` variables for each of them, and each is its partner's
-/// partner.
+/// Whether `partners` has one of the `inputs` variables for each of them, and each variable is its
+/// partner's partner.
 pub(crate) fn is_exchange(inputs: u8, partners: &[VarIx]) -> bool
     ensures { IsTrue result → IsExchange inputs partners.now }
 {
@@ -24,8 +25,8 @@ pub(crate) fn is_exchange(inputs: u8, partners: &[VarIx]) -> bool
     true
 }
 
-/// Appends the images of the sets that have the next variable. `images` has those of the sets
-/// without it, and `partner` is its partner.
+/// Appends to `images` the images of the sets that have the next variable as their highest. Before,
+/// `images` has those of all sets of smaller variables. `partner` is the next variable's partner.
 fn add_variable(images: &mut Vec<Mask>, partner: VarIx) -> Result<(), AllocError>
     requires partner { partner < 16 }
     ensures { OnOk result
@@ -39,7 +40,7 @@ fn add_variable(images: &mut Vec<Mask>, partner: VarIx) -> Result<(), AllocError
     Ok(())
 }
 
-/// The image of each set of the `inputs` variables: the partners of its variables.
+/// The image of each set of the `inputs` variables, at the set's mask: the partners of its members.
 pub(crate) fn images_of(
     alloc: Global,
     inputs: u8,
@@ -57,7 +58,8 @@ pub(crate) fn images_of(
     Ok(images)
 }
 
-/// Whether each point has the same value as its image.
+/// Whether each point has the same entry in `values` as its image. `images` has each point's image,
+/// at the point's number.
 pub(crate) fn are_alike(values: &[u16], images: &[Mask]) -> bool
     requires long { length images.now ≡ length values.now }
     requires inside { (p : ℕ) → p < length images.now →

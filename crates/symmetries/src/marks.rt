@@ -1,5 +1,6 @@
-//! Marks of variables and of pairs of variables. An exchange of variables under which no function
-//! changes keeps them, so they show which exchanges are worth a test.
+//! Marks: hashes of variables, and of pairs of variables, from the values of all functions. An
+//! exchange under which no function changes takes each variable to one of equal mark, and each two
+//! variables to two of equal mark. So marks show which exchanges are worth a test.
 
 ghost use Rattle.std.specs.Prelude.{◌≡◌, ◌+◌, ◌<◌, ◌≤◌, ◌^◌, IfOk, length};
 
@@ -7,10 +8,11 @@ use order_model::packed::lower_half;
 use order_model::{Problem, VarIx};
 use std::alloc::{AllocError, Global};
 
-/// An odd number whose multiples spread over the words of 32 bits.
+/// The factor of the hashes: an odd number whose multiples spread over the numbers of 32 bits.
 const SPREAD: u32 = 0x9E37_79B1;
 
-/// At how many points both variable x and the function with the packed truth table `words` are 1.
+/// The number of points at which both variable x and the function with the packed truth table
+/// `words` are 1.
 fn ones_with(words: &[u64], x: VarIx) -> u32
     requires { x < 16 }
 {
@@ -30,8 +32,8 @@ fn ones_with(words: &[u64], x: VarIx) -> u32
     count
 }
 
-/// For each variable a mark that takes little time: a hash of the numbers of points at which each
-/// function and the variable are 1.
+/// For each variable a mark that takes little time: a hash, over all functions, of the number of
+/// points at which both the function and the variable are 1.
 pub(crate) fn quick_marks(problem: &Problem) -> [u32; 16] {
     let mut marks = [0u32; 16];
     for output in 0..problem.outputs() {
@@ -44,13 +46,13 @@ pub(crate) fn quick_marks(problem: &Problem) -> [u32; 16] {
     marks
 }
 
-/// A hash of the functions' values at one point.
+/// A hash of `values`, the values of all functions at one point as one number.
 fn hash_of(values: u16) -> u32 {
     let product = (u32::from(values) + 1).wrapping_mul(SPREAD);
     product ^ (product >> 15)
 }
 
-/// For each point a hash of the functions' values there.
+/// For each point a hash of the functions' values there, which `points` has as one number.
 fn hashes_of(alloc: Global, points: &[u16]) -> Result<Vec<u32>, AllocError>
     ensures { IfOk result (λ v. length v.items ≡ length points.entry.now) }
 {
@@ -61,8 +63,8 @@ fn hashes_of(alloc: Global, points: &[u16]) -> Result<Vec<u32>, AllocError>
     Ok(hashes)
 }
 
-/// Adds each of the `half` sums from index `half` on to the one `half` before it. Returns the sum
-/// of those that were added.
+/// Adds `sums[i + half]` to `sums[i]` for each i below `half`. Returns the sum of what was added.
+/// Sums are modulo 2^32.
 fn fold_upper(sums: &mut [u32], half: usize) -> u32
     requires { half + half ≤ length sums.old }
     ensures { length sums.new ≡ length sums.old }
@@ -76,7 +78,7 @@ fn fold_upper(sums: &mut [u32], half: usize) -> u32
     total
 }
 
-/// Copies the `half` sums from index `half` on to the front of `upper`.
+/// Copies the `half` entries of `sums` from index `half` on to the front of `upper`.
 fn copy_upper(sums: &[u32], half: usize, upper: &mut [u32])
     requires sums { half + half ≤ length sums.now }
     requires room { half ≤ length upper.old }
@@ -87,8 +89,9 @@ fn copy_upper(sums: &[u32], half: usize, upper: &mut [u32])
     }
 }
 
-/// For each variable y below x the sum over the points at which both are 1. `sums` has a sum for
-/// each assignment of the variables below x, over the points at which x is 1; it is overwritten.
+/// For each variable y below x the mark of x and y: the sum of the hashes of the points at which
+/// both are 1. `sums` has for each assignment of the variables below x the sum over the points with
+/// this assignment at which x is 1; it is overwritten.
 fn marks_below(sums: &mut [u32], x: VarIx) -> [u32; 16]
     requires variable { x < 16 }
     requires sums { 2 ^ x ≤ length sums.old }
@@ -101,19 +104,20 @@ fn marks_below(sums: &mut [u32], x: VarIx) -> [u32; 16]
     marks
 }
 
-/// Marks of variables, sums of hashes of points: for each two variables over the points at which
-/// both are 1, and for each variable over those at which it is 1.
+/// The marks of variables. That of one variable is the sum of the hashes of the points at which it
+/// is 1, that of two variables the sum over the points at which both are 1. A point's hash is one
+/// of all functions' values there.
 #[derive(Drop)]
 pub(crate) struct Marks {
-    /// For each variable the sum over the points at which it is 1.
+    /// The mark of each variable.
     own: [u32; 16],
-    /// For each variable, and each smaller one, the sum over the points at which both are 1.
+    /// For each variable, and each smaller one, the mark of the two.
     below: [[u32; 16]; 16],
 }
 
 impl Marks {
-    /// The marks of `inputs` variables. `points` has the values of all functions at each point, as
-    /// one number.
+    /// The marks of `inputs` variables. `points` has at each point's number the values of all
+    /// functions there, as one number.
     pub(crate) fn of(alloc: Global, inputs: u8, points: &[u16]) -> Result<Marks, AllocError>
         requires few { inputs ≤ 16 }
         requires points { length points.now ≡ 2 ^ inputs }
@@ -131,7 +135,7 @@ impl Marks {
         Ok(Marks { own, below })
     }
 
-    /// The mark of x and y, or of x alone if they are equal.
+    /// The mark of the pair of x and y, in either order, or of x alone if they are equal.
     pub(crate) fn of_pair(&self, x: VarIx, y: VarIx) -> u32
         requires first { x < 16 }
         requires second { y < 16 }

@@ -1,18 +1,20 @@
-//! Which variables to exchange, by their marks. Any answer is right: each exchange is tested on all
-//! points.
+//! Guesses of exchanges of variables under which no function changes, from marks. A mark is a hash,
+//! of one variable or of two, that any such exchange keeps (see `marks.rt`). A guess may be wrong:
+//! each exchange is tested on all points.
 
 ghost use Rattle.std.specs.Prelude.{◌≡◌, ◌<◌, ◌≤◌, ℕ, IfSome, length, slice_index};
 
 use crate::marks::Marks;
 use order_model::{Mask, VarIx, contains};
 
-/// Partners of variables, as far as they were found.
+/// An exchange of variables in the making: the partners that were found so far.
 #[derive(Clone, Copy)]
 struct Matching {
+    /// The number of variables.
     inputs: u8,
     /// The variables that have a partner.
     placed: Mask,
-    /// The partner of each variable that has one.
+    /// At each variable's number its partner, if it has one.
     of: [VarIx; 16],
     ghost few: { inputs ≤ 16 },
     ghost variables: { (x : ℕ) → x < 16 → slice_index of x < 16 },
@@ -30,7 +32,7 @@ impl Matching {
         }
     }
 
-    /// Makes x and y partners.
+    /// Makes x and y each other's partner. If they are equal, the variable is its own partner.
     fn place(&mut self, x: VarIx, y: VarIx)
         requires first { x < 16 }
         requires second { y < 16 }
@@ -40,8 +42,8 @@ impl Matching {
         self.placed |= 1 << x | 1 << y;
     }
 
-    /// Whether x and y have equal marks, and so have, for each variable z with a partner, x with z
-    /// and y with z's partner.
+    /// Whether the marks allow x and y as partners: x and y have equal marks, and for each z that
+    /// has a partner, the pair (x, z) has the mark of (y, z's partner).
     fn keep_marks(&self, marks: &Marks, x: VarIx, y: VarIx) -> bool
         requires first { x < 16 }
         requires second { y < 16 }
@@ -58,7 +60,8 @@ impl Matching {
         true
     }
 
-    /// The variables without a partner, as a mask, that x may have as partner by the marks.
+    /// The mask of the variables without a partner that the marks allow as partner of x. x itself
+    /// may be among them.
     fn candidates(&self, marks: &Marks, x: VarIx) -> Mask
         requires { x < 16 }
     {
@@ -71,8 +74,8 @@ impl Matching {
         found
     }
 
-    /// The variable without a partner that has the fewest candidates, and the mask of these;
-    /// nothing if each variable has a partner.
+    /// Of the variables without a partner, the one with the fewest candidates for a partner, and
+    /// the mask of these candidates. None if each variable has a partner.
     fn next(&self, marks: &Marks) -> Option<(VarIx, Mask)>
         ensures { IfSome result (λ r. r.0 < 16) }
     {
@@ -91,8 +94,8 @@ impl Matching {
     }
 }
 
-/// The partner that x gets among the candidates: x itself if it is one, else the smallest; nothing
-/// if there is no candidate.
+/// The partner that x gets among `candidates`, a mask: x itself if it is one, else the smallest.
+/// None if the mask is empty.
 fn chosen(x: VarIx, candidates: Mask) -> Option<VarIx>
     requires { x < 16 }
     ensures { IfSome result (λ y. y < 16) }
@@ -106,8 +109,9 @@ fn chosen(x: VarIx, candidates: Mask) -> Option<VarIx>
     Some(candidates.trailing_zeros() as VarIx)
 }
 
-/// Each variable's partner in an exchange of x with y, as the marks suggest: the variable with the
-/// fewest candidates gets its partner first. Nothing if a variable finds no partner.
+/// Guesses an exchange of x with y: at each variable's number its partner. The marks suggest the
+/// partners, and the variable with the fewest candidates gets its partner first. None if the marks
+/// don't allow x and y as partners, or if a variable is left without candidates.
 pub(crate) fn partners_of(marks: &Marks, inputs: u8, x: VarIx, y: VarIx) -> Option<[VarIx; 16]>
     requires few { inputs ≤ 16 }
     requires first { x < 16 }

@@ -1,4 +1,5 @@
-//! Orbits: sets that exchanges take to one another, so that one row of widths serves all of them.
+//! Orbits of sets: an orbit has the sets that exchanges under which no function changes take to one
+//! another, so that one row of widths serves all of them.
 
 ghost use Rattle.std.specs.Prelude.{◌≡◌, ◌<◌, ◌≤◌, ◌^◌, ℕ, All, IfOk, IfSome, OnOk, length, slice_index};
 ghost use Rattle.definitions.specs.Problems.{TruthTables};
@@ -9,7 +10,8 @@ use order_model::{Mask, Pairs, Problem, VarIx};
 use std::alloc::{AllocError, Global};
 use std::marker::Model;
 
-/// Where exchanges take a set, and where they take each variable.
+/// The image of a set under exchanges: the set to which they take it, and at each variable's number
+/// the variable to which they take it.
 #[derive(Clone, Copy)]
 pub struct Image {
     pub set: Mask,
@@ -37,7 +39,8 @@ fn partner_of(partners: &[VarIx], x: VarIx) -> VarIx
     }
 }
 
-/// The partner of each of `variables`.
+/// The partner of each of `variables`, in the same places. `partners` has the partners at the
+/// variables' numbers; where it has none the result is 0.
 fn moved(variables: &[VarIx; 16], partners: &[VarIx]) -> [VarIx; 16]
     ensures { (x : ℕ) → x < 16 →
         slice_index result x ≡ slice_index partners.now (slice_index variables.now x) }
@@ -50,7 +53,7 @@ fn moved(variables: &[VarIx; 16], partners: &[VarIx]) -> [VarIx; 16]
 }
 
 impl Image {
-    /// The image under no exchange: the set itself, and each variable itself.
+    /// The image of `set` under no exchange: the set itself, and each variable itself.
     pub(crate) fn of(set: Mask) -> Image
         ensures set { result.set ≡ set }
         ensures own { (x : ℕ) → x < 16 → slice_index result.variables x ≡ x }
@@ -63,8 +66,8 @@ impl Image {
         }
     }
 
-    /// Where the set goes to which `exchange` takes the set whose image this is: each variable goes
-    /// to its partner, and on as this image says.
+    /// Let S be the set whose image this is, and T the set that `exchange` takes to S. Returns the
+    /// image of T: each variable goes to its partner, and on to where this image takes the partner.
     fn through(&self, exchange: &Exchange) -> Image
         ensures set { result.set ≡ self.now.set }
         ensures each { (x : ℕ) → x < 16 →
@@ -82,7 +85,8 @@ impl Image {
         }
     }
 
-    /// Where `exchange` takes this image. An image that is no set of the exchange stays as it is.
+    /// This image, taken on by `exchange`: its set goes to that set's image, and each of its
+    /// variables to the partner. If the exchange has no image of the set, nothing changes.
     pub(crate) fn after(self, exchange: &Exchange) -> Image
         ensures { self.set < length exchange.now.images →
             IsAfter exchange.now self.set self.variables result.set result.variables }
@@ -97,16 +101,17 @@ impl Image {
     }
 }
 
-/// The sets of one orbit that were reached, in that order, and for each of all sets whether it was
-/// seen.
+/// What was reached by exchanges, orbit by orbit.
 #[derive(Drop)]
 struct Reached {
+    /// The sets of the present orbit, in the order in which they were reached.
     sets: Vec<Mask>,
+    /// For each set, at its mask, whether it was seen, in the present orbit or one before.
     seen: Vec<bool>,
 }
 
 impl Reached {
-    /// None of the sets of `inputs` variables.
+    /// Of the sets of `inputs` variables, none is reached or seen yet.
     fn none(alloc: Global, inputs: u8) -> Result<Reached, AllocError>
         requires { inputs ≤ 16 }
     {
@@ -116,7 +121,8 @@ impl Reached {
         })
     }
 
-    /// Marks a set as seen. Returns whether it was not seen before.
+    /// Marks `set` as seen. Returns true if it was not seen before, false if it was or if it is no
+    /// set of the variables.
     fn see(&mut self, set: Mask) -> bool {
         match self.seen.get_mut(usize::from(set)) {
             Some(seen) if !*seen => {
@@ -128,7 +134,7 @@ impl Reached {
     }
 }
 
-/// Each set of `inputs` variables as its own image, at its mask.
+/// The image of each set of `inputs` variables under no exchange, at the set's mask.
 fn own_images(alloc: Global, inputs: u8) -> Result<Vec<Image>, AllocError>
     requires { inputs ≤ 16 }
     ensures { (p : TruthTables) → p.inputs ≤ 16 →
@@ -143,11 +149,13 @@ fn own_images(alloc: Global, inputs: u8) -> Result<Vec<Image>, AllocError>
 
 /// The orbits of a problem's sets under exchanges that change no function, and where the exchanges
 /// take each set: to the first set of its orbit, the one with the fewest high variables, and of
-/// these with the smallest mask.
+/// these with the smallest mask. High variables are those from 8 on.
 #[derive(Drop)]
 pub struct Orbits<'a> {
     problem: &'a Problem,
+    /// The exchanges that were found. The number of one is its index.
     exchanges: Vec<Exchange>,
+    /// The image of each set, at its mask, in the first set of its orbit.
     images: Vec<Image>,
 }
 
@@ -165,8 +173,9 @@ impl<'a> Model for Orbits<'a> {
 }
 
 impl<'a> Orbits<'a> {
-    /// The orbits of the sets that are lawful by `pairs`, whose problem's exchanges are sought;
-    /// nothing if none are found. Other sets stay their own images.
+    /// Seeks exchanges under which no function of `problem` changes, and finds the orbits of the
+    /// sets that are lawful by `pairs`. Sets that aren't lawful stay their own images. None if no
+    /// exchange is found.
     pub fn of(
         alloc: Global,
         problem: &'a Problem,
@@ -188,14 +197,16 @@ impl<'a> Orbits<'a> {
         Ok(Some(orbits))
     }
 
-    /// Where the exchange with a number takes a set; nothing if there is none.
+    /// The set to which exchange `number` takes `set`. None if there is no such exchange or set.
     fn image(&self, set: Mask, number: usize) -> Option<Mask> {
         let exchange = self.exchanges.get(number)?;
         let image = exchange.images().get(usize::from(set))?;
         Some(*image)
     }
 
-    /// Lets the set to which the exchange with a number takes `set` go where `set` goes.
+    /// Rewrites the image of T, the set to which exchange `number` takes `set`: it becomes the
+    /// image of `set`, with each variable going to its partner first. If there is no such exchange
+    /// or set, nothing changes.
     fn link(&mut self, set: Mask, number: usize)
         ensures { self.new ≡ self.old }
     {
@@ -216,8 +227,9 @@ impl<'a> Orbits<'a> {
         }
     }
 
-    /// Reaches the lawful sets to which exchanges take `set`, unless they were seen: they go where
-    /// `set` goes, and are appended to `reached`.
+    /// Marks each set to which an exchange takes `set` as seen in `reached`. If it wasn't seen
+    /// before and is lawful by `pairs`, its image becomes that of `set`, and it is appended to
+    /// `reached.sets`.
     fn step_from(
         &mut self,
         set: Mask,
@@ -238,7 +250,9 @@ impl<'a> Orbits<'a> {
         Ok(())
     }
 
-    /// Reaches the orbit of `first`, from set to set. `reached` then has its sets.
+    /// Sets the image of each set that exchanges reach from `first`, from set to set, to the image
+    /// of `first`. Sets that aren't lawful by `pairs`, or that `reached` has seen before, are left
+    /// out. `reached.sets` is overwritten with `first` and the sets reached.
     fn reach_from(
         &mut self,
         first: Mask,
@@ -258,7 +272,8 @@ impl<'a> Orbits<'a> {
         Ok(())
     }
 
-    /// Reaches the orbits of all sets that are lawful by `pairs`, each from its first set.
+    /// Sets the image of each set that is lawful by `pairs` to the first set of its orbit. Expects
+    /// each set to be its own image; sets that aren't lawful stay so.
     fn reach_all(&mut self, alloc: Global, pairs: &Pairs) -> Result<(), AllocError>
         ensures { self.new ≡ self.old }
     {
@@ -276,7 +291,7 @@ impl<'a> Orbits<'a> {
         Ok(())
     }
 
-    /// Whether a set is the first of its orbit, or not lawful.
+    /// Whether `set` is the first set of its orbit. True of each set that isn't lawful.
     pub fn is_first(&self, set: Mask) -> bool {
         match self.images.get(usize::from(set)) {
             Some(image) => image.set == set,
@@ -284,7 +299,8 @@ impl<'a> Orbits<'a> {
         }
     }
 
-    /// Where exchanges take a set: to the first set of its orbit.
+    /// Where exchanges take `set` and each variable: `set` goes to the first set of its orbit. A
+    /// set that isn't lawful stays itself.
     pub fn first_of(&self, set: Mask) -> Image
         requires { set < 2 ^ self.now.inputs }
         ensures { KeepsWidths self.now set result.set result.variables }
@@ -293,7 +309,9 @@ impl<'a> Orbits<'a> {
         self.first_from(Image::of(set))
     }
 
-    /// Where exchanges take the image of a set: to the first set of its orbit.
+    /// The image `from` of a set, taken on by exchanges: `from.set` goes to the first set of its
+    /// orbit, and `from.variables` go along. If `from.set` is no set of the problem's variables,
+    /// `from` stays as it is.
     pub fn first_from(&self, from: Image) -> Image
         ensures { (p : TruthTables) (S : ℕ) → p.inputs ≤ 16 →
             TakesWidths p self.now S from.set from.variables →

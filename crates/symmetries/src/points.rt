@@ -9,8 +9,9 @@ use order_model::Problem;
 use order_model::packed::bit_of;
 use std::alloc::{AllocError, Global};
 
-/// Appends a function's value at each point to the number of that point in `values`, as its lowest
-/// bit. `words` is the function's packed truth table, and `before` the number of bits so far.
+/// Makes a function's value at each point the new lowest bit of that point's entry in `values`, and
+/// moves the entry's other bits up by one. `words` is the function's packed truth table. Requires
+/// that each entry has at most `before` bits.
 fn append_bits(values: &mut Vec<u16>, words: &[u64], before: u8)
     requires few { before < 16 }
     requires long { length values.old.items ≤ 64 * length words.now }
@@ -25,7 +26,8 @@ fn append_bits(values: &mut Vec<u16>, words: &[u64], before: u8)
     }
 }
 
-/// The values of all functions at each point, as one number with a bit for each function.
+/// At each point's number the values of all functions there, as one number with a bit for each
+/// function.
 pub(crate) fn values_by_point(alloc: Global, problem: &Problem) -> Result<Vec<u16>, AllocError>
     ensures long { IfOk result (λ v. length v.items ≡ 2 ^ problem.now.inputs) }
     ensures labels { IfOk result (λ v. TellValues problem.now v.items) }

@@ -1,4 +1,4 @@
-//! Renamings: problems with variables exchanged in pairs, so that other variables are the lowest.
+//! Renamings: problems with variables exchanged in pairs, so that chosen variables are the lowest.
 
 ghost use Rattle.std.specs.Prelude.{◌≡◌, ◌≢◌, ◌<◌, ◌≤◌, ◌^◌, ℕ, IfOk, IfSome, false, length, slice_index};
 ghost use Rattle.definitions.specs.Problems.{TruthTables, outputs_of, table_at, value_at};
@@ -26,8 +26,9 @@ impl Model for Renamed {
     ghost view = { λ r. record { problem = r.problem; exchange = r.exchange } };
 }
 
-/// Writes the function number `output` of `renamed`: its value at a point is that of the same
-/// function of `problem` at the point's image. The function is 0 everywhere before.
+/// Writes function number `output` of `renamed`: its value at a point is that of the function of
+/// `problem` with this number at the point's image. `images` has each point's image. Requires that
+/// the function is 0 everywhere before.
 fn set_values(renamed: &mut Problem, problem: &Problem, images: &[Mask], output: u8)
     requires inputs { renamed.old.inputs ≡ problem.now.inputs }
     requires outputs { outputs_of renamed.old ≡ outputs_of problem.now }
@@ -52,7 +53,7 @@ fn set_values(renamed: &mut Problem, problem: &Problem, images: &[Mask], output:
 }
 
 /// The problem whose functions have at each point the values that those of `problem` have at the
-/// point's image.
+/// point's image. `images` has each point's image, at the point's number.
 fn renamed_problem(alloc: Global, problem: &Problem, images: &[Mask]) -> Result<Problem, AllocError>
     requires long { length images.now ≡ 2 ^ problem.now.inputs }
     requires inside { (k : ℕ) → k < 2 ^ problem.now.inputs →
@@ -70,8 +71,9 @@ fn renamed_problem(alloc: Global, problem: &Problem, images: &[Mask]) -> Result<
     Ok(renamed)
 }
 
-/// The partners by which the members of `set` become the lowest variables: each member that is too
-/// high is exchanged with a low variable outside the set, and all others stay.
+/// The partners, at the variables' numbers, by which the k members of `set` become the k lowest
+/// variables: each member from k on is exchanged with a variable below k that is outside the set.
+/// All other variables are their own partners.
 fn partners_to_lower(inputs: u8, set: Mask) -> [VarIx; 16]
     requires { inputs ≤ 16 }
 {
@@ -92,8 +94,8 @@ fn partners_to_lower(inputs: u8, set: Mask) -> [VarIx; 16]
 }
 
 impl Renamed {
-    /// The problem with variables exchanged in pairs so that the members of `set` are the lowest
-    /// ones. Nothing if the partners that were found are no exchange.
+    /// `problem` with variables exchanged in pairs so that the members of `set` are the lowest
+    /// ones. None if the partners that were chosen are no exchange.
     fn of(alloc: Global, problem: &Problem, set: Mask) -> Result<Option<Renamed>, AllocError>
         ensures { IfOk result (λ r. IfSome r (IsRenamed problem.now)) }
     {
@@ -109,7 +111,7 @@ impl Renamed {
         }))
     }
 
-    /// Where the exchange takes a set and its variables.
+    /// Where the exchange takes `set`, and where it takes each variable.
     fn image_of(&self, set: Mask) -> Image
         ensures { (p : TruthTables) → p.inputs ≤ 16 → IsRenamed p self.now → set < 2 ^ p.inputs →
             TakesWidths p self.now.problem set result.set result.variables }
@@ -118,8 +120,8 @@ impl Renamed {
     }
 }
 
-/// A problem, and the one with exchanged variables, if any were exchanged. Which variables are the
-/// lowest decides how large class tables are, and nothing else.
+/// A problem, and the problem with exchanged variables, if any were exchanged. Which variables are
+/// the lowest affects only how large class tables are.
 #[derive(Drop)]
 pub struct Renaming<'a> {
     problem: &'a Problem,
@@ -138,7 +140,7 @@ impl<'a> Model for Renaming<'a> {
 }
 
 impl<'a> Renaming<'a> {
-    /// The renaming that exchanges no variables.
+    /// The renaming of `problem` that exchanges no variables.
     pub fn none(problem: &'a Problem) -> Renaming<'a>
         ensures problem { result.problem ≡ problem.now }
         ensures own { renamed_of result.problem result.renamed ≡ problem.now }
@@ -149,8 +151,8 @@ impl<'a> Renaming<'a> {
         }
     }
 
-    /// The renaming that makes the members of `set` the lowest variables, each in exchange for one
-    /// of these.
+    /// The renaming of `problem` that makes the members of `set` the lowest variables. Each member
+    /// that is too high is exchanged with a low variable outside the set.
     pub fn to_lowest(
         alloc: Global,
         problem: &'a Problem,
@@ -171,7 +173,7 @@ impl<'a> Renaming<'a> {
         self.problem
     }
 
-    /// Whether variables were exchanged.
+    /// Whether the renaming has an exchange. It may be one that leaves each variable where it is.
     pub fn is_renamed(&self) -> bool {
         self.renamed.is_some()
     }
@@ -186,7 +188,8 @@ impl<'a> Renaming<'a> {
         }
     }
 
-    /// Where the renaming takes a set and its variables, in the problem with exchanged variables.
+    /// Where the renaming takes `set`, and where it takes each variable: to variables of the
+    /// problem that `renamed` returns.
     pub fn image_of(&self, set: Mask) -> Image
         requires { set < 2 ^ self.now.problem.inputs }
         ensures { TakesWidths self.now.problem (renamed_of self.now.problem self.now.renamed) set
@@ -199,8 +202,8 @@ impl<'a> Renaming<'a> {
         }
     }
 
-    /// The pairs with each variable replaced by the one with which it was exchanged; no pairs if no
-    /// order keeps those.
+    /// `pairs` with each variable replaced by its partner; no pairs if no order keeps the replaced
+    /// ones.
     pub fn pairs(&self, alloc: Global, pairs: &Pairs) -> Result<Pairs, AllocError> {
         let Some(renamed) = &self.renamed else {
             return Ok(pairs.copied());
