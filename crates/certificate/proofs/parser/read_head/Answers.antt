@@ -1,4 +1,4 @@
-use Rattle.std.proofs.Common.{ℕ, List, sym, ◌∙◌, ap, [], ◌∷◌, ◌++◌, get_or, codes, refl}
+use Rattle.std.proofs.Common.{ℕ, List, sym, ◌∙◌, ap, [], ◌∷◌, ◌++◌, get_or, codes, refl, arith, rules}
 use Rattle.definitions.specs.Texts.{number_of}
 use Rattle.certificate.specs.Faults.{head_judges}
 use Rattle.certificate.specs.Decoded.{numbers_of}
@@ -87,3 +87,15 @@ returns-clause-head c =
           (ap (number_at 1) t.parts ∙ sym a1.4)
           ∙ t.left js,
     )
+
+pub overflow_cast-inputs-2 : goal.overflow_cast-inputs-2
+overflow_cast-inputs-2 c = omega arith
+
+pub returns-in_err-levels-clause-bound : goal.returns-in_err-levels-clause-bound
+returns-in_err-levels-clause-bound c = omega arith
+
+pub returns-in_err-total-clause-bound : goal.returns-in_err-total-clause-bound
+returns-in_err-total-clause-bound c = omega arith
+
+pub numbers-requires-2-clause-some : goal.numbers-requires-2-clause-some
+numbers-requires-2-clause-some c = search rules

@@ -1,6 +1,7 @@
-use Rattle.std.proofs.Common.{◌∙◌}
+use Rattle.std.proofs.Common.{◌∙◌, arith}
 use Rattle.certificate.specs.Faults.{is_decimal}
 use Rattle.certificate.proofs.NumberLines.{cut_passes, cut_fails, last_passes, last_fails, cut_numbers, last_number, refused_on}
+use Rattle.std.proofs.lemmas.Grind.{common_steps}
 use Rattle.certificate.proofs.reader.numbers_in.Goals as goal
 
 pub returns-in_err-push_number-clause-refused : goal.returns-in_err-push_number-clause-refused
@@ -35,3 +36,6 @@ returns-clause-numbers c =
 pub returns-clause-passes : goal.returns-clause-passes
 returns-clause-passes c = c.loop-word.invariant.passes
     ∙ last_passes (is_decimal 0 c.args.most) c.loop-word.rest.now c.in_default.ensures.none c.in_ok-push_number-2.ensures.passes
+
+pub loop-word-smaller : goal.loop-word-smaller
+loop-word-smaller c = grind (arith, common_steps)

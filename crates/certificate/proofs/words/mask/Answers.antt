@@ -1,4 +1,4 @@
-use Rattle.std.proofs.Common.{arith}
+use Rattle.std.proofs.Common.{arith, rules}
 use Rattle.certificate.proofs.Masks.{mask_no, mask_yes, word_mask, four_long, four_bytes, digit_at}
 use Rattle.certificate.proofs.words.mask.Goals as goal
 
@@ -44,3 +44,15 @@ pub returns-clause-some : goal.returns-clause-some
 returns-clause-some c =
     let a = c.in_ok-a.ensures.some in let b = c.in_ok-b.ensures.some in let d = c.in_ok-c.ensures.some in let f = c.in_ok-d.ensures.some in
     let word = four_bytes c.args.word.now _ _ _ _ (omega arith) a.0 b.0 d.0 f.0 in grind (arith, mask_yes, word_mask)
+
+pub returns-in_err-d-clause-some : goal.returns-in_err-d-clause-some
+returns-in_err-d-clause-some c = search rules
+
+pub returns-in_err-a-clause-some : goal.returns-in_err-a-clause-some
+returns-in_err-a-clause-some c = search rules
+
+pub returns-in_err-c-clause-some : goal.returns-in_err-c-clause-some
+returns-in_err-c-clause-some c = search rules
+
+pub returns-in_err-b-clause-some : goal.returns-in_err-b-clause-some
+returns-in_err-b-clause-some c = search rules

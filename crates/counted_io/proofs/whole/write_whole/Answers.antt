@@ -12,3 +12,9 @@ loop-at-preserved g c =
           (rw rest at c.in-Ok.ensures.bytes);
       calls = search rules;
     }
+
+pub returns-in-Err : goal.returns-in-Err
+returns-in-Err g c = search rules
+
+pub returns-in-Err-2 : goal.returns-in-Err-2
+returns-in-Err-2 g c = search rules

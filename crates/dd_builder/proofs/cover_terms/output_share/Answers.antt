@@ -6,6 +6,7 @@ use Rattle.unique_table.proofs.SessionsGoOn.{follows_trans}
 use Rattle.dd_builder.proofs.SessionSteps.{stays, means_same, means_at}
 use Rattle.dd_builder.proofs.RestrictedNodes.{constant_means}
 use Rattle.dd_builder.proofs.Shares.{share_start, share_next, none}
+use Rattle.std.proofs.lemmas.Grind.{common_steps}
 use Rattle.dd_builder.proofs.cover_terms.output_share.Goals as goal
 
 pub loop-number-init : goal.loop-number-init
@@ -24,3 +25,6 @@ loop-number-preserved c = grind (arith, length-map, get_or-map, none, follows_tr
 
 pub returns-in_err-id : goal.returns-in_err-id
 returns-in_err-id c = grind (arith, follows_trans)
+
+pub returns : goal.returns
+returns c = grind (arith, common_steps)

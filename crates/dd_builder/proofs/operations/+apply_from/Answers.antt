@@ -122,3 +122,9 @@ returns-clause-combined t c = λ from few one two.
     c.take_apart-cut.ensures.first c.take_apart-cut.ensures.second c.apply_from-2.new.session c.in_ok-high.high
     c.apply_from.ensures.follows c.in_ok-high.ensures.combined)
     c.make.ensures.goes_on.follows c.in_ok-id.ensures.node deep)
+
+pub take_apart-cut-requires-clause-operands : goal.take_apart-cut-requires-clause-operands
+take_apart-cut-requires-clause-operands t c = omega arith
+
+pub returns-in_err-id-clause-full : goal.returns-in_err-id-clause-full
+returns-in_err-id-clause-full t c = grind arith

@@ -13,3 +13,6 @@ returns-clause-level c = grind arith
 
 pub returns-clause-first : goal.returns-clause-first
 returns-clause-first c = cut_follows _ _ _ _ _ _ c.children-second.ensures.follows c.children-first.ensures.cut
+
+pub children-second-requires-clause-known : goal.children-second-requires-clause-known
+children-second-requires-clause-known c = omega arith

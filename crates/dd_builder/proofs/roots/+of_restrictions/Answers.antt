@@ -1,4 +1,4 @@
-use Rattle.std.proofs.Common.{◌+◌, ◌-◌, ◌^◌, ◌<◌, length, take, ap, sym, ◌∙◌, refl, subst, arith}
+use Rattle.std.proofs.Common.{◌+◌, ◌-◌, ◌^◌, ◌<◌, length, take, ap, sym, ◌∙◌, refl, subst, arith, rules}
 use Rattle.std.proofs.lemmas.List.{length-take}
 use Rattle.unique_table.specs.Plans.{order_of, output_at, fixed, top_variables}
 use Rattle.unique_table.specs.Sessions.{Means}
@@ -7,6 +7,7 @@ use Rattle.dd_builder.proofs.SessionSteps.{makes_node}
 use Rattle.dd_builder.proofs.Ends.{parts_follow}
 use Rattle.dd_builder.proofs.SubfunctionNodes.{keeps_step, keeps_node}
 use Rattle.dd_builder.proofs.RestrictedNodes.{restriction_at, restricted_node, path_up, path_small}
+use Rattle.std.proofs.lemmas.Grind.{common_steps}
 use Rattle.dd_builder.proofs.roots.+of_restrictions.Goals as goal
 
 pub returns-then-level-top_variables-clause-made : goal.returns-then-level-top_variables-clause-made
@@ -68,3 +69,9 @@ returns-clause-kept t c =
     (subst (λ k. Means c.of_restrictions-2.new.session c.in_ok-high.high
     (fixed (take (c.args.level + 1) (order_of c.args.store.now.plan)) k (output_at c.args.store.now.plan.problem.value c.args.output)))
     (path_up 64 c.args.level c.args.path _ (omega arith) refl) c.in_ok-high.ensures.made.function)
+
+pub make-requires-clause-high : goal.make-requires-clause-high
+make-requires-clause-high t c = search rules
+
+pub of_restrictions-requires : goal.of_restrictions-requires
+of_restrictions-requires t c = grind (arith, common_steps)

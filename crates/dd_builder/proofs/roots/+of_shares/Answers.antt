@@ -1,4 +1,4 @@
-use Rattle.std.proofs.Common.{◌≡◌, ◌+◌, ◌-◌, ◌/◌, arith}
+use Rattle.std.proofs.Common.{◌≡◌, ◌+◌, ◌-◌, ◌/◌, arith, rules}
 use Rattle.unique_table.proofs.SessionsGoOn.{follows_trans}
 use Rattle.dd_builder.proofs.SessionSteps.{makes_same}
 use Rattle.dd_builder.proofs.Ends.{parts_follow}
@@ -21,3 +21,6 @@ returns t c =
 
 pub returns-in_err-upper : goal.returns-in_err-upper
 returns-in_err-upper t c = grind (arith, follows_trans)
+
+pub apply-requires-clause-known : goal.apply-requires-clause-known
+apply-requires-clause-known t c = search rules

@@ -1,4 +1,4 @@
-use Rattle.std.proofs.Common.{◌+◌, ◌*◌, ◌%◌, ◌^◌, ◌≤◌, ◌<◌, get_or, length, take, refl, sym, ap, ap₂, ◌∙◌, subst, arith, bit_or}
+use Rattle.std.proofs.Common.{◌+◌, ◌*◌, ◌%◌, ◌^◌, ◌≤◌, ◌<◌, get_or, length, take, refl, sym, ap, ap₂, ◌∙◌, subst, arith, bit_or, rules}
 use Rattle.definitions.specs.Orders.{IsOrder}
 use Rattle.definitions.specs.Problems.{TruthTables, outputs_of}
 use Rattle.unique_table.specs.Plans.{order_of, levels_of, output_at, fixed}
@@ -120,3 +120,6 @@ returns-clause-kept t c =
     (subst (λ k. Means c.output_below-2.new.session c.in_ok-high.high
     (fixed (take (c.args.path.level + 1) (order_of c.args.store.now.plan)) k (output_at c.args.store.now.plan.problem.value c.args.output)))
     (path_up 32 c.args.path.level c.args.path.bits _ (omega arith) refl) c.in_ok-high.ensures.made.function)
+
+pub make-requires-clause-low : goal.make-requires-clause-low
+make-requires-clause-low t c = search rules

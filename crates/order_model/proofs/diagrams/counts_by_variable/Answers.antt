@@ -1,6 +1,7 @@
-use Rattle.std.proofs.Common.{◌∙◌}
+use Rattle.std.proofs.Common.{◌∙◌, arith}
 use Rattle.std.proofs.lemmas.List.{length-set}
 use Rattle.definitions.proofs.Nodes.Counts.{counts_more}
+use Rattle.std.proofs.lemmas.Grind.{common_steps}
 use Rattle.order_model.proofs.diagrams.counts_by_variable.Goals as goal
 
 pub loop-node-preserved : goal.loop-node-preserved
@@ -10,3 +11,6 @@ loop-node-preserved c = record {
       c.loop-node.invariant.counted
       (c.requires.variables c.loop-node.node-index _ c.loop-node-test.true);
 }
+
+pub overflow_add-counts : goal.overflow_add-counts
+overflow_add-counts c = grind (arith, common_steps)

@@ -4,3 +4,6 @@ use Rattle.outcomes.proofs.fault_lines.push_fault.Goals as goal
 
 pub returns-in-CertificateLine-clause-words : goal.returns-in-CertificateLine-clause-words
 returns-in-CertificateLine-clause-words c = grind (arith, common_steps)
+
+pub returns-in-Line-clause-words : goal.returns-in-Line-clause-words
+returns-in-Line-clause-words c = grind (arith, common_steps)

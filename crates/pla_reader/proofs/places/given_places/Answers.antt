@@ -6,6 +6,7 @@ use Rattle.pla_reader.specs.Lines.{line_said}
 use Rattle.pla_reader.specs.Places.{Gives, LiesIn, bytes_at}
 use Rattle.pla_reader.specs.Text.{words}
 use Rattle.pla_reader.proofs.PlaceLemmas.{inside_more, line_places, none_inside, nothing_given}
+use Rattle.std.proofs.lemmas.Grind.{common_steps}
 use Rattle.pla_reader.proofs.places.given_places.Goals as goal
 
 pub returns-in-Some-clause-given : goal.returns-in-Some-clause-given
@@ -43,3 +44,6 @@ returns-in-None-clause-given c front back names f =
 
 pub returns-in-None-clause-inside : goal.returns-in-None-clause-inside
 returns-in-None-clause-inside c = none_inside c.args.start (c.args.start + length c.args.line.now) c.new.result.items c.new.ensures.items
+
+pub overflow_add-start : goal.overflow_add-start
+overflow_add-start c = grind (arith, common_steps)

@@ -1,10 +1,11 @@
-use Rattle.std.proofs.Common.{◌≡◌, ◌+◌, ◌-◌, ◌++◌, ℕ, List, false, true, inl, is_some, length, map, ap, sym, ◌∙◌, rules}
+use Rattle.std.proofs.Common.{◌≡◌, ◌+◌, ◌-◌, ◌++◌, ℕ, List, false, true, inl, is_some, length, map, ap, sym, ◌∙◌, rules, arith}
 use Rattle.std.specs.List.{All}
 use Rattle.pla_reader.specs.declared.places.Names.{Names}
 use Rattle.pla_reader.specs.Lines.{is_end, line_said, said}
 use Rattle.pla_reader.specs.Places.{AreNamesAt, Gives, LiesIn, bytes_at, naming_by}
 use Rattle.pla_reader.proofs.PlaceLemmas.{from_both, lines_more, none_inside, names_found, names_of, names_gone, names_at_end, names_go_on, tail_of}
 use Rattle.pla_reader.proofs.ReadLemmas.{said_first, said_none, end_line}
+use Rattle.std.proofs.lemmas.Grind.{common_steps}
 use Rattle.pla_reader.proofs.places.name_places.Goals as goal
 
 pub returns-then-gives : goal.returns-then-gives
@@ -61,3 +62,6 @@ returns c =
       spell = ap (map (bytes_at c.args.bytes.now)) c.new-2.ensures.items ∙ sym (names_gone c.args.names)
           ∙ ap (names_of c.args.names) (sym (said_none c.loop-rest.rest.now (search rules))) ∙ c.loop-rest.invariant.same;
     }
+
+pub overflow_sub-bytes : goal.overflow_sub-bytes
+overflow_sub-bytes c = grind (arith, common_steps)

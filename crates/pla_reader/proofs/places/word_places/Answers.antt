@@ -1,4 +1,6 @@
+use Rattle.std.proofs.Common.{arith}
 use Rattle.pla_reader.proofs.PlaceLemmas.{next_inside, next_place, tail_of}
+use Rattle.std.proofs.lemmas.Grind.{common_steps}
 use Rattle.pla_reader.proofs.places.word_places.Goals as goal
 
 pub loop-word-preserved : goal.loop-word-preserved
@@ -16,3 +18,9 @@ loop-word-preserved c =
           c.in_ok-push.ensures.items;
       tail = tail_of text rest word after h.tail.0 parts.0 h.tail.1 parts.1;
     }
+
+pub overflow_sub-text : goal.overflow_sub-text
+overflow_sub-text c = grind (arith, common_steps)
+
+pub overflow_sub-text-in-Some : goal.overflow_sub-text-in-Some
+overflow_sub-text-in-Some c = grind (arith, common_steps)

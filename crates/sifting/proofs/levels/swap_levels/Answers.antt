@@ -42,3 +42,9 @@ returns c =
     let e : c.loop-off.off-index ≡ length c.args.upper.now = omega arith in
     rw c.finish-made.ensures
     (subst (λ m. SwapsFirst m c.args.upper.now c.args.lower.now c.loop-off.kept.items c.loop-off.table.nodes.items) e c.loop-off.invariant.swaps)
+
+pub bounds-lower-on : goal.bounds-lower-on
+bounds-lower-on c = omega arith
+
+pub bounds-lower-on-in-loop-off : goal.bounds-lower-on-in-loop-off
+bounds-lower-on-in-loop-off c = omega arith

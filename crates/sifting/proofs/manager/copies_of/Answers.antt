@@ -3,6 +3,7 @@ use Rattle.std.proofs.Math.Seq.{take-suc}
 use Rattle.std.proofs.lemmas.List.{map-append}
 use Rattle.sifting.specs.LevelLists.{nodes_of}
 use Rattle.sifting.specs.declared.levels.Level.{Level}
+use Rattle.std.proofs.lemmas.Grind.{common_steps}
 use Rattle.sifting.proofs.manager.copies_of.Goals as goal
 
 pub loop-level-preserved : goal.loop-level-preserved
@@ -21,3 +22,6 @@ loop-level-preserved c =
     ∙ sym (map-append nodes (take k xs) (get_or xs k d ∷ []))
     ∙ ap nodes_of (sym (take-suc xs k d c.loop-level-test.true))
     ∙ ap (λ m. nodes_of (take m xs)) next
+
+pub returns : goal.returns
+returns c = grind (arith, common_steps)

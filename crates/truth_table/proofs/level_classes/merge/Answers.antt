@@ -1,9 +1,10 @@
-use Rattle.std.proofs.Common.{◌≡◌, ◌+◌, ◌&&◌, ◌∷◌, ◌++◌, cond, not, List, ℕ, [], sym, ap, ◌∙◌, subst, eq-eqb, ne_eqb}
+use Rattle.std.proofs.Common.{◌≡◌, ◌+◌, ◌&&◌, ◌∷◌, ◌++◌, cond, not, List, ℕ, [], sym, ap, ◌∙◌, subst, eq-eqb, ne_eqb, arith}
 use Rattle.std.specs.List.{list_any}
 use Rattle.definitions.specs.Widths.{same_pair}
 use Rattle.truth_table.specs.Numberings.{pair_at, is_unequal}
 use Rattle.truth_table.proofs.PairNumbers.{Merging, merging_none, merging_step, merging_end}
 use Rattle.truth_table.proofs.level_classes.merge.Goals as goal
+use Rattle.std.proofs.lemmas.Grind.{common_steps}
 use Rattle.truth_table.proofs.level_classes.merge.Goals.{then-is_new+then-lower-upper, else-is_new, else-is_new-via-then-is_new+else-lower-upper, else-is_new-via-else-is_new}
 
 pub loop-j-init : goal.loop-j-init
@@ -44,3 +45,9 @@ pub returns-clause-unequal : goal.returns-clause-unequal
 returns-clause-unequal c =
     (merging_end c.args.classes.now c.loop-j.j c.loop-j.seen.keys c.loop-j.numbers.items c.loop-j.unequal c.loop-j-test.false
     c.loop-j.invariant).1
+
+pub overflow_cast-number : goal.overflow_cast-number
+overflow_cast-number c = grind (arith, common_steps)
+
+pub overflow_add-unequal : goal.overflow_add-unequal
+overflow_add-unequal c = grind (arith, common_steps)

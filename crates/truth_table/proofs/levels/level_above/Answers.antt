@@ -4,6 +4,7 @@ use Rattle.truth_table.specs.Numberings.{pair_at, pairs_of}
 use Rattle.truth_table.proofs.PairNumbers.{length-pairs_of, pairs_more}
 use Rattle.truth_table.specs.Levels.{IsNumbered, Seeks}
 use Rattle.truth_table.proofs.Refs.{numbered_step}
+use Rattle.std.proofs.lemmas.Grind.{common_steps}
 use Rattle.truth_table.proofs.levels.level_above.Goals as goal
 
 pub loop-j-preserved : goal.loop-j-preserved
@@ -27,3 +28,6 @@ loop-j-preserved c =
 
 pub returns : goal.returns
 returns c = grind (arith, length-pairs_of, take_all)
+
+pub number_over-requires : goal.number_over-requires
+number_over-requires c = grind (arith, common_steps)

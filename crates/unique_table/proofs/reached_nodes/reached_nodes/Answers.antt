@@ -43,3 +43,6 @@ returns c =
     reduced_of c.args.order.now ws c.loop-id.numbers c.loop-id.nodes.items c.requires.order c.requires.nodes.nodes c.requires.unequal
     i.copied c.loop-id.roots.items c.args.ids.now few
     (subst (λ (z : ℕ). AreRefs c.loop-id.numbers c.loop-id.roots.items c.args.ids.now z) at i.refs) i.reached
+
+pub copy-requires-clause-known : goal.copy-requires-clause-known
+copy-requires-clause-known c = omega arith

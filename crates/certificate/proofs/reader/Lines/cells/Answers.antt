@@ -6,6 +6,7 @@ use Rattle.certificate.specs.Decoded.{read_cell, mask_key}
 use Rattle.certificate.specs.Values.{is_above}
 use Rattle.certificate.proofs.Outcomes.{asked}
 use Rattle.certificate.proofs.LineSteps.{reached_first, reached_more, reached_fails, reached_all, section_fails}
+use Rattle.std.proofs.lemmas.Grind.{common_steps}
 use Rattle.certificate.proofs.reader.Lines.cells.Goals as goal
 
 pub returns-in_err-count-clause-section : goal.returns-in_err-count-clause-section
@@ -35,3 +36,6 @@ pub returns-clause-section : goal.returns-clause-section
 returns-clause-section c =
     reached_all read_cell mask_key (codes "cells") (2 ^ c.args.n - 1) (is_cell c.args.n) cell_key_of (λ a b. refl) (λ v. map listed v.items) c.loop-n.cells
     c.loop-n.invariant.reached (omega arith) c.loop-n.invariant.few
+
+pub loop-n-smaller : goal.loop-n-smaller
+loop-n-smaller c = grind (arith, common_steps)

@@ -2,6 +2,7 @@ use Rattle.std.proofs.Common.{◌≡◌, ◌++◌, sym, ◌∙◌, subst, arith}
 use Rattle.definitions.specs.Problems.{TruthTables, table_at, table_in}
 use Rattle.truth_table.specs.Assignments.{values_at}
 use Rattle.truth_table.proofs.LeafClasses.{values_packed, values_more}
+use Rattle.std.proofs.lemmas.Grind.{common_steps}
 use Rattle.truth_table.proofs.tables.Tables.values.Goals as goal
 
 pub loop-output-init : goal.loop-output-init
@@ -17,3 +18,6 @@ loop-output-preserved c =
     c.in_ok-push_values.ensures
     ∙ (λ i. c.loop-output.invariant i ++ values_packed now.inputs words (table_at now j) c.args.points.now table c.requires.points i)
     ∙ sym (values_more c.args.points.now now.tables j (omega arith))
+
+pub returns : goal.returns
+returns c = grind (arith, common_steps)

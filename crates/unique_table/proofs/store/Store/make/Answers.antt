@@ -4,6 +4,7 @@ use Rattle.node_words.proofs.NewNodes.{makes}
 use Rattle.unique_table.specs.Sessions.{Knowledge, Follows, IsKnownBelow}
 use Rattle.unique_table.proofs.SessionsGoOn.{follows_refl}
 use Rattle.unique_table.proofs.OpenedStores.{seated, made_only, word_ready, small_id, few_levels, goes_on, goes_nowhere, goes_searching, node_made}
+use Rattle.std.proofs.lemmas.Grind.{common_steps}
 use Rattle.unique_table.proofs.store.Store.make.Goals as goal
 
 pub find_or_put-requires-clause-word : goal.find_or_put-requires-clause-word
@@ -78,3 +79,9 @@ pub returns-clause-made : goal.returns-clause-made
 returns-clause-made c =
     made_only c.session.inside c.args.session.now c.find_or_put.new.seat.me.0.made _ _ c.session.view_is
     c.node_word-word.ensures c.find_or_put.ensures.searches.made
+
+pub node_word-word-requires-clause-low : goal.node_word-word-requires-clause-low
+node_word-word-requires-clause-low c = grind (arith, common_steps)
+
+pub node_word-word-requires-clause-high : goal.node_word-word-requires-clause-high
+node_word-word-requires-clause-high c = grind (arith, common_steps)

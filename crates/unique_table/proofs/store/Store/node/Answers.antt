@@ -1,8 +1,10 @@
+use Rattle.std.proofs.Common.{arith}
 use Rattle.node_words.proofs.Functions.{function_terminal}
 use Rattle.unique_table.specs.Plans.{order_of}
 use Rattle.unique_table.specs.Sessions.{Follows}
 use Rattle.unique_table.proofs.OpenedStores.{seated, goes_step, goes_nowhere, one_step}
 use Rattle.unique_table.proofs.Parts.{has_parts}
+use Rattle.std.proofs.lemmas.Grind.{common_steps}
 use Rattle.unique_table.proofs.store.Store.node.Goals as goal
 
 pub returns-then-id-lt2-clause-constant : goal.returns-then-id-lt2-clause-constant
@@ -29,3 +31,6 @@ returns-clause-parts c =
     has_parts (seated c.look-word.new.seat) c.look-word.ensures.step.view.good.nodes c.args.id c.if-id-lt2.false
     (on.knows c.args.id c.requires.known) c.look-word.result c.look-word.ensures.found c.node_parts.result
     c.node_parts.ensures.level c.node_parts.ensures.low c.node_parts.ensures.high
+
+pub look-word-requires-clause-place : goal.look-word-requires-clause-place
+look-word-requires-clause-place c = grind (arith, common_steps)
