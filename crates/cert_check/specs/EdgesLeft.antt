@@ -6,7 +6,7 @@ use Rattle.definitions.specs.Functions.{Function}
 use Rattle.definitions.specs.Certificates as certs
 use Rattle.cert_check.specs.declared.verdict.Reason.{Reason}
 use Rattle.cert_check.specs.declared.decision.EdgesLeft.{EdgesLeft}
-use Rattle.cert_check.specs.Edges.{AreEdgeTables, EdgeFails, IsFirstEdge}
+use Rattle.edge_walks.specs.Edges.{AreEdgeTables, EdgeFails, IsFirstEdge}
 use Rattle.cert_check.specs.Verdicts.{Judges, edge_verdict, reason_of}
 
 -- the first edge that fails decides the verdict

@@ -6,7 +6,7 @@ use Rattle.definitions.specs.Orders.{has, members}
 use Rattle.definitions.specs.Pairs.{is_lawful}
 use Rattle.definitions.proofs.Bits.Masks.{mask_with, power_small}
 use Rattle.definitions.proofs.Precedence.MaskLaws.{member_bit, member_from}
-use Rattle.cert_check.proofs.EdgeMarks.{edge_from, no_edge_by, no_law, no_listing, no_rise}
+use Rattle.edge_walks.proofs.EdgeMarks.{edge_from, no_edge_by, no_law, no_listing, no_rise}
 use Rattle.cert_check.proofs.edges.is_edge_from.Goals as goal
 
 -- the set lacks the variable
@@ -66,3 +66,6 @@ returns-else-values-set-clause-none c f T e at =
     no_rise c.args.inputs c.args.pairs.now c.args.values.now c.args.sources.now c.args.set c.args.x
     (λ less. let l = subst (λ k. slice_index c.args.values.now c.args.set < slice_index c.args.values.now k) (sym into) less in
     omega (arith, c.if-values-set.false)) T e at
+
+pub is_lawful-requires-clause-pairs : goal.is_lawful-requires-clause-pairs
+is_lawful-requires-clause-pairs c = omega arith

@@ -1,8 +1,8 @@
 use Rattle.std.proofs.Common.{◌≡◌, ◌+◌, ◌*◌, ◌%◌, ◌^◌, ◌<◌, length, slice_index, bit_or, set, sym, ap, ◌∙◌, subst, arith}
 use Rattle.std.proofs.lemmas.List.{get_or_default}
 use Rattle.std.proofs.lemmas.Nat.{one_shl}
-use Rattle.cert_check.specs.Marks.{AreMarked}
-use Rattle.cert_check.proofs.EdgeMarks.{marked_more, marked_same}
+use Rattle.edge_walks.specs.Marks.{AreMarked}
+use Rattle.edge_walks.proofs.EdgeMarks.{marked_more, marked_same}
 use Rattle.cert_check.proofs.edges.mark_edges_by.Goals as goal
 use Rattle.cert_check.proofs.edges.mark_edges_by.Goals.{then-is_edge_from, else-is_edge_from}
 

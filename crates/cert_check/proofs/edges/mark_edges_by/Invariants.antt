@@ -1,4 +1,4 @@
-use Rattle.cert_check.specs.Marks.{AreMarked}
+use Rattle.edge_walks.specs.Marks.{AreMarked}
 use Rattle.cert_check.proofs.edges.mark_edges_by.Given as goal
 
 abbrev pub invariant-loop-number : goal.invariant-loop-number

@@ -1,5 +1,0 @@
-use Rattle.cert_check.specs.Walks.{AreEnough}
-use Rattle.cert_check.proofs.fewer_edges.leave_out.Given as goal
-
-abbrev pub invariant-loop-set : goal.invariant-loop-set
-invariant-loop-set l = AreEnough l.edges l.fewer.items

@@ -1,6 +1,0 @@
-use Rattle.std.specs.List.{All}
-use Rattle.cert_check.specs.Walks.{AreEnough, LeadsToFirst}
-use Rattle.cert_check.proofs.fewer_edges.step_from.Given as goal
-
-abbrev pub invariant-loop-guide : goal.invariant-loop-guide
-invariant-loop-guide l = AreEnough l.edges l.fewer.items × All (LeadsToFirst l.edges l.first) l.reached.sets.items

@@ -1,6 +1,0 @@
-use Rattle.std.proofs.Common.{◌^◌, ◌<◌, length}
-use Rattle.cert_check.proofs.KeptRows.{IsKept}
-use Rattle.cert_check.proofs.repeats.keep_rows.Given as goal
-
-abbrev pub invariant-loop-number : goal.invariant-loop-number
-invariant-loop-number l = record { kept : IsKept (2 ^ l.y) l.numbers l.kept.items l.number; buckets : 0 < length l.places }

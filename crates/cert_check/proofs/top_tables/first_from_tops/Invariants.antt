@@ -1,4 +1,0 @@
-use Rattle.cert_check.proofs.top_tables.first_from_tops.Given as goal
-
-abbrev pub invariant-loop-table : goal.invariant-loop-table
-invariant-loop-table l = Unit {0}

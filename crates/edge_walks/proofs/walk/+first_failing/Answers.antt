@@ -1,0 +1,24 @@
+use Rattle.std.proofs.Common.{◌≡◌, ◌+◌, ◌-◌, arith}
+use Rattle.edge_walks.proofs.FirstEdges.{first_half, first_halves, none_judged}
+use Rattle.edge_walks.proofs.WalkTables.{stands_lower, stands_shorter}
+use Rattle.edge_walks.proofs.walk.+first_failing.Goals as goal
+
+pub has_judged-requires : goal.has_judged-requires
+has_judged-requires t c = grind arith
+
+pub returns-then-not-has_judged : goal.returns-then-not-has_judged
+returns-then-not-has_judged t c = grind (arith, none_judged)
+
+pub invariant_of-same : goal.invariant_of-same
+invariant_of-same t c = grind (arith, stands_shorter)
+
+pub invariant_of-lower : goal.invariant_of-lower
+invariant_of-lower t c =
+    let y = c.args.at.free in
+    record { stands = stands_lower c.args.at.edges.problem.now (y - 1) y c.args.at.table.now (let next : y ≡ y - 1 + 1 = omega arith in next) c.args.at.stands }
+
+pub returns-then-passes : goal.returns-then-passes
+returns-then-passes t c = grind (arith, first_half)
+
+pub returns : goal.returns
+returns t c = grind (arith, first_halves)

@@ -1,0 +1,230 @@
+//! Class tables of sets of variables, as the checker's walk makes them.
+
+ghost use Rattle.std.specs.Prelude.{◌≡◌, ◌==◌, ℕ, ◌+◌, ◌%◌, ◌^◌, ◌<◌, ◌≤◌, length, slice_index, IfOk, IfSome, IsTrue};
+ghost use Rattle.std.specs.Int.{bit_at};
+ghost use Rattle.std.specs.List.{filter};
+ghost use Rattle.definitions.specs.Orders.{has, without};
+ghost use Rattle.definitions.specs.Widths.{width as width_over};
+ghost use Rattle.subfunction_classes.specs.Table.{set_of};
+ghost use Rattle.edge_walks.specs.LowerClasses.{IsWide};
+ghost use Rattle.edge_walks.specs.Tables.{HoldsRows, classes_at, rows_at, rows_with, table_at};
+
+use crate::lower_classes::are_wide;
+use crate::repeats::without_repeats;
+use order_model::{Mask, Problem, VarIx, contains};
+use pair_buckets::{Numbered, are_own, numbered_pairs};
+use std::alloc::{AllocError, Global};
+use std::marker::Model;
+use subfunction_classes::{count_with, no_dependence, value_numbers};
+
+/// The class table of a set: each assignment of the other variables has an entry in each function's
+/// part, and equal subfunctions have one class number, by first occurrence. Rows of entries that
+/// have come before may be left out: they lead to no other pairs of classes.
+#[derive(Drop)]
+pub(crate) struct ClassTable<'a> {
+    problem: &'a Problem,
+    set: Mask,
+    // No member of the set is below `level`. Rows of 2^level entries that have come before may be
+    // left out.
+    level: VarIx,
+    // The number of subfunctions, if all are distinct and depend on the whole set: `numbers` and
+    // `masks` are then empty.
+    full: Option<u32>,
+    /// The class number of each entry that isn't left out.
+    numbers: Vec<u32>,
+    /// For each class number, the mask of the variables that its subfunctions depend on.
+    masks: Vec<Mask>,
+}
+
+impl<'a> Model for ClassTable<'a> {
+    ghost use Rattle.edge_walks.specs.Tables.{HoldsTable, TableOf, table_at};
+
+    ghost Value = { TableOf };
+
+    ghost view = { λ c. table_at c.problem.now c.set c.level };
+
+    ghost invariant = { λ c. HoldsTable
+        (table_at c.problem.now c.set c.level) c.full c.numbers.items c.masks.items };
+}
+
+/// At these y repeated rows of 2^y entries are looked for, in tables of sets without variables
+/// below y.
+const SHORT_LEVELS: [VarIx; 4] = [3, 5, 7, 10];
+
+/// Whether each mask is `set`.
+fn are_whole(masks: &[Mask], set: Mask) -> bool
+    ensures { IsTrue result → (i : ℕ) → i < length masks.now → slice_index masks.now i ≡ set }
+{
+    for mask in masks {
+        if *mask != set {
+            return false;
+        }
+    }
+    true
+}
+
+/// The class table of `set` with the numbers and masks of `numbered`, from which repeated rows of
+/// 2^`level` entries may be left out. Only the count of the subfunctions is kept if all are
+/// distinct and depend on the whole set.
+fn table_of<'a>(
+    alloc: Global,
+    problem: &'a Problem,
+    set: Mask,
+    level: VarIx,
+    numbered: Numbered,
+) -> ClassTable<'a>
+    requires { HoldsRows (table_at problem.now set level) numbered.numbers.items
+        numbered.masks.items }
+    ensures { result ≡ table_at problem.now set level }
+{
+    let Numbered { numbers, masks } = numbered;
+    if masks.len() == numbers.len() && are_whole(&masks, set) && are_own(&numbers) {
+        return ClassTable {
+            problem,
+            set,
+            level,
+            full: Some(masks.len() as u32),
+            numbers: Vec::new(alloc),
+            masks: Vec::new(alloc),
+        };
+    }
+    ClassTable {
+        problem,
+        set,
+        level,
+        full: None,
+        numbers,
+        masks,
+    }
+}
+
+impl<'a> ClassTable<'a> {
+    ghost use Rattle.subfunction_classes.specs.Table.{functions_of};
+
+    /// The class table of the empty set, for the functions of `problem`.
+    pub(crate) fn of_problem(
+        alloc: Global,
+        problem: &'a Problem,
+    ) -> Result<ClassTable<'a>, AllocError>
+        ensures { IfOk result (λ c. c ≡ table_at problem.now 0 problem.now.inputs) }
+    {
+        let numbers = value_numbers(alloc, problem)?;
+        let masks = no_dependence(alloc, &numbers)?;
+        Ok(ClassTable {
+            problem,
+            set: 0,
+            level: problem.inputs(),
+            full: None,
+            numbers,
+            masks,
+        })
+    }
+
+    /// The set that the table is of, as a mask.
+    pub(crate) fn set(&self) -> Mask
+        ensures { result ≡ self.now.set }
+    {
+        self.set
+    }
+
+    /// A copy of this table without rows of 2^y entries that have come before. None if no such rows
+    /// are found, or if it isn't worth while to look for them. Requires that no member of the set
+    /// is below `y`.
+    pub(crate) fn with_short_rows(
+        &self,
+        alloc: Global,
+        y: VarIx,
+    ) -> Result<Option<ClassTable<'a>>, AllocError>
+        requires some { 0 < y }
+        requires inside { y ≤ self.now.problem.inputs }
+        requires free { self.now.set % 2 ^ y ≡ 0 }
+        ensures { IfOk result
+            (λ c. IfSome c (λ t. (t ≡ rows_at self.now y) × (y < self.now.level))) }
+    {
+        if !SHORT_LEVELS.contains(&y) || self.level <= y {
+            return Ok(None);
+        }
+        match self.full {
+            Some(_) => Ok(None),
+            None => {
+                let shorter = without_repeats(alloc, &self.numbers, y)?;
+                let Some(numbers) = shorter else {
+                    return Ok(None);
+                };
+                let mut masks = Vec::with_capacity(alloc, self.masks.len())?;
+                masks.extend_from_slice(&self.masks)?;
+                Ok(Some(ClassTable {
+                    problem: self.problem,
+                    set: self.set,
+                    level: y,
+                    full: None,
+                    numbers,
+                    masks,
+                }))
+            }
+        }
+    }
+
+    /// The class table of the set with `x` added. Requires `x < level`; so `x` is smaller than all
+    /// members of the set.
+    pub(crate) fn with_variable(
+        &self,
+        alloc: Global,
+        x: VarIx,
+    ) -> Result<ClassTable<'a>, AllocError>
+        requires inside { x < self.now.problem.inputs }
+        requires below { x < self.now.level }
+        requires free { self.now.set % 2 ^ (x + 1) ≡ 0 }
+        ensures { IfOk result (λ c. c ≡ rows_with self.now x) }
+    {
+        let set = self.set | (1 << x);
+        match self.full {
+            Some(count) => Ok(ClassTable {
+                problem: self.problem,
+                set,
+                level: x,
+                full: Some(count / 2),
+                numbers: Vec::new(alloc),
+                masks: Vec::new(alloc),
+            }),
+            None => {
+                let numbered = numbered_pairs(alloc, &self.numbers, x, &self.masks)?;
+                Ok(table_of(alloc, self.problem, set, x, numbered))
+            }
+        }
+    }
+
+    /// Whether the lower classes show that in the set with `x` added each variable y has at least
+    /// the width `needed[y]`; false shows nothing. This takes less time than `with_variable`.
+    /// Requires `x < level`; so `x` is smaller than all members of the set.
+    pub(crate) fn tells_wide(
+        &self,
+        alloc: Global,
+        x: VarIx,
+        needed: &[u32],
+    ) -> Result<bool, AllocError>
+        requires inside { x < self.now.problem.inputs }
+        requires below { x < self.now.level }
+        requires free { self.now.set % 2 ^ (x + 1) ≡ 0 }
+        requires variables { length needed.now ≤ 16 }
+        ensures { IfOk result
+            (λ wide. IsTrue wide → IsWide (rows_with self.now x) needed.now) }
+    {
+        match self.full {
+            Some(_) => Ok(false),
+            None => are_wide(alloc, &self.numbers, &self.masks, x, needed),
+        }
+    }
+
+    /// The width of `x` over the set without it. Requires that `x` is a member of the set.
+    pub(crate) fn width_into(&self, x: VarIx) -> u32
+        requires { IsTrue (has (set_of (classes_at self.now)) x) }
+        ensures { result ≡ width_over self.now.problem.inputs (functions_of (classes_at self.now))
+            (without x (set_of (classes_at self.now))) x }
+    {
+        match self.full {
+            Some(count) => count,
+            None => count_with(&self.masks, x),
+        }
+    }
+}

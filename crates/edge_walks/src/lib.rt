@@ -1,0 +1,19 @@
+//! The walk of the checker over all sets: the first of the judged edges that fails.
+//!
+//! It shares with the search definitions and laws, the types of problems, the numbering of pairs of
+//! classes and the counting of those that depend on a variable.
+#![tactic(auto)]
+
+mod class_table;
+mod fewer_edges;
+mod lower_classes;
+mod parallel;
+mod position;
+mod repeats;
+mod small_sources;
+mod top_tables;
+mod upper_halves;
+mod walk;
+
+pub use parallel::{CallingThread, ThreadPool, Walker, first_failure};
+pub use position::{Edge, Edges};

@@ -1,0 +1,63 @@
+//! Lower bounds on the widths after adding a variable x to a set. A class of the larger set is a
+//! pair of classes of the smaller one: the lower class, where x is 0, and the class where x is 1.
+//! Distinct lower classes belong to distinct pairs, so there are at least as many pairs as lower
+//! classes, and pairs need not be numbered.
+
+ghost use Rattle.std.specs.Prelude.{◌≡◌, ℕ, ◌<◌, ◌≤◌, ◌^◌, length, slice_index, IfOk, IsTrue};
+ghost use Rattle.subfunction_classes.specs.PairTables.{IsPairTable};
+ghost use Rattle.subfunction_classes.specs.Places as places;
+ghost use Rattle.edge_walks.specs.LowerClasses.{AreLowerMasks, pairs_with};
+
+use order_model::{Mask, VarIx};
+use pair_buckets::pair_at;
+use std::alloc::{AllocError, Global};
+use subfunction_classes::{count_with, join_mask};
+
+/// For each class the union of the masks of the pairs whose lower class it is. The mask of a pair
+/// has the variables that the subfunction joined from both depends on. `numbers` has a class
+/// table's entries, which are paired by `x`, and `masks` the mask of each class.
+fn lower_masks(
+    alloc: Global,
+    numbers: &[u32],
+    x: VarIx,
+    masks: &[Mask],
+) -> Result<Vec<Mask>, AllocError>
+    requires { IsPairTable numbers.now x (length masks.now) }
+    ensures long { IfOk result (λ v. length v.items ≡ length masks.now) }
+    ensures labels { IfOk result
+        (λ v. AreLowerMasks masks.now x (places.pairs numbers.now (2 ^ x)) v.items) }
+{
+    let mut labels = vec![in alloc; 0u16; masks.len()]?;
+    for j in 0..numbers.len() / 2 {
+        let pair = pair_at(numbers, x, j);
+        labels[pair.0 as usize] |= join_mask(masks, x, pair);
+    }
+    Ok(labels)
+}
+
+/// Whether the lower classes show that, for each variable y, at least `needed[y]` distinct pairs of
+/// classes join to subfunctions that depend on y; false shows nothing. `numbers` has a class
+/// table's entries, which are paired by `x`, and `masks` for each class the variables that it
+/// depends on.
+pub(crate) fn are_wide(
+    alloc: Global,
+    numbers: &[u32],
+    masks: &[Mask],
+    x: VarIx,
+    needed: &[u32],
+) -> Result<bool, AllocError>
+    requires table { IsPairTable numbers.now x (length masks.now) }
+    requires few { length masks.now ≤ 2 ^ 20 }
+    requires variables { length needed.now ≤ 16 }
+    ensures { IfOk result
+        (λ wide. IsTrue wide → (y : ℕ) → slice_index needed.now y ≤ pairs_with masks.now x y
+        (places.pairs numbers.now (2 ^ x))) }
+{
+    let labels = lower_masks(alloc, numbers, x, masks)?;
+    for y in 0..needed.len() {
+        if needed[y] > 0 && count_with(&labels, y as VarIx) < needed[y] {
+            return Ok(false);
+        }
+    }
+    Ok(true)
+}

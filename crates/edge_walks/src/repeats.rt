@@ -1,0 +1,117 @@
+//! Rows of a table's entries, without those that have come before.
+
+ghost use Rattle.std.specs.Prelude.{◌≡◌, ℕ, ◌*◌, ◌^◌, ◌<◌, ◌≤◌, ◌++◌, List, [], length, IfOk, IfSome, IsTrue, OnOk};
+ghost use Rattle.edge_walks.specs.Rows.{AreWholeRows, IsShortened};
+
+use order_model::VarIx;
+use std::alloc::{AllocError, Global};
+
+/// The factor of Fibonacci hashing: 2^64 divided by the golden ratio, rounded down.
+const SPREAD: u64 = 0x9E37_79B9_7F4A_7C15;
+
+/// The bucket of a row: a hash of its entries. `buckets` is a power of two.
+fn bucket_of(row: &[u32], buckets: usize) -> usize
+    requires some { 0 < buckets }
+    ensures within { result < buckets }
+{
+    let mut even = 0u64;
+    let mut odd = 0u64;
+    let (fours, _) = row.as_chunks::<4>();
+    for four in fours {
+        let [a, b, c, d] = *four;
+        let first = u64::from(a) | u64::from(b) << 32;
+        let second = u64::from(c) | u64::from(d) << 32;
+        even = (even ^ first).wrapping_mul(SPREAD);
+        odd = (odd ^ second).wrapping_mul(SPREAD);
+    }
+    let key = (even ^ (odd >> 32)).wrapping_mul(SPREAD);
+    (key >> 40) as usize & (buckets - 1)
+}
+
+/// Whether `row` is the row of `kept` at `place`, counted from 1; false at place 0. All rows have
+/// as many entries as `row`.
+fn is_kept(kept: &[u32], place: usize, row: &[u32]) -> bool
+    requires some { 0 < length row.now }
+    ensures { IsTrue result → (front : List ℕ) × (between : List ℕ) × (rows : ℕ)
+        × (kept.now ≡ front ++ (row.now ++ between)) × (length front ≡ rows * length row.now) }
+{
+    let width = row.len();
+    if place == 0 || kept.len() / width < place {
+        return false;
+    }
+    let start = (place - 1) * width;
+    let before = &kept[start..start + width];
+    before == row
+}
+
+/// Whether two equal rows of 2^y entries are found in the first half of `numbers`. A wrong answer
+/// costs time or memory only.
+fn has_repeat(alloc: Global, numbers: &[u32], y: VarIx) -> Result<bool, AllocError>
+    requires variable { y ≤ 16 }
+    requires few { length numbers.now ≤ 2 ^ 20 }
+    requires rows { AreWholeRows (2 ^ y) numbers.now }
+{
+    let width = 1usize << y;
+    let rows = numbers.len() / width / 2;
+    let mut places = vec![in alloc; 0u32; (2 * rows).next_power_of_two()]?;
+    for number in 0..rows {
+        let row = &numbers[number * width..(number + 1) * width];
+        let home = bucket_of(row, places.len());
+        if is_kept(numbers, places[home] as usize, row) {
+            return Ok(true);
+        }
+        places[home] = number as u32 + 1;
+    }
+    Ok(false)
+}
+
+/// Appends the rows of 2^y entries of `numbers` to `kept`, mostly each once, by first occurrence.
+/// Requires that `kept` is empty before. `places` has for each bucket the place in `kept`, counted
+/// from 1, of the last row that was put into this bucket; 0 if there is none.
+fn keep_rows(
+    numbers: &[u32],
+    y: VarIx,
+    places: &mut [u32],
+    kept: &mut Vec<u32>,
+) -> Result<(), AllocError>
+    requires variable { y ≤ 16 }
+    requires few { length numbers.now ≤ 2 ^ 20 }
+    requires rows { AreWholeRows (2 ^ y) numbers.now }
+    requires buckets { 0 < length places.old }
+    requires empty { kept.old.items ≡ [] }
+    ensures { OnOk result ((steps : ℕ) × IsShortened (2 ^ y) steps numbers.now kept.new.items) }
+{
+    let width = 1usize << y;
+    for number in 0..numbers.len() / width {
+        let row = &numbers[number * width..(number + 1) * width];
+        let home = bucket_of(row, places.len());
+        if !is_kept(kept, places[home] as usize, row) {
+            kept.extend_from_slice(row)?;
+            places[home] = (kept.len() / width) as u32;
+        }
+    }
+    Ok(())
+}
+
+/// The rows of 2^y entries of `numbers`, mostly each once, by first occurrence. None if no row is
+/// found to come again in the first half.
+pub(crate) fn without_repeats(
+    alloc: Global,
+    numbers: &[u32],
+    y: VarIx,
+) -> Result<Option<Vec<u32>>, AllocError>
+    requires variable { y ≤ 16 }
+    requires few { length numbers.now ≤ 2 ^ 20 }
+    requires rows { AreWholeRows (2 ^ y) numbers.now }
+    ensures { IfOk result
+        (λ o. IfSome o (λ v. (steps : ℕ) × IsShortened (2 ^ y) steps numbers.now v.items)) }
+{
+    if !has_repeat(alloc, numbers, y)? {
+        return Ok(None);
+    }
+    let buckets = (2 * (numbers.len() >> y)).next_power_of_two();
+    let mut places = vec![in alloc; 0u32; buckets]?;
+    let mut kept = Vec::with_capacity(alloc, numbers.len())?;
+    keep_rows(numbers, y, &mut places, &mut kept)?;
+    Ok(Some(kept))
+}

@@ -1,0 +1,115 @@
+//! Class tables of sets of the highest variables, which tasks share.
+
+ghost use Rattle.std.specs.Prelude.{◌≡◌, ◌-◌, ◌<◌, ◌≤◌, IfOk, IfSome, OnOk};
+ghost use Rattle.std.specs.List.{All};
+ghost use Rattle.edge_walks.specs.Edges.{IsFirstEdge};
+ghost use Rattle.edge_walks.specs.Blocks.{IsBlock, StandsAt};
+ghost use Rattle.edge_walks.specs.Walks.{FailsInBlock};
+
+use crate::class_table::ClassTable;
+use crate::position::{Edge, Position};
+use crate::walk::{first_in_part, has_upper_judged, upper_table};
+use order_model::{Mask, VarIx};
+use std::alloc::{AllocError, Global};
+
+/// The class table of the set where the walk stands, with the highest free variable added. None if
+/// no edge is judged into the larger set, or into it with other free variables added.
+fn judged_upper_table<'t>(
+    alloc: Global,
+    at: Position<'_, 't>,
+) -> Result<Option<ClassTable<'t>>, AllocError>
+    requires { 0 < at.free }
+    ensures { IfOk result
+        (λ o. IfSome o (StandsAt at.entry.edges.problem.now (at.entry.free - 1))) }
+{
+    if !has_upper_judged(at) {
+        return Ok(None);
+    }
+    let larger = upper_table(alloc, at)?;
+    Ok(Some(larger))
+}
+
+/// Appends to `tops` the class tables with the highest free variable of `root` added: to the set of
+/// `root`, and to those of the tables in `tops`. Tables that no judged edge needs are left out.
+fn add_variable<'t>(
+    alloc: Global,
+    root: Position<'_, 't>,
+    tops: &mut Vec<ClassTable<'t>>,
+) -> Result<(), AllocError>
+    requires free { 0 < root.free }
+    requires tops { All (StandsAt root.edges.problem.now root.free) tops.old.items }
+    ensures { OnOk result
+        (All (StandsAt root.entry.edges.problem.now (root.entry.free - 1)) tops.new.items) }
+{
+    let Position { edges, free, .. } = root;
+    let made = tops.len();
+    if let Some(larger) = judged_upper_table(alloc, root)? {
+        tops.push(larger)?;
+    }
+    for i in 0..made {
+        let at = Position {
+            edges,
+            table: &tops[i],
+            free,
+        };
+        if let Some(larger) = judged_upper_table(alloc, at)? {
+            tops.push(larger)?;
+        }
+    }
+    Ok(())
+}
+
+/// The class tables of the non-empty sets of variables from `y` on that the walk needs: an edge is
+/// judged into the set, or into it with smaller variables added. Expects `root` to stand at the
+/// empty set.
+pub(crate) fn top_tables<'t>(
+    alloc: Global,
+    root: Position<'_, 't>,
+    y: VarIx,
+) -> Result<Vec<ClassTable<'t>>, AllocError>
+    requires { y ≤ root.free }
+    ensures { IfOk result (λ v. All (StandsAt root.entry.edges.problem.now y) v.items) }
+{
+    let Position { edges, table, free } = root;
+    let mut tops = Vec::new(alloc);
+    for x in (y..free).rev() {
+        let above = Position {
+            edges,
+            table,
+            free: x + 1,
+        };
+        add_variable(alloc, above, &mut tops)?;
+    }
+    Ok(tops)
+}
+
+/// The first edge that fails among the judged edges into the sets of a part: `part` with any
+/// variables below `end` added. None if none fails. The walk begins at the table in `tops` of those
+/// variables of `part` that are not below `y`, or at `root` if there is none. Requires that `root`
+/// stands at the empty set.
+pub(crate) fn first_from_tops(
+    alloc: Global,
+    root: Position,
+    tops: &[ClassTable],
+    y: VarIx,
+    part: Mask,
+    end: VarIx,
+) -> Result<Option<Edge>, AllocError>
+    requires root { (root.table.now.set ≡ 0) × (root.free ≡ root.edges.problem.now.inputs) }
+    requires tops { All (StandsAt root.edges.problem.now y) tops.now }
+    requires end { (end ≤ y) × (y < root.free) }
+    requires part { IsBlock root.edges.problem.now.inputs part end }
+    ensures { IfOk result (IsFirstEdge (FailsInBlock root.entry.edges part end)) }
+{
+    for table in tops {
+        if table.set() == part >> y << y {
+            let top = Position {
+                edges: root.edges,
+                table,
+                free: y,
+            };
+            return first_in_part(alloc, top, part, end);
+        }
+    }
+    first_in_part(alloc, root, part, end)
+}
