@@ -77,23 +77,21 @@ fn count_option<'a>(alloc: Global) -> Arg<'a>
 fn with_options<'a>(alloc: Global, command: Command<'a>) -> Result<Command<'a>, AllocError>
     ensures { IfOk result (λ c. app_of c ≡ options_of (app_of command.entry)) }
 {
-    let cert = option(
-        alloc,
-        "cert",
-        "OUT",
-        "Write a certificate of the answer to this file, which is emptied before FILE is read",
-    );
-    let above = option(
-        alloc,
-        "above",
-        "LIST",
-        "Pairs A,B:C,D of variables: A has to stand above B, C above D",
-    );
     command
         .arg(workers_option(alloc))?
-        .arg(cert)?
+        .arg(option(
+            alloc,
+            "cert",
+            "OUT",
+            "Write a certificate of the answer to this file, which is emptied before FILE is read",
+        ))?
         .arg(count_option(alloc))?
-        .arg(above)
+        .arg(option(
+            alloc,
+            "above",
+            "LIST",
+            "Pairs A,B:C,D of variables: A has to stand above B, C above D",
+        ))
 }
 
 /// The command line of minorder, as clap matches it.
@@ -105,12 +103,11 @@ fn command<'a>(alloc: Global) -> Result<Command<'a>, AllocError>
             "minorder 1.0.0 finds the first variable order under which the functions of a PLA file have the smallest shared binary decision diagram",
         )
         .no_binary_name(true);
-    let file = required_path(
+    with_options(alloc, command)?.arg(required_path(
         alloc,
         "FILE",
         "A Berkeley PLA file (espresso), of at most 16 inputs and 16 outputs",
-    );
-    with_options(alloc, command)?.arg(file)
+    ))
 }
 
 /// The command line that clap's matches state. None if the file is missing, or the number of
