@@ -2,7 +2,9 @@
 --     good_for, reason_for      what it says of the cover
 --     true_certificate      what a good certificate says of all diagrams
 --     accepted      an accepted certificate is true
-use Rattle.std.proofs.Common.{◌∙◌, List, ℕ, subst}
+--     checked, verdict_written      a verdict whose line is written
+use Rattle.std.proofs.Common.{◌∙◌, List, ℕ, Option, subst}
+use Rattle.std.specs.Io.KnownBytes.{Appends}
 use Rattle.definitions.specs.Certificates.{Certificate, Reason, IsGood, IsFirstReason}
 use Rattle.definitions.specs.Problems.{TruthTables, functions}
 use Rattle.definitions.proofs.Nodes.Construction.{exact_diagram}
@@ -15,7 +17,8 @@ use Rattle.truth_table.specs.OfCovers.{AreTablesOf}
 use Rattle.outcomes.specs.declared.outcome.Outcome.{Outcome}
 use Rattle.outcomes.specs.declared.outcome.Outcome.TheVariants.{Done, Invalid, Refused}
 use Rattle.outcomes.specs.Headline.{AcceptsTruly, IsOptimum}
-use Rattle.check_runs.specs.Judging.{HasVerdict}
+use Rattle.outcomes.specs.Limits.{ReadsWithin, SpellsWithin}
+use Rattle.check_runs.specs.Judging.{ChecksAs, HasVerdict, Verdicts}
 use Rattle.truth_table.proofs.OfCovers.{tables_keep}
 
 pub good_for : (cover : NamedCover) (t : TruthTables) (cert : Certificate) → AreTablesOf cover t → IsGood t.inputs (functions t) cert →
@@ -53,3 +56,17 @@ accepted cover cert file text Done line reads spells verdict = record {
 }
 accepted cover cert file text Invalid line reads spells verdict = record {}
 accepted cover cert file text (Refused fault) line reads spells verdict = record {}
+
+-- a verdict whose line is written
+module _ (cover : NamedCover) (cert : Certificate) (before after : Option (List ℕ)) where
+  pub checked : (file text : List ℕ) (outcome : Outcome) (line : List ℕ) → ReadsWithin file cover → SpellsWithin text cert →
+      HasVerdict cover cert outcome line → Appends before after line → ChecksAs file text before after outcome
+  checked file text Done line reads spells verdict written = (line, (cover, cert, reads, spells, verdict), written)
+  checked file text Invalid line reads spells verdict written = (line, (cover, cert, reads, spells, verdict), written)
+  checked file text (Refused fault) line reads spells verdict written = absurd verdict
+
+  pub verdict_written : (outcome : Outcome) (line : List ℕ) → HasVerdict cover cert outcome line → Appends before after line →
+      Verdicts before after outcome
+  verdict_written Done line verdict written = (cover, cert, line, verdict, written)
+  verdict_written Invalid line verdict written = (cover, cert, line, verdict, written)
+  verdict_written (Refused fault) line verdict written = absurd verdict

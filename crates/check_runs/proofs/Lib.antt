@@ -1,2 +1,3 @@
 pub mod CoverVerdicts
 pub mod OneVerdict
+pub mod CheckEndings

@@ -1,1 +1,2 @@
 pub mod LevelCounts
+pub mod RunEndings
