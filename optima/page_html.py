@@ -64,14 +64,11 @@ def cell(text, order=None, classes="", link=None):
     return (f' class="{classes}"' if classes else "") + (f' data-order="{order}"' if order is not None else "") + f">{said}"
 
 
-def heads_of(columns, sorted_by, classes=None):
-    """The heads of a table's columns, by the names that the page's address has for these."""
-    said = []
-    for key, text in columns.items():
-        mark = ' aria-sort="ascending"' if key == sorted_by else ""
-        own = f' class="{classes[key]}"' if key in (classes or {}) else ""
-        said.append(f'<th scope="col" data-key="{escape(key)}"{own}{mark}>{escape(text)}</th>')
-    return "".join(said)
+def head_cells(columns, sorted_by, classes):
+    """The head cells of a table, each with the key by which the page's address names its column."""
+    return "".join(
+        f'<th scope="col" data-key="{escape(key)}"' + (' aria-sort="ascending"' if key == sorted_by else "")
+        + f'{cell(text, classes=classes.get(key, ""))}</th>' for key, text in columns.items())
 
 
 def league_rows(it):
@@ -158,10 +155,10 @@ def page(it):
     parts = {
         "all": len(it.optima), "small": it.small(), "most_inputs": benchmarks.MOST_INPUTS, "seconds": league.LIMIT,
         "linear": len(it.file[league_page.LINEAR].ended), "version": __version__, "style": part("style.css"),
-        "league_heads": heads_of(LEAGUE_COLUMNS, "random"), "league_rows": "\n".join(league_rows(it)),
-        "function_heads": heads_of(FUNCTION_COLUMNS, "name", FUNCTION_CLASSES),
+        "league_heads": head_cells(LEAGUE_COLUMNS, "random", {}), "league_rows": "\n".join(league_rows(it)),
+        "function_heads": head_cells(FUNCTION_COLUMNS, "name", FUNCTION_CLASSES),
         "function_rows": "\n".join(function_rows(it)),
-        "family_heads": heads_of({**FAMILY_COLUMNS, **{label: label for label in map(" ".join, methods)}}, "family"),
+        "family_heads": head_cells({**FAMILY_COLUMNS, **{label: label for label in map(" ".join, methods)}}, "family", {}),
         "family_rows": "\n".join(family_rows(it, methods)),
         "findings": "\n".join(f"<li>{escape(finding(it)).replace('`', '')}</li>" for finding in league_page.FINDINGS),
         "by_hand": by_hand_items(hand), "licences": licences(),
