@@ -8,3 +8,8 @@ pub mod Positions
 pub mod Layouts
 pub mod SmallCells
 pub mod CoreSteps
+pub mod Filters
+pub mod WantedMembers
+pub mod NeedsByCosts
+pub mod BlockPlaces
+pub mod CellPlaces

@@ -3,6 +3,9 @@ pub mod Rights
 pub mod Pairing
 pub mod Instances
 pub mod Results
+pub mod LayerCosts
+pub mod Needs
+pub mod Placed
 pub mod Events
 pub mod Marked
 pub mod Shown

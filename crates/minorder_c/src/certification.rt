@@ -44,11 +44,7 @@ fn text_of(alloc: Global, tables: &Tables, pairs: Pairs) -> Result<String, Alloc
 {
     let kept = pairs.copied();
     let problem = tables.problem();
-    let Solution {
-        optimum,
-        cells,
-        widths: _,
-    } = solution(alloc, tables, pairs)?;
+    let Solution { optimum, cells } = solution(alloc, tables, pairs)?;
     let text = certificate_text(alloc, problem, &kept, optimum, cells)?;
     Ok(text)
 }

@@ -2,7 +2,7 @@
 --     in_layer      a set of the block is in the layer after the costs'
 --     are_members      the widths that are needed
 --     cell_is      the cell of a set
-use Rattle.std.proofs.Common.{◌≡◌, ℕ, ◌+◌, true, cond, List, [], map, get_or, slice_get, slice_index, Some, sym, ap, ◌∙◌, subst, arith, eq-eqb}
+use Rattle.std.proofs.Common.{◌≡◌, ℕ, ◌+◌, ◌≤◌, true, cond, List, [], map, get_or, slice_get, slice_index, Some, sym, ap, ◌∙◌, subst, arith, eq-eqb}
 use Rattle.std.specs.Int.{bit_at}
 use Rattle.std.proofs.lemmas.List.{get_or-map}
 use Rattle.std.proofs.lemmas.Option.{slice_get_within, get_or_from_slice_get}
@@ -11,19 +11,20 @@ use Rattle.definitions.specs.Orders.{has, members, without}
 use Rattle.definitions.specs.Pairs.{is_lawful}
 use Rattle.definitions.specs.Problems.{TruthTables, functions}
 use Rattle.definitions.specs.Widths.{width}
-use Rattle.definitions.specs.LowerBounds.{LowerBoundsOf}
+use Rattle.definitions.specs.KeptPairs.{KeptPairs}
+use Rattle.definitions.specs.LowerBounds.{LowerBoundsOf, lower_bounds_with}
+use Rattle.definitions.specs.declared.limits.Limit.{Limit}
 use Rattle.definitions.specs.Cells.{asked, wanted, cell_of}
 use Rattle.definitions.proofs.Bits.Masks.{members_small}
 use Rattle.subset_layers.specs.Layers.{LayerOf, BlockOf, layer_of, layer_with, masks_of, block_masks}
 use Rattle.subset_layers.specs.Costs.{CostsOf, cost_without, AreTrueCosts, AreWidthsFor, IsCellOnce}
 use Rattle.layer_core.specs.Instances.{InstanceOf, cell_for}
 use Rattle.compaction.specs.Rows.{width_wanted, IsWidthRow, AreMembers, AreWidthRows}
-use Rattle.solutions.specs.Instances.{HoldsInstance}
-use Rattle.solutions.specs.Needs.{needed}
-use Rattle.solutions.proofs.WantedMembers.{wanted_member, wanted_bit, bit_wanted}
-use Rattle.solutions.proofs.BlockPlaces.{block_has}
+use Rattle.layer_core.specs.Needs.{needed}
+use Rattle.layer_core.proofs.WantedMembers.{wanted_member, wanted_bit, bit_wanted}
+use Rattle.layer_core.proofs.BlockPlaces.{block_has}
 use Rattle.order_solve.specs.LayerContexts.{ContextOf, IsContext}
-use Rattle.solutions.proofs.NeedsByCosts.{wanted_by_costs}
+use Rattle.layer_core.proofs.NeedsByCosts.{wanted_by_costs}
 
 -- the row of a set
 pub row_there : (p : TruthTables) (masks needs : List ℕ) (rows : List (List ℕ)) (i mask need : ℕ) (row : List ℕ) →
@@ -64,7 +65,7 @@ module _ (b : ContextOf) (h : IsContext b) where
   in_layer blk e i mask is = subst (λ (l : LayerOf). has (masks_of l) mask ≡ true) (e ∙ own_layer) (block_has blk i mask is)
 
   -- the widths of a set, as its cell takes them
-  module _ (v : LowerBoundsOf) (s : HoldsInstance t v) (mask : ℕ) (next : has (masks_of (layer_with c.inputs (c.size + 1))) mask ≡ true) (row : List ℕ)
+  module _ (few : t.problem.inputs ≤ 16) (mask : ℕ) (next : has (masks_of (layer_with c.inputs (c.size + 1))) mask ≡ true) (row : List ℕ)
       (is_row : IsWidthRow t.problem mask (needed t mask) row) where
     wanted_has : (x : ℕ) → is_lawful t.pairs.pairs (members c.inputs mask) ≡ true →
         has (asked c.inputs t.lower_bound t.bound mask (cost_without c mask)) x ≡ true →
@@ -86,10 +87,14 @@ module _ (b : ContextOf) (h : IsContext b) where
     widths_are low x m =
         let w = wanted_has x low m in
         let small = members_small t.problem.inputs mask x (wanted_member t.problem.inputs F t.pairs.pairs t.lower_bound t.bound mask x w) in
-        is_row x (omega (arith, small, s.few)) ∙ width_there x (bit_there x w)
+        is_row x (omega (arith, small, few)) ∙ width_there x (bit_there x w)
         ∙ ap (λ k. width k F (without x (members k mask)) x) (sym h.inputs)
 
-    pub cell_is : (cell : ℕ × ℕ) → IsCellOnce v t.pairs.pairs t.bound mask c row cell → cell ≡ cell_for t mask
-    cell_is cell f =
-        subst (λ (u : LowerBoundsOf). IsCellOnce u t.pairs.pairs t.bound mask c row cell) s.lower_bounds_are f own_costs widths_are
+    pub cell_is : (v : LowerBoundsOf) (l : Limit) (pairs : KeptPairs) (cell : ℕ × ℕ) → v ≡ lower_bounds_with t.problem t.lower_bound →
+        l ≡ record { bound = t.bound; lower_bound = t.lower_bound } → pairs ≡ t.pairs → IsCellOnce v pairs.pairs l.bound mask c row cell →
+        cell ≡ cell_for t mask
+    cell_is v l pairs cell v_is l_is pairs_are f =
+        subst (λ (u : LowerBoundsOf). IsCellOnce u t.pairs.pairs t.bound mask c row cell) v_is
+        (subst (λ (z : Limit). IsCellOnce v t.pairs.pairs z.bound mask c row cell) l_is
+        (subst (λ (z : KeptPairs). IsCellOnce v z.pairs l.bound mask c row cell) pairs_are f)) own_costs widths_are
         ∙ ap (λ k. cell_of k F t.pairs.pairs t.lower_bound t.bound mask) h.inputs

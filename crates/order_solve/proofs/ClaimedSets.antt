@@ -15,10 +15,10 @@ use Rattle.layer_core.specs.Machine.{claimed, claims_block}
 use Rattle.layer_core.specs.Instances.{InstanceOf}
 use Rattle.layer_board.specs.Views.{BoardId, SeatOf, stepped, claims_place, has_claimed}
 use Rattle.layer_core.proofs.Layouts.{place_found, place_missing, block_at, few_masks_in}
-use Rattle.solutions.specs.Needs.{width_count, widths_for}
-use Rattle.solutions.proofs.Filters.{sum_few}
-use Rattle.solutions.proofs.WantedMembers.{few_each}
-use Rattle.solutions.proofs.BlockPlaces.{block_layer, in_place}
+use Rattle.layer_core.specs.Needs.{width_count, widths_for}
+use Rattle.layer_core.proofs.Filters.{sum_few}
+use Rattle.layer_core.proofs.WantedMembers.{few_each}
+use Rattle.layer_core.proofs.BlockPlaces.{block_layer, in_place}
 use Rattle.order_solve.specs.Gains.{gains, gained}
 
 -- ---- a mask and its block

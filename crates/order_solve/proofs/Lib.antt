@@ -3,3 +3,5 @@ pub mod Posts
 pub mod ClaimedSets
 pub mod Rounds
 pub mod SiftedBounds
+pub mod Harmless
+pub mod LayerLists

@@ -5,7 +5,7 @@ use Rattle.std.specs.Prelude.{◌≡◌, ◌+◌}
 use Rattle.subset_layers.specs.Layers.{LayerOf, layer_with}
 use Rattle.subset_layers.specs.Costs.{CostsOf}
 use Rattle.layer_core.specs.Instances.{InstanceOf}
-use Rattle.solutions.specs.LayerCosts.{AreCostsFor}
+use Rattle.layer_core.specs.LayerCosts.{AreCostsFor}
 
 -- what the cells are for, the layer, and the costs of the layer before
 pub record ContextOf : Type 0 where

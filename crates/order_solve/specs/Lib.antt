@@ -1,2 +1,3 @@
 pub mod LayerContexts
 pub mod Gains
+pub mod SearchStarts

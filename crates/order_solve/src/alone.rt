@@ -2,13 +2,14 @@
 
 ghost use Rattle.std.specs.Prelude.{◌≡◌, length, IfOk};
 ghost use Rattle.subset_layers.specs.Layers.{masks_of};
-ghost use Rattle.solutions.specs.LayerCosts.{AreAllLayers, AreCells, AreDone, IsLayerFor};
+ghost use Rattle.layer_core.specs.LayerCosts.{AreAllLayers, AreCells, AreDone, IsLayerFor};
 
 use crate::cells::cells_of_block;
 use crate::context::LayerContext;
+use crate::layers::first_layer;
 use crate::look_ahead::look_ahead;
 use compaction::{Preparation, Tally, WidthSource, renaming_of};
-use solutions::{Instance, first_layer, place_cells};
+use layer_core::{Instance, place_cells};
 use std::alloc::{AllocError, Global};
 use subset_layers::{Cell, Costs, Layer};
 
@@ -49,7 +50,7 @@ fn next_layer_alone(
 {
     let layer = Layer::of(alloc, instance.inputs(), done.len() as u8)?;
     let before = &done[done.len() - 1];
-    let context = LayerContext::new(instance, &layer, before).with_source(source);
+    let context = LayerContext::new(instance, &layer, before, source);
     let cells = cells_alone(alloc, &context)?;
     Ok(Costs::of(layer, cells))
 }
@@ -81,7 +82,7 @@ fn layers_from(
 pub(crate) fn layers_alone(alloc: Global, instance: &Instance<'_>) -> Result<Vec<Costs>, AllocError>
     ensures { IfOk result (λ v. AreAllLayers instance.now v.items) }
 {
-    let renaming = renaming_of(alloc, instance.problem)?;
-    let prepared = Preparation::of(alloc, &renaming, instance.pairs)?;
+    let renaming = renaming_of(alloc, instance.problem())?;
+    let prepared = Preparation::of(alloc, &renaming, instance.pairs())?;
     layers_from(alloc, instance, prepared)
 }

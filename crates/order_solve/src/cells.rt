@@ -1,42 +1,17 @@
 //! The cells of a block's sets.
 
 ghost use Rattle.std.specs.Prelude.{◌≡◌, ◌+◌, ◌^◌, ◌≤◌, map, IfOk, OnOk};
-ghost use Rattle.compaction.specs.Rows.{AreWidthRows, wanted_count};
-ghost use Rattle.compaction.specs.Walks.{AreAsked, AreRowsOf};
+ghost use Rattle.compaction.specs.Rows.{AreWidthRows};
 ghost use Rattle.subset_layers.specs.Layers.{layer_of, block_masks};
-ghost use Rattle.solutions.specs.Needs.{needed, widths_for};
-ghost use Rattle.solutions.specs.LayerCosts.{AreCells};
+ghost use Rattle.layer_core.specs.Needs.{needed, widths_for};
+ghost use Rattle.layer_core.specs.LayerCosts.{AreCells};
 
 use crate::context::LayerContext;
-use compaction::{Tally, block_widths};
-use order_model::{Mask, WidthRow};
-use solutions::needs_of_block;
+use compaction::Tally;
+use layer_core::needs_of_block;
+use order_model::WidthRow;
 use std::alloc::{AllocError, Global};
 use subset_layers::{Block, Cell, least_cell};
-
-/// For each set of the block, the widths of its members in `needed`, and 0 elsewhere. They come
-/// from the context's source if it has one, else from a walk. The tally rises by the number of
-/// widths.
-fn widths_of(
-    alloc: Global,
-    block: &Block,
-    context: &LayerContext<'_>,
-    needed: &[Mask],
-    tally: &mut Tally,
-) -> Result<Vec<WidthRow>, AllocError>
-    requires asked { AreAsked context.now.instance.problem block.now needed.now }
-    requires room { tally.old + wanted_count needed.now ≤ 2 ^ 32 }
-    ensures rows { IfOk result
-        (λ rows. AreRowsOf context.now.instance.problem block.now needed.now rows.items) }
-    ensures counts { OnOk result (tally.new ≡ tally.old + wanted_count needed.now) }
-{
-    let instance = context.instance;
-    let Some(source) = context.source else {
-        let widths = block_widths(alloc, instance.problem, block, needed, tally)?;
-        return Ok(widths.into_rows());
-    };
-    source.block_rows(alloc, block, needed, tally)
-}
 
 /// The cells of a block's sets, in the block's order. `rows` has a row of widths for each set.
 fn cells_by_rows(
@@ -51,6 +26,7 @@ fn cells_by_rows(
     ensures { IfOk result (λ v. AreCells context.now.instance (block_masks block.now) v.items) }
 {
     let instance = context.instance;
+    prove!(instance.inputs() <= 16);
     let mut cells = Vec::with_capacity(alloc, block.len())?;
     for (i, mask) in block.masks().iter().enumerate() {
         let row = rows[i];
@@ -58,9 +34,9 @@ fn cells_by_rows(
             *mask,
             context.before,
             &row,
-            instance.limit.bound,
-            &instance.lower_bounds,
-            instance.pairs,
+            instance.limit().bound,
+            instance.lower_bounds(),
+            instance.pairs(),
         ))?;
     }
     Ok(cells)
@@ -80,8 +56,8 @@ pub(crate) fn cells_of_block(
     ensures counts { OnOk result
         (tally.new ≡ tally.old + widths_for context.now.instance (block_masks block.now)) }
 {
-    prove!(context.instance.inputs() <= 16);
+    let source = context.source;
     let needs = needs_of_block(alloc, context.instance, context.before, block)?;
-    let rows = widths_of(alloc, block, context, &needs, tally)?;
+    let rows = source.block_rows(alloc, block, &needs, tally)?;
     cells_by_rows(alloc, block, context, &rows)
 }

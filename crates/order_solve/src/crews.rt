@@ -3,14 +3,14 @@
 ghost use Rattle.std.specs.Prelude.{◌≡◌, ◌≤◌, All, IfOk, vec_len};
 ghost use Rattle.std.specs.Thread.{IsSync};
 ghost use Rattle.subset_layers.specs.Layers.{masks_of};
-ghost use Rattle.solutions.specs.LayerCosts.{AreCells};
+ghost use Rattle.layer_core.specs.LayerCosts.{AreCells};
 
 use crate::alone::cells_alone;
 use crate::context::LayerContext;
+use crate::guesses::busy_workers;
 use crate::worker::{WorkerResult, work_layer};
 use layer_board::{Board, BoardSeat, CloseError};
 use order_model::{Crew, Gate};
-use solutions::busy_workers;
 use std::alloc::{AllocError, Global};
 use std::thread;
 use std::thread::Threads;
@@ -103,11 +103,11 @@ pub(crate) fn cells_of_layer<R: Threads + Sync, G: Gate>(
     let instance = context.instance;
     let (board, seats) = Board::new(
         alloc,
-        instance.problem,
-        instance.limit,
+        instance.problem(),
+        instance.limit(),
         context.layer,
         busy_workers(instance, context.layer, crew.workers),
-        instance.pairs,
+        instance.pairs(),
     )?;
     let seat = post_by_workers(crew, alloc, &board, seats, context)?;
     match board.close(alloc, seat) {

@@ -1,17 +1,27 @@
 //! The layers of all sets, one after another, by workers.
 
 ghost use Rattle.std.specs.Prelude.{◌≡◌, IfOk, length};
-ghost use Rattle.solutions.specs.LayerCosts.{AreAllLayers, AreDone, IsLayerFor};
+ghost use Rattle.layer_core.specs.LayerCosts.{AreAllLayers, AreDone, AreLayersFor, IsLayerFor};
 
 use crate::context::LayerContext;
 use crate::crews::cells_of_layer;
 use crate::look_ahead::look_ahead;
 use compaction::{Preparation, WidthSource};
+use layer_core::Instance;
 use order_model::{Crew, Gate};
-use solutions::{Instance, first_layer};
 use std::alloc::{AllocError, Global};
 use std::thread::Threads;
 use subset_layers::{Costs, Layer};
+
+/// A list of one layer, that of the empty set.
+pub(crate) fn first_layer(alloc: Global, instance: &Instance<'_>) -> Result<Vec<Costs>, AllocError>
+    ensures one { IfOk result (λ v. length v.items ≡ 1) }
+    ensures layers { IfOk result (λ v. AreLayersFor instance.now v.items) }
+{
+    let mut layers = Vec::new(alloc);
+    layers.push(Costs::start(alloc, instance.inputs())?)?;
+    Ok(layers)
+}
 
 /// The cells of the layer after those in `done`, by workers, with widths from `source`.
 fn next_layer<R: Threads + Sync, G: Gate>(
@@ -27,7 +37,7 @@ fn next_layer<R: Threads + Sync, G: Gate>(
 {
     let layer = Layer::of(alloc, instance.inputs(), done.len() as u8)?;
     let before = &done[done.len() - 1];
-    let context = LayerContext::new(instance, &layer, before).with_source(source);
+    let context = LayerContext::new(instance, &layer, before, source);
     let cells = cells_of_layer(crew, alloc, &context)?;
     Ok(Costs::of(layer, cells))
 }

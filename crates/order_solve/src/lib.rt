@@ -5,6 +5,7 @@
 // The solver: the layers one after another, by workers or by the calling thread.
 mod alone;
 mod crews;
+mod guesses;
 mod layers;
 mod look_ahead;
 mod preparation;
@@ -15,10 +16,11 @@ mod cells;
 mod context;
 mod worker;
 
-pub use compaction::{Preparation, renaming_of};
+pub use compaction::{Preparation, WidthSource, renaming_of};
 pub use context::LayerContext;
-pub use preparation::prepare;
-pub use solutions::{Instance, Solution};
-pub use solver::{find_optimum, find_optimum_alone, solve, solve_alone};
+pub use layer_core::Instance;
+pub use preparation::{SearchStart, prepare};
+pub use solutions::Solution;
+pub use solver::{count_widths, find_optimum, find_optimum_alone, solve, solve_alone};
 pub use symmetries::Renaming;
 pub use worker::{WorkerResult, work_layer};

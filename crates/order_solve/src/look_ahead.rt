@@ -2,11 +2,12 @@
 
 ghost use Rattle.std.specs.Prelude.{◌≡◌};
 ghost use Rattle.subset_layers.specs.Layers.{layer_of};
-ghost use Rattle.solutions.specs.LayerCosts.{AreDone};
+ghost use Rattle.layer_core.specs.LayerCosts.{AreDone};
 
 use crate::context::LayerContext;
+use crate::guesses::likely_end;
 use compaction::{Preparation, Requests, WidthSource};
-use solutions::{Instance, likely_end, needs_of_block};
+use layer_core::{Instance, needs_of_block};
 use std::alloc::{AllocError, Global};
 use subset_layers::{Block, Costs, Layer};
 
@@ -18,18 +19,14 @@ pub(crate) struct LookAhead {
 }
 
 /// Whether of each lawful set of the block all widths were found ahead, in the row of its image.
-fn is_found(
-    context: &LayerContext<'_>,
-    prepared: &Preparation<'_>,
-    source: &WidthSource<'_>,
-    block: &Block,
-) -> bool
+fn is_found(context: &LayerContext<'_>, prepared: &Preparation<'_>, block: &Block) -> bool
     requires prepared { prepared.now.problem ≡ context.now.instance.problem }
     requires layer { layer_of block.now ≡ context.now.layer }
 {
     let instance = context.instance;
+    let source = context.source;
     for set in block.masks() {
-        if instance.pairs.lawful(*set) && !source.is_found(prepared.image_of(*set).set) {
+        if instance.lawful(*set) && !source.is_found(prepared.image_of(*set).set) {
             return false;
         }
     }
@@ -42,7 +39,6 @@ fn add_needs(
     alloc: Global,
     context: &LayerContext<'_>,
     prepared: &Preparation<'_>,
-    source: &WidthSource<'_>,
     block: &Block,
     requests: &mut Requests,
 ) -> Result<(), AllocError>
@@ -50,6 +46,7 @@ fn add_needs(
     requires layer { layer_of block.now ≡ context.now.layer }
 {
     let needs = needs_of_block(alloc, context.instance, context.before, block)?;
+    let source = context.source;
     for (i, set) in block.masks().iter().enumerate() {
         let image = prepared.image_of(*set);
         if needs[i] != 0 && !source.is_found(image.set) {
@@ -59,26 +56,27 @@ fn add_needs(
     Ok(())
 }
 
-/// Requests for the widths that the cells of the layer after those in `done` take. Blocks of which
-/// all rows were found ahead request nothing.
+/// Requests for the widths that the cells of the layer after those in `done` take, for what
+/// `source` does not have. Blocks of which all rows were found ahead request nothing.
 fn requests_of_layer(
     alloc: Global,
     instance: &Instance<'_>,
     prepared: &Preparation<'_>,
+    source: &WidthSource<'_>,
     done: &[Costs],
 ) -> Result<Requests, AllocError>
     requires prepared { prepared.now.problem ≡ instance.now.problem }
+    requires source { source.now ≡ instance.now.problem }
     requires done { AreDone instance.now done.now }
 {
     let layer = Layer::of(alloc, instance.inputs(), done.len() as u8)?;
     let before = &done[done.len() - 1];
-    let context = LayerContext::new(instance, &layer, before);
+    let context = LayerContext::new(instance, &layer, before, source);
     let mut requests = prepared.requests(alloc)?;
-    let source = prepared.source();
     for place in 0..layer.blocks() {
         let block = layer.block(place);
-        if !is_found(&context, prepared, &source, &block) {
-            add_needs(alloc, &context, prepared, &source, &block, &mut requests)?;
+        if !is_found(&context, prepared, &block) {
+            add_needs(alloc, &context, prepared, &block, &mut requests)?;
         }
     }
     Ok(requests)
@@ -96,7 +94,8 @@ pub(crate) fn look_ahead(
     requires prepared { prepared.now.problem ≡ instance.now.problem }
     requires done { AreDone instance.now done.now }
 {
-    let mut requests = requests_of_layer(alloc, instance, prepared, done)?;
+    let source = prepared.source();
+    let mut requests = requests_of_layer(alloc, instance, prepared, &source, done)?;
     if requests.is_empty() {
         return Ok(None);
     }

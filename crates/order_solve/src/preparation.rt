@@ -1,23 +1,49 @@
-//! What a search can do before its bound is known.
+//! What a search begins with, found before its bound is known.
 
 ghost use Rattle.std.specs.Prelude.{◌≡◌, IfOk};
+ghost use Rattle.definitions.specs.Problems.{functions};
+ghost use Rattle.order_solve.specs.SearchStarts.{IsStartFor};
+ghost use Rattle.symmetric_pairs.specs.SymmetricPairs.{IsHarmless};
 
+use crate::guesses::layers_to_prepare;
 use compaction::Preparation;
 use order_model::{Limit, LowerBound, Pairs, Problem, Workers};
-use solutions::{layers_to_prepare, pairs_to_keep};
 use std::alloc::{AllocError, Global};
+use std::marker::Model;
 use std::thread::Threads;
+use symmetric_pairs::pairs_to_keep;
 use symmetries::Renaming;
 
-/// The pairs that a search with this lower bound is likely to keep if those in `asked` are
-/// required.
-fn likely_pairs(
+/// What a search begins with: the pairs that it keeps, and what serves all its layers, with rows of
+/// widths that were found ahead.
+#[derive(Drop)]
+pub struct SearchStart<'a> {
+    pub(crate) prepared: Preparation<'a>,
+    pub(crate) kept: Pairs,
+}
+
+impl<'a> Model for SearchStart<'a> {
+    ghost use Rattle.std.specs.Prelude.{◌≡◌};
+    ghost use Rattle.order_solve.specs.SearchStarts.{StartOf};
+
+    ghost Value = { StartOf };
+
+    ghost view = { λ s. record { problem = s.prepared.problem; kept = s.kept.pairs } };
+
+    ghost invariant = { λ s. s.kept.inputs ≡ s.prepared.problem.inputs };
+}
+
+/// The pairs that a search with this lower bound keeps if those in `asked` are required.
+fn kept_pairs(
     alloc: Global,
     problem: &Problem,
     asked: &Pairs,
     lower_bound: LowerBound,
 ) -> Result<Pairs, AllocError>
     requires { asked.now.inputs ≡ problem.now.inputs }
+    ensures inputs { IfOk result (λ p. p.inputs ≡ problem.now.inputs) }
+    ensures harmless { IfOk result
+        (λ p. IsHarmless problem.now.inputs (functions problem.now) asked.now.pairs p.pairs) }
 {
     match lower_bound {
         LowerBound::Widths => pairs_to_keep(alloc, problem, asked),
@@ -36,17 +62,17 @@ pub fn prepare<'a, R: Threads + Sync>(
     pairs: &Pairs,
     limit: Limit,
     workers: Workers,
-) -> Result<Preparation<'a>, AllocError>
+) -> Result<SearchStart<'a>, AllocError>
     requires { pairs.now.inputs ≡ renaming.now.problem.inputs }
-    ensures { IfOk result (λ p. p.problem ≡ renaming.now.problem) }
+    ensures { IfOk result (IsStartFor renaming.now.problem pairs.now.pairs) }
 {
     let problem = renaming.problem();
-    let kept = likely_pairs(alloc, problem, pairs, limit.lower_bound)?;
-    if workers.count() == 1 {
-        let prepared = Preparation::of(alloc, renaming, &kept)?;
-        return Ok(prepared);
-    }
-    let end = layers_to_prepare(problem, pairs, &kept, limit);
-    let prepared = Preparation::by_workers(rt, alloc, renaming, &kept, end, workers)?;
-    Ok(prepared)
+    let kept = kept_pairs(alloc, problem, pairs, limit.lower_bound)?;
+    let prepared = if workers.count() == 1 {
+        Preparation::of(alloc, renaming, &kept)?
+    } else {
+        let end = layers_to_prepare(problem, pairs, &kept, limit);
+        Preparation::by_workers(rt, alloc, renaming, &kept, end, workers)?
+    };
+    Ok(SearchStart { prepared, kept })
 }

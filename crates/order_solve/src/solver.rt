@@ -4,18 +4,21 @@ ghost use Rattle.std.specs.Prelude.{◌≡◌, IfOk};
 ghost use Rattle.definitions.specs.Problems.{functions};
 ghost use Rattle.definitions.specs.declared.limits.LowerBound.TheVariants.{Variables};
 ghost use Rattle.definitions.specs.Cells.{widths_taken};
-ghost use Rattle.symmetries.specs.SymmetricPairs.{IsHarmless};
+ghost use Rattle.order_solve.specs.SearchStarts.{IsStartFor};
+ghost use Rattle.symmetric_pairs.specs.SymmetricPairs.{IsHarmless};
 ghost use Rattle.solutions.specs.Bounded.{IsBounded};
 ghost use Rattle.solutions.specs.Solutions.{IsOptimumFor, IsSolution};
 
 use crate::alone::layers_alone;
 use crate::layers::layers_of;
-use compaction::Preparation;
+use crate::preparation::SearchStart;
+use layer_core::Instance;
 use order_model::{Crew, Gate, Limit, LowerBound, Pairs, Problem, SizedOrder, Workers};
 use sifting::Sifted;
-use solutions::{AllCells, Instance, Solution, optimum_of, pairs_to_keep, solution_of};
+use solutions::{AllCells, Solution, optimum_of, solution_of};
 use std::alloc::{AllocError, Global};
 use std::thread::Threads;
+use symmetric_pairs::pairs_to_keep;
 
 /// The problem instance of a search that keeps `pairs`. Its bound is the size of the sifted order.
 /// An order that keeps the pairs of the sifted one can be changed into one that keeps `pairs`.
@@ -45,24 +48,23 @@ fn instance_of<'a>(
 }
 
 /// The first order of the fewest nodes among those that keep the pairs of `sifted`. The size of the
-/// sifted order bounds the search, which uses the lower bound by widths and begins with what was
-/// prepared. Workers call the gate for each set but the empty one.
+/// sifted order bounds the search, which uses the lower bound by widths. Workers call the gate for
+/// each set but the empty one.
 ///
 /// The only error is that memory is wanting; no layer is then done over.
 pub fn find_optimum<R: Threads + Sync, G: Gate>(
     rt: &R,
     alloc: Global,
-    prepared: Preparation<'_>,
+    start: SearchStart<'_>,
     sifted: Sifted,
     workers: Workers,
     gate: &G,
 ) -> Result<SizedOrder, AllocError>
-    requires { sifted.problem ≡ prepared.problem }
-    ensures { IfOk result (IsOptimumFor prepared.entry.problem sifted.pairs) }
+    requires { IsStartFor sifted.problem sifted.pairs start }
+    ensures { IfOk result (IsOptimumFor sifted.problem sifted.pairs) }
 {
-    let problem = prepared.problem();
-    let pairs = pairs_to_keep(alloc, problem, sifted.pairs())?;
-    let instance = instance_of(problem, &sifted, &pairs, LowerBound::Widths);
+    let SearchStart { prepared, kept } = start;
+    let instance = instance_of(prepared.problem(), &sifted, &kept, LowerBound::Widths);
     let layers = layers_of(&Crew::new(rt, workers, gate), alloc, &instance, prepared)?;
     let cells = AllCells::of_layers(&instance, layers);
     optimum_of(alloc, &cells)
@@ -80,7 +82,8 @@ pub fn find_optimum_alone(
 {
     let pairs = pairs_to_keep(alloc, problem, sifted.pairs())?;
     let instance = instance_of(problem, &sifted, &pairs, LowerBound::Widths);
-    let cells = AllCells::of_layers(&instance, layers_alone(alloc, &instance)?);
+    let layers = layers_alone(alloc, &instance)?;
+    let cells = AllCells::of_layers(&instance, layers);
     optimum_of(alloc, &cells)
 }
 
@@ -90,17 +93,15 @@ pub fn find_optimum_alone(
 pub fn solve<R: Threads + Sync, G: Gate>(
     rt: &R,
     alloc: Global,
-    prepared: Preparation<'_>,
+    start: SearchStart<'_>,
     sifted: Sifted,
     workers: Workers,
     gate: &G,
 ) -> Result<Solution, AllocError>
-    requires { sifted.problem ≡ prepared.problem }
-    ensures solution { IfOk result (IsSolution prepared.entry.problem sifted.pairs) }
-    ensures widths { IfOk result
-        (λ s. s.widths ≡ widths_taken prepared.entry.problem.inputs
-        (functions prepared.entry.problem) sifted.pairs Variables sifted.size) }
+    requires { sifted.problem ≡ start.problem }
+    ensures { IfOk result (IsSolution sifted.problem sifted.pairs) }
 {
+    let SearchStart { prepared, kept: _ } = start;
     let problem = prepared.problem();
     let instance = instance_of(problem, &sifted, sifted.pairs(), LowerBound::Variables);
     let layers = layers_of(&Crew::new(rt, workers, gate), alloc, &instance, prepared)?;
@@ -112,12 +113,23 @@ pub fn solve<R: Threads + Sync, G: Gate>(
 /// certificate lists, by the calling thread alone.
 pub fn solve_alone(alloc: Global, problem: &Problem, sifted: Sifted) -> Result<Solution, AllocError>
     requires { sifted.problem ≡ problem.now }
-    ensures solution { IfOk result (IsSolution problem.now sifted.pairs) }
-    ensures widths { IfOk result
-        (λ s. s.widths ≡ widths_taken problem.now.inputs (functions problem.now) sifted.pairs
+    ensures { IfOk result (IsSolution problem.now sifted.pairs) }
+{
+    let instance = instance_of(problem, &sifted, sifted.pairs(), LowerBound::Variables);
+    let layers = layers_alone(alloc, &instance)?;
+    let cells = AllCells::of_layers(&instance, layers);
+    solution_of(alloc, &cells)
+}
+
+/// How many widths the cells of all sets take in the search of `solve_alone`.
+pub fn count_widths(alloc: Global, problem: &Problem, sifted: Sifted) -> Result<u64, AllocError>
+    requires { sifted.problem ≡ problem.now }
+    ensures { IfOk result
+        (λ count. count ≡ widths_taken problem.now.inputs (functions problem.now) sifted.pairs
         Variables sifted.size) }
 {
     let instance = instance_of(problem, &sifted, sifted.pairs(), LowerBound::Variables);
-    let cells = AllCells::of_layers(&instance, layers_alone(alloc, &instance)?);
-    solution_of(alloc, &cells)
+    let layers = layers_alone(alloc, &instance)?;
+    let cells = AllCells::of_layers(&instance, layers);
+    Ok(solutions::count_widths(&cells))
 }

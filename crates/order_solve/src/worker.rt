@@ -6,8 +6,8 @@ ghost use Rattle.subset_layers.specs.Layers.{block_masks};
 ghost use Rattle.layer_core.specs.Instances.{cell_for};
 ghost use Rattle.layer_board.specs.Views.{has_claimed, knows_filled};
 ghost use Rattle.layer_core.specs.Pairing.{pair_of};
-ghost use Rattle.solutions.specs.Needs.{widths_for};
-ghost use Rattle.solutions.specs.LayerCosts.{AreCells};
+ghost use Rattle.layer_core.specs.Needs.{widths_for};
+ghost use Rattle.layer_core.specs.LayerCosts.{AreCells};
 ghost use Rattle.order_solve.specs.Gains.{gains, gained, IsPosted, StaysClaimed};
 
 use crate::cells::cells_of_block;

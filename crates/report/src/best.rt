@@ -1,10 +1,11 @@
 //! The first order of the fewest nodes, and what its certificate lists.
 
 ghost use Rattle.std.specs.Prelude.{◌≡◌, IfOk, Some};
+ghost use Rattle.order_solve.specs.SearchStarts.{IsStartFor};
 ghost use Rattle.report.specs.Bests.{IsBestFor};
 
 use order_model::{ListedCell, NoGate, Pairs, Problem, SizedOrder, Workers};
-use order_solve::{Preparation, Solution, find_optimum, solve};
+use order_solve::{SearchStart, Solution, find_optimum, solve};
 use sifting::Sifted;
 use std::alloc::{AllocError, Global};
 use std::thread::Threads;
@@ -36,19 +37,19 @@ impl Best {
 pub(crate) fn best_order<R: Threads + Sync>(
     rt: &R,
     alloc: Global,
-    prepared: Preparation<'_>,
+    start: SearchStart<'_>,
     bound: Sifted,
     workers: Workers,
     certify: bool,
 ) -> Result<Best, AllocError>
-    requires { bound.problem ≡ prepared.problem }
-    ensures { IfOk result (IsBestFor prepared.entry.problem bound.pairs certify) }
+    requires { IsStartFor bound.problem bound.pairs start }
+    ensures { IfOk result (IsBestFor bound.problem bound.pairs certify) }
 {
     if certify {
-        let solution = solve(rt, alloc, prepared, bound, workers, &NoGate)?;
+        let solution = solve(rt, alloc, start, bound, workers, &NoGate)?;
         return Ok(Best::of(solution));
     }
-    let optimum = find_optimum(rt, alloc, prepared, bound, workers, &NoGate)?;
+    let optimum = find_optimum(rt, alloc, start, bound, workers, &NoGate)?;
     Ok(Best {
         optimum,
         cells: None,

@@ -3,6 +3,7 @@
 
 ghost use Rattle.std.specs.Prelude.{◌≡◌, IfOk, sum};
 ghost use Rattle.std.specs.Thread.{IsSync};
+ghost use Rattle.order_solve.specs.SearchStarts.{IsStartFor};
 ghost use Rattle.report.specs.Found.{IsStartingManager, IsFound, IsSiftingFor, IsSiftingOf};
 ghost use Rattle.report.specs.StartingDiagrams.{IsStartingDiagram};
 ghost use Rattle.report_texts.specs.Texts.{file_order_levels};
@@ -11,7 +12,7 @@ use crate::best::{Best, best_order, small_best};
 use crate::diagrams::{file_order_levels_of, starting_diagram};
 use crate::search_input::SearchInput;
 use order_model::{Diagram, Limit, LowerBound, Order, Workers, total};
-use order_solve::{Preparation, Renaming, prepare, renaming_of};
+use order_solve::{Renaming, SearchStart, prepare, renaming_of};
 use sifting::laws::diagrams_have_their_functions_tables;
 use sifting::{Manager, Sifted};
 use small_search::is_small;
@@ -74,9 +75,9 @@ fn prepare_below<'a, R: Threads + Sync>(
     instance: &SearchInput<'_>,
     renaming: &'a Renaming<'a>,
     size: u32,
-) -> Result<Preparation<'a>, AllocError>
+) -> Result<SearchStart<'a>, AllocError>
     requires { renaming.now.problem ≡ instance.now.tables.now }
-    ensures { IfOk result (λ p. p.problem ≡ instance.now.tables.now) }
+    ensures { IfOk result (IsStartFor instance.now.tables.now instance.now.pairs.now.pairs) }
 {
     let limit = Limit {
         bound: size.min(1 << 20),
@@ -87,8 +88,8 @@ fn prepare_below<'a, R: Threads + Sync>(
         },
     };
     let workers = instance.busy_workers();
-    let prepared = prepare(rt, alloc, renaming, instance.pairs, limit, workers)?;
-    Ok(prepared)
+    let start = prepare(rt, alloc, renaming, instance.pairs, limit, workers)?;
+    Ok(start)
 }
 
 /// Sifts and prepares the search: what sifting found, and what the search begins with. Both are
@@ -99,18 +100,19 @@ fn sift_and_prepare<'a, R: Threads + Sync>(
     instance: &SearchInput<'_>,
     renaming: &'a Renaming<'a>,
     manager: Manager,
-) -> Result<(Sifting, Preparation<'a>), AllocError>
+) -> Result<(Sifting, SearchStart<'a>), AllocError>
     requires manager { IsStartingManager instance.now manager }
     requires renaming { renaming.now.problem ≡ instance.now.tables.now }
     ensures sifting { IfOk result (λ r. IsSiftingFor instance.now r.0) }
-    ensures prepared { IfOk result (λ r. r.1.problem ≡ instance.now.tables.now) }
+    ensures start { IfOk result
+        (λ r. IsStartFor instance.now.tables.now instance.now.pairs.now.pairs r.1) }
 {
     let size = manager.size();
     let workers = instance.workers;
     if instance.busy_workers().count() == 1 {
-        let prepared = prepare_below(rt, alloc, instance, renaming, size)?;
+        let start = prepare_below(rt, alloc, instance, renaming, size)?;
         let sifting = sift(rt, alloc, manager, workers)?;
-        return Ok((sifting, prepared));
+        return Ok((sifting, start));
     }
     // The closures own what they take (`move`): `join` ensures nothing of one that owns one value
     // and borrows another.
@@ -118,12 +120,13 @@ fn sift_and_prepare<'a, R: Threads + Sync>(
         requires { IsSync R.row }
         ensures { IfOk result (IsSiftingOf manager) }
     { sift(rt, alloc, manager, workers) };
-    let preparing = move || -> Result<Preparation<'_>, AllocError>
+    let preparing = move || -> Result<SearchStart<'_>, AllocError>
         requires { IsSync R.row × (renaming.now.problem ≡ instance.now.tables.now) }
-        ensures { IfOk result (λ p. p.problem ≡ instance.entry.now.tables.now) }
+        ensures { IfOk result
+            (IsStartFor instance.entry.now.tables.now instance.entry.now.pairs.now.pairs) }
     { prepare_below(rt, alloc, instance, renaming, size) };
-    let (sifting, prepared) = thread::join(rt, sifting, preparing);
-    Ok((sifting?, prepared?))
+    let (sifting, start) = thread::join(rt, sifting, preparing);
+    Ok((sifting?, start?))
 }
 
 /// The number of nodes under the file order. `starting` is the diagram under the starting order.
@@ -196,20 +199,13 @@ pub(crate) fn search<R: Threads + Sync>(
         return search_small(alloc, instance, manager, file_size);
     }
     let renaming = renaming_of(alloc, instance.tables.problem())?;
-    let (sifting, prepared) = sift_and_prepare(rt, alloc, instance, &renaming, manager)?;
+    let (sifting, start) = sift_and_prepare(rt, alloc, instance, &renaming, manager)?;
     let Sifting {
         sifted,
         size,
         bound,
     } = sifting;
-    let best = best_order(
-        rt,
-        alloc,
-        prepared,
-        bound,
-        instance.workers,
-        instance.certify,
-    )?;
+    let best = best_order(rt, alloc, start, bound, instance.workers, instance.certify)?;
     Ok(Found {
         best,
         sifted,

@@ -21,7 +21,7 @@ use Rattle.subset_layers.specs.Sums.{IsBest}
 use Rattle.subset_layers.specs.declared.costs.Cell.{Cell}
 use Rattle.layer_core.specs.Instances.{InstanceOf, cell_for}
 use Rattle.definitions.proofs.Bits.Ones.{ones-members}
-use Rattle.solutions.specs.FlatCells.{no_cell}
+use Rattle.layer_core.specs.Pairing.{no_cell}
 use Rattle.solutions.proofs.ReadOrders.{less_member}
 use Rattle.small_search.specs.FirstCells.{AreFirstCells}
 

@@ -11,9 +11,8 @@ use Rattle.definitions.specs.Problems.{functions}
 use Rattle.definitions.specs.Widths.{width}
 use Rattle.subset_layers.specs.Sums.{IsBest}
 use Rattle.subset_layers.specs.declared.costs.Cell.{Cell}
-use Rattle.layer_core.specs.Pairing.{pair_of}
+use Rattle.layer_core.specs.Pairing.{no_cell, pair_of}
 use Rattle.layer_core.specs.Instances.{InstanceOf, cell_for}
-use Rattle.solutions.specs.FlatCells.{no_cell}
 
 abbrev pub cost_without : InstanceOf → ℕ → ℕ → ℕ
 cost_without t set y = cell_cost t.problem.inputs (functions t.problem) t.pairs.pairs t.lower_bound t.bound (set - 2 ^ y)

@@ -19,8 +19,9 @@ use crate::reading::read_optimum;
 use crate::tables::{MOST_VALUE_VARIABLES, PathTables, values_over};
 use crate::values::occurring;
 use crate::width_counts::Subfunctions;
+use layer_core::Instance;
 use order_model::{Limit, LowerBound, Mask, Pairs, Problem, SizedOrder, VarIx};
-use solutions::{AllCells, Instance, Solution, optimum_of, solution_of};
+use solutions::{AllCells, Solution, optimum_of, solution_of};
 use std::alloc::{AllocError, Global};
 use subset_layers::Cell;
 

@@ -6,7 +6,8 @@ use Rattle.std.proofs.lemmas.Option.{slice_get-get_or, get_or_from_slice_get}
 use Rattle.definitions.specs.Cells.{cell_cost}
 use Rattle.subset_layers.specs.declared.costs.Cell.{Cell}
 use Rattle.layer_core.specs.Instances.{InstanceOf, cell_for}
-use Rattle.solutions.specs.FlatCells.{AreFlatCells, no_cell}
+use Rattle.layer_core.specs.Pairing.{no_cell}
+use Rattle.solutions.specs.FlatCells.{AreFlatCells}
 use Rattle.solutions.specs.Solutions.{cost_for}
 
 -- the cell at a mask, whatever stands for one that is not there

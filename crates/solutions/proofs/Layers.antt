@@ -1,5 +1,4 @@
--- The layers of all sets.
---     layers_push, layers_done      a layer more; the layers that a slice of them has
+-- The layer of a set.
 --     set_there, cell_found      the layer in which a set is, and its cell there
 --     ones_le, ones_some      how many members a set has
 use Rattle.std.proofs.Common.{◌≡◌, ℕ, ◌+◌, ◌^◌, ◌<◌, ◌≤◌, inl, inr, true, List, [], ◌∷◌, ◌++◌, length, length-append, Some, IfSome, Option, sym, ap, ◌∙◌, subst, arith, count_ones, eqb}
@@ -22,31 +21,8 @@ use Rattle.subset_layers.specs.Costs.{CostsOf, layer_of_costs, as_pair, AreTrueC
 use Rattle.subset_layers.proofs.BlockLists.{masks_has}
 use Rattle.definitions.proofs.Bits.Ones.{ones-members}
 use Rattle.layer_core.specs.Instances.{InstanceOf, cell_for}
-use Rattle.solutions.specs.LayerCosts.{IsLayerFor, AreLayersFor, AreDone}
+use Rattle.layer_core.specs.LayerCosts.{IsLayerFor, AreLayersFor, AreDone}
 use Rattle.definitions.proofs.Lists.Ranges.{filter_at_most}
-
--- ---- layers
-
-pub layers_push : (t : InstanceOf) (layers : List CostsOf) (c : CostsOf) → AreLayersFor t layers → IsLayerFor t (length layers) c →
-    AreLayersFor t (layers ++ c ∷ [])
-layers_push t layers c h new k d e = elim (cases_lt k (length layers)) [
-  | inl lt ↦ h k d
-      (slice_get-get_or layers k d lt
-      ∙ ap Some (sym (get_or_append_left layers (c ∷ []) d k lt) ∙ get_or_from_slice_get (layers ++ c ∷ []) k d d e))
-  | inr ge ↦
-      let w = slice_get_within (layers ++ c ∷ []) k d e in
-      let l = length-append layers (c ∷ []) in
-      let at : length layers ≡ k = omega (arith, w, l, ge) in
-      let is : d ≡ c = sym (get_or_from_slice_get (layers ++ c ∷ []) k d d e) ∙ get_or_push layers c d k at in
-      subst (λ (z : CostsOf). IsLayerFor t k z) (sym is) (subst (λ (i : ℕ). IsLayerFor t i c) at new)
-]
-
-pub layers_done : (t : InstanceOf) (layers items : List CostsOf) (size end : ℕ) → items ≡ layers → length layers ≡ size + 1 → AreLayersFor t layers →
-    size < end → end ≡ t.problem.inputs → AreDone t items
-layers_done t layers items size end is many are lt e =
-    subst (AreDone t) (sym is) (record { some = omega (arith, many); few = omega (arith, many, lt, e); layers_are = are })
-
--- ---- the layer of a set
 
 module _ (t : InstanceOf) (mask : ℕ) (c : CostsOf) (small : mask < 2 ^ t.problem.inputs) (h : IsLayerFor t (count_ones mask) c) where
   abbrev n : ℕ

@@ -1,13 +1,7 @@
-pub mod SymmetricWords
-pub mod Filters
-pub mod WantedMembers
-pub mod NeedsByCosts
 pub mod WithinBound
 pub mod Layers
 pub mod FlatLists
 pub mod ReadOrders
 pub mod ListedSets
+pub mod WidthCounts
 pub mod FoundOrders
-pub mod Harmless
-pub mod BlockPlaces
-pub mod CellPlaces

@@ -1,6 +1,5 @@
--- The listed sets, and the number of widths.
+-- The listed sets.
 --     ListedTo, listed_start, listed_yes, listed_no, listed_whole      the sets in turn
---     WidthsTo, widths_start, widths_next, widths_whole      the widths that they take
 use Rattle.std.proofs.Common.{◌≡◌, ℕ, ◌+◌, ◌-◌, ◌*◌, ◌^◌, ◌<◌, ◌≤◌, Bool, true, false, cond, List, [], ◌∷◌, ◌++◌, map, count_ones, ltb, refl, sym, ap, ap₂, ◌∙◌, arith}
 use Rattle.std.specs.List.{filter, sum, range_with_len}
 use Rattle.std.proofs.lemmas.Bool.{lt-ltb, le-ltb}
@@ -20,9 +19,9 @@ use Rattle.definitions.proofs.Certificates.Listed.{listed_by_cells}
 use Rattle.subset_layers.proofs.ChosenNumbers.{filter_range_more}
 use Rattle.layer_core.specs.Instances.{InstanceOf}
 use Rattle.definitions.specs.declared.listed_cells.ListedCell.{ListedCell}
-use Rattle.solutions.specs.Needs.{needed, width_count}
+use Rattle.layer_core.specs.Needs.{needed, width_count}
 use Rattle.definitions.specs.Listed.{listed}
-use Rattle.solutions.proofs.WantedMembers.{needed_ones, wanted_none, few_each}
+use Rattle.layer_core.proofs.WantedMembers.{needed_ones, wanted_none, few_each}
 
 module _ (t : InstanceOf) where
   abbrev n : ℕ
@@ -78,19 +77,3 @@ module _ (t : InstanceOf) where
       ∙ ap (λ (r : LowerBound). map (least_listed n F P)
       (filter (λ mask. ltb (cell_cost n F P r t.bound mask + essentials_outside n F (members n mask)) total) (range_with_len 0 (2 ^ n - 1)))) one
       ∙ ap (map (least_listed n F P)) (sym (listed_by_cells n F P t.bound total le))
-
-  -- ---- widths
-
-  pub record WidthsTo (number count : ℕ) : Type 0 where
-    pub are : count ≡ sum (map (width_count t) (range_with_len 0 number))
-    pub few : count ≤ 16 * number
-
-  pub widths_start : WidthsTo 1 0
-  widths_start = grind (arith, sum_by-map-range_with_len_more, wanted_none, n, F, P)
-
-  pub widths_next : (number count ones : ℕ) → WidthsTo number count → n ≤ 16 → ones ≡ count_ones (needed t number) → WidthsTo (number + 1) (count + ones)
-  widths_next number count ones h few e = grind (arith, needed_ones, few_each, sum_by-map-range_with_len_more)
-
-  pub widths_whole : (number count : ℕ) → WidthsTo number count → number ≡ 2 ^ n → count ≡ widths_taken n F P t.lower_bound t.bound
-  unfolding widths_taken
-  widths_whole number count h e = h.are ∙ ap (λ k. sum (map (width_count t) (range_with_len 0 k))) e

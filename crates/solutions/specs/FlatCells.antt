@@ -1,14 +1,9 @@
 -- The cells of all sets in one list, each at its set's mask.
---     no_cell      the cell of no set
 --     AreFlatCells t cells      the list has the cell of each set at its mask, and a cost of 0 at that of the empty set
 use Rattle.std.specs.Prelude.{◌≡◌, ℕ, ◌^◌, ◌<◌, List, length, slice_index_or}
 use Rattle.subset_layers.specs.declared.costs.Cell.{Cell}
-use Rattle.layer_core.specs.Pairing.{pair_of}
+use Rattle.layer_core.specs.Pairing.{no_cell, pair_of}
 use Rattle.layer_core.specs.Instances.{InstanceOf, cell_for}
-
--- the cell of no set
-abbrev pub no_cell : Cell
-no_cell = record { cost = 0; variable = 0 }
 
 -- the cell of each set at its mask, and a cost of 0 at that of the empty set
 pub record AreFlatCells (t : InstanceOf) (cells : List Cell) : Type 0 where

@@ -1,7 +1,7 @@
 -- How the cells of all sets are kept.
 --     AreStored t storage      they are the definition's
 use Rattle.layer_core.specs.Instances.{InstanceOf}
-use Rattle.solutions.specs.LayerCosts.{AreAllLayers}
+use Rattle.layer_core.specs.LayerCosts.{AreAllLayers}
 use Rattle.solutions.specs.FlatCells.{AreFlatCells}
 use Rattle.solutions.specs.declared.all_cells.Storage.{Storage}
 use Rattle.solutions.specs.declared.all_cells.Storage.TheVariants.{Layers, Flat}

@@ -1,20 +1,16 @@
 //! The cells of all sets.
 
 ghost use Rattle.std.specs.Prelude.{◌≡◌, ◌^◌, ◌<◌, ◌≤◌, count_ones};
-ghost use Rattle.definitions.specs.Cells.{candidates};
-ghost use Rattle.definitions.specs.Orders.{mask_of};
 ghost use Rattle.definitions.specs.Problems.{functions};
 ghost use Rattle.definitions.specs.Widths.{essential_mask};
 ghost use Rattle.layer_core.specs.Instances.{cell_for};
 ghost use Rattle.layer_core.specs.Pairing.{pair_of};
-ghost use Rattle.solutions.specs.Needs.{needed};
-ghost use Rattle.solutions.specs.Solutions.{cost_for, cost_for_without};
-ghost use Rattle.solutions.specs.LayerCosts.{AreAllLayers, IsLayerFor};
+ghost use Rattle.solutions.specs.Solutions.{cost_for};
+ghost use Rattle.layer_core.specs.LayerCosts.{AreAllLayers, IsLayerFor};
 ghost use Rattle.solutions.specs.FlatCells.{AreFlatCells};
 
-use crate::instance::Instance;
-use crate::needs::asked_members;
-use order_model::{Mask, contains};
+use layer_core::Instance;
+use order_model::Mask;
 use std::marker::Model;
 use subset_layers::{Cell, Costs};
 
@@ -93,6 +89,13 @@ impl<'a> AllCells<'a> {
         self.instance.inputs()
     }
 
+    /// The problem instance whose cells they are.
+    pub(crate) fn instance(&self) -> &Instance<'a>
+        ensures { result.now ≡ self.now }
+    {
+        self.instance
+    }
+
     /// The set of the variables on which some function depends, as a mask.
     pub fn essential(&self) -> Mask
         ensures { result ≡ essential_mask self.now.problem.inputs (functions self.now.problem) }
@@ -126,35 +129,6 @@ impl<'a> AllCells<'a> {
                 layer.cell_of(mask).unwrap()
             }
             Storage::Flat(cells) => cells[usize::from(mask)],
-        }
-    }
-
-    /// The members of the set `mask` for which the set without the member costs at most the bound.
-    fn affordable_members(&self, mask: Mask) -> Mask
-        requires { mask < 2 ^ self.now.problem.inputs }
-        ensures { result ≡ mask_of
-            (candidates self.now.problem.inputs self.now.bound mask (cost_for_without self.now mask)) }
-    {
-        let bound = self.instance.limit().bound;
-        let mut found: Mask = 0;
-        for x in 0..self.inputs() {
-            if contains(mask, x) && self.cost(mask - (1 << x)) <= bound {
-                found |= 1 << x;
-            }
-        }
-        found
-    }
-
-    /// The members of the set `mask` whose widths its cell takes; none if the set is not lawful.
-    pub fn needed_members(&self, mask: Mask) -> Mask
-        requires { mask < 2 ^ self.now.problem.inputs }
-        ensures { result ≡ needed self.now mask }
-    {
-        if self.instance.pairs().lawful(mask) {
-            let known = self.affordable_members(mask);
-            asked_members(self.instance.limit().lower_bound, mask, known)
-        } else {
-            0
         }
     }
 }

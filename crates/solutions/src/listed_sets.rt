@@ -1,11 +1,11 @@
-//! Which sets a certificate lists, and how many widths the cells take.
+//! Which sets a certificate lists.
 
 ghost use Rattle.std.specs.Prelude.{◌≡◌, ◌<◌, ◌≤◌, ℕ, count_ones, IfOk, List};
 ghost use Rattle.definitions.specs.Functions.{Function};
 ghost use Rattle.definitions.specs.Orders.{members};
 ghost use Rattle.definitions.specs.Widths.{essential_mask, essentials_outside};
 ghost use Rattle.definitions.specs.declared.limits.LowerBound.TheVariants.{Variables};
-ghost use Rattle.solutions.specs.Solutions.{AreListedFor, widths_for_all};
+ghost use Rattle.solutions.specs.Solutions.{AreListedFor};
 
 use crate::all_cells::AllCells;
 use order_model::{ListedCell, Mask};
@@ -42,15 +42,4 @@ pub(crate) fn listed_cells(
         }
     }
     Ok(found)
-}
-
-/// How many widths the cells of all sets take.
-pub(crate) fn count_widths(cells: &AllCells<'_>) -> u64
-    ensures { result ≡ widths_for_all cells.now }
-{
-    let mut count = 0;
-    for number in 1..1u32 << cells.inputs() {
-        count += u64::from(cells.needed_members(number as Mask).count_ones());
-    }
-    count
 }

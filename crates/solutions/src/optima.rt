@@ -2,11 +2,11 @@
 
 ghost use Rattle.std.specs.Prelude.{◌≡◌, ◌≤◌, IfOk};
 ghost use Rattle.definitions.specs.declared.limits.LowerBound.TheVariants.{Variables};
-ghost use Rattle.solutions.specs.Solutions.{IsOptimumFor, IsSolution, widths_for_all};
+ghost use Rattle.solutions.specs.Solutions.{IsOptimumFor, IsSolution};
 
 use crate::all_cells::AllCells;
 use crate::first_order::{all_variables, level_counts, read_order};
-use crate::listed_sets::{count_widths, listed_cells};
+use crate::listed_sets::listed_cells;
 use crate::solution::Solution;
 use order_model::SizedOrder;
 use std::alloc::{AllocError, Global};
@@ -32,15 +32,12 @@ pub fn optimum_of(alloc: Global, cells: &AllCells<'_>) -> Result<SizedOrder, All
 /// essential variable outside.
 pub fn solution_of(alloc: Global, cells: &AllCells<'_>) -> Result<Solution, AllocError>
     requires { cells.now.lower_bound ≡ Variables }
-    ensures solution { IfOk result (IsSolution cells.now.problem cells.now.pairs.pairs) }
-    ensures widths { IfOk result (λ s. s.widths ≡ widths_for_all cells.now) }
+    ensures { IfOk result (IsSolution cells.now.problem cells.now.pairs.pairs) }
 {
     let optimum = optimum_of(alloc, cells)?;
     let listed = listed_cells(alloc, cells, optimum.total)?;
-    let widths = count_widths(cells);
     Ok(Solution {
         optimum,
         cells: listed,
-        widths,
     })
 }

@@ -9,6 +9,4 @@ pub struct Solution {
     /// The lawful sets, without that of all variables, whose least cost with one node for each
     /// essential variable outside is below the order's size, by rising mask.
     pub cells: Vec<ListedCell>,
-    /// How many widths the cells of all sets take.
-    pub widths: u64,
 }

@@ -3,8 +3,10 @@
 ghost use Rattle.std.specs.Prelude.{◌≡◌};
 
 use counted_io::Counting;
-use order_model::{Gate, Limit, LowerBound, NoGate, Order, Pairs, SizedOrder, VarIx, Workers};
-use order_solve::{Solution, find_optimum_alone, prepare, renaming_of, solve, solve_alone};
+use order_model::{Gate, Limit, LowerBound, Order, Pairs, SizedOrder, VarIx, Workers};
+use order_solve::{
+    Solution, count_widths, find_optimum_alone, prepare, renaming_of, solve, solve_alone,
+};
 use pla_reader::read_cover;
 use sifting::laws::diagrams_have_their_problems_tables;
 use sifting::{Manager, Sifted};
@@ -49,13 +51,14 @@ fn sifted_of(rt: &impl Abort, alloc: Global, tables: &Tables) -> Sifted
         .expect(rt, "memory")
 }
 
-/// The solution of some functions by two workers.
-fn solution_of<R: Abort + Threads + Sync, G: Gate>(
+/// The solution of a cover by two workers.
+fn solved<R: Abort + Threads + Sync, G: Gate>(
     rt: &R,
     alloc: Global,
-    tables: &Tables,
+    text: &[u8],
     gate: &G,
 ) -> Solution {
+    let tables = tables_of(rt, alloc, text);
     let workers = Workers::new(2).expect(rt, "two workers");
     let limit = Limit {
         bound: 16,
@@ -64,25 +67,22 @@ fn solution_of<R: Abort + Threads + Sync, G: Gate>(
     let problem = tables.problem();
     let pairs = Pairs::none(problem.inputs());
     let renaming = renaming_of(alloc, problem).expect(rt, "memory");
-    let prepared = prepare(rt, alloc, &renaming, &pairs, limit, workers).expect(rt, "memory");
-    let sifted = sifted_of(rt, alloc, tables);
-    solve(rt, alloc, prepared, sifted, workers, gate).expect(rt, "memory")
+    let start = prepare(rt, alloc, &renaming, &pairs, limit, workers).expect(rt, "memory");
+    let sifted = sifted_of(rt, alloc, &tables);
+    solve(rt, alloc, start, sifted, workers, gate).expect(rt, "memory")
 }
 
-/// The solution of a cover.
-fn solved<R: Abort + Threads + Sync, G: Gate>(
-    rt: &R,
-    alloc: Global,
-    text: &[u8],
-    gate: &G,
-) -> Solution {
-    solution_of(rt, alloc, &tables_of(rt, alloc, text), gate)
+/// How many widths the cells of all sets take for a cover.
+fn widths_of<R: Abort + Threads + Sync>(rt: &R, alloc: Global, text: &[u8]) -> u64 {
+    let tables = tables_of(rt, alloc, text);
+    let sifted = sifted_of(rt, alloc, &tables);
+    count_widths(alloc, tables.problem(), sifted).expect(rt, "memory")
 }
 
 #[test]
 fn widths_that_are_taken_are_counted(rt: HostRuntime) {
-    assert!(rt; solved(&rt, rt.alloc(), PARITY, &NoGate).widths == 12);
-    assert!(rt; solved(&rt, rt.alloc(), MULTIPLEXER, &NoGate).widths == 8);
+    assert!(rt; widths_of(&rt, rt.alloc(), PARITY) == 12);
+    assert!(rt; widths_of(&rt, rt.alloc(), MULTIPLEXER) == 8);
 }
 
 /// Whether an optimum is this one.

@@ -4,14 +4,14 @@ ghost use Rattle.std.specs.Prelude.{◌≡◌, ◌+◌, All, map};
 ghost use Rattle.subset_layers.specs.Layers.{masks_of, layer_with};
 ghost use Rattle.layer_core.specs.Pairing.{pair_of};
 ghost use Rattle.layer_core.specs.Instances.{cell_for};
-ghost use Rattle.solutions.specs.LayerCosts.{IsLayerFor};
+ghost use Rattle.layer_core.specs.LayerCosts.{IsLayerFor};
 ghost use Rattle.order_solve.specs.LayerContexts.{IsContext, context_with};
 
 use crate::boards::{error_of_closing, is_stranger, lone_board};
 use crate::searches::tables_of;
 use layer_board::{Board, BoardSeat, CloseError, PostRefused};
 use order_model::{Limit, LowerBound, Mask, NoGate, Pairs, Workers};
-use order_solve::{Instance, LayerContext, work_layer};
+use order_solve::{Instance, LayerContext, Preparation, WidthSource, renaming_of, work_layer};
 use std::alloc::Global;
 use std::process::Abort;
 use std::thread;
@@ -47,11 +47,13 @@ fn cells_by_one(
     instance: &Instance<'_>,
     layer: &Layer,
     before: &Costs,
+    source: &WidthSource<'_>,
 ) -> Vec<Cell>
-    requires { IsContext (context_with instance.now layer.now before.now) }
+    requires context { IsContext (context_with instance.now layer.now before.now) }
+    requires source { source.now ≡ instance.now.problem }
     ensures { map pair_of result.items ≡ map (cell_for instance.now) (masks_of layer.now) }
 {
-    let context = LayerContext::new(instance, layer, before);
+    let context = LayerContext::new(instance, layer, before, source);
     let limit = instance.limit();
     let (board, seat) = lone_board(
         rt,
@@ -66,20 +68,33 @@ fn cells_by_one(
 }
 
 /// The cells of the sets of one variable.
-fn first_cells(rt: &impl Abort, alloc: Global, instance: &Instance<'_>, layer: &Layer) -> Vec<Cell>
-    requires { layer.now ≡ layer_with instance.now.problem.inputs 1 }
+fn first_cells(
+    rt: &impl Abort,
+    alloc: Global,
+    instance: &Instance<'_>,
+    layer: &Layer,
+    source: &WidthSource<'_>,
+) -> Vec<Cell>
+    requires layer { layer.now ≡ layer_with instance.now.problem.inputs 1 }
+    requires source { source.now ≡ instance.now.problem }
     ensures { map pair_of result.items ≡ map (cell_for instance.now) (masks_of layer.now) }
 {
     let start = Costs::start(alloc, instance.inputs()).expect(rt, "memory");
-    cells_by_one(rt, alloc, instance, layer, &start)
+    cells_by_one(rt, alloc, instance, layer, &start, source)
 }
 
 /// The costs of the sets of one variable.
-fn first_costs(rt: &impl Abort, alloc: Global, instance: &Instance<'_>) -> Costs
+fn first_costs(
+    rt: &impl Abort,
+    alloc: Global,
+    instance: &Instance<'_>,
+    source: &WidthSource<'_>,
+) -> Costs
+    requires { source.now ≡ instance.now.problem }
     ensures { IsLayerFor instance.now 1 result }
 {
     let layer = Layer::of(alloc, instance.inputs(), 1).expect(rt, "memory");
-    let cells = first_cells(rt, alloc, instance, &layer);
+    let cells = first_cells(rt, alloc, instance, &layer, source);
     Costs::of(layer, cells)
 }
 
@@ -99,11 +114,13 @@ fn first_cell(
     instance: &Instance<'_>,
     layer: &Layer,
     before: &Costs,
+    source: &WidthSource<'_>,
 ) -> (Mask, Cell)
-    requires { IsContext (context_with instance.now layer.now before.now) }
+    requires context { IsContext (context_with instance.now layer.now before.now) }
+    requires source { source.now ≡ instance.now.problem }
     ensures { pair_of result.1 ≡ cell_for instance.now result.0 }
 {
-    let cells = cells_by_one(rt, alloc, instance, layer, before);
+    let cells = cells_by_one(rt, alloc, instance, layer, before, source);
     first_of(rt, instance, layer, &cells)
 }
 
@@ -312,20 +329,29 @@ fn hold_claims<R: Abort + Threads + Sync>(
     instance: &Instance<'_>,
     layer: &Layer,
     before: &Costs,
+    source: &WidthSource<'_>,
 )
-    requires { IsContext (context_with instance.now layer.now before.now) }
+    requires context { IsContext (context_with instance.now layer.now before.now) }
+    requires source { source.now ≡ instance.now.problem }
 {
-    let (mask, cell) = first_cell(rt, alloc, instance, layer, before);
-    let context = LayerContext::new(instance, layer, before);
+    let (mask, cell) = first_cell(rt, alloc, instance, layer, before, source);
+    let context = LayerContext::new(instance, layer, before, source);
     hold_and_leave(rt, alloc, instance, layer, &context, mask, cell);
     hold_and_post(rt, alloc, instance, layer, &context, mask, cell);
 }
 
 /// Holds a claim at two boards of the layer of the sets of two variables.
-fn hold_in_second_layer<R: Abort + Threads + Sync>(rt: &R, alloc: Global, instance: &Instance<'_>) {
-    let before = first_costs(rt, alloc, instance);
+fn hold_in_second_layer<R: Abort + Threads + Sync>(
+    rt: &R,
+    alloc: Global,
+    instance: &Instance<'_>,
+    source: &WidthSource<'_>,
+)
+    requires { source.now ≡ instance.now.problem }
+{
+    let before = first_costs(rt, alloc, instance, source);
     let layer = Layer::of(alloc, instance.inputs(), 2).expect(rt, "memory");
-    hold_claims(rt, alloc, instance, &layer, &before);
+    hold_claims(rt, alloc, instance, &layer, &before, source);
 }
 
 #[test]
@@ -337,5 +363,8 @@ fn a_held_claim_is_missing_or_posted(rt: HostRuntime) {
         bound: 7,
         lower_bound: LowerBound::Variables,
     };
-    hold_in_second_layer(&rt, rt.alloc(), &Instance::new(problem, &pairs, limit));
+    let renaming = renaming_of(rt.alloc(), problem).expect(&rt, "memory");
+    let prepared = Preparation::of(rt.alloc(), &renaming, &pairs).expect(&rt, "memory");
+    let instance = Instance::new(problem, &pairs, limit);
+    hold_in_second_layer(&rt, rt.alloc(), &instance, &prepared.source());
 }

@@ -1,8 +1,5 @@
 pub mod Partners
 pub mod SymmetricWidths
-pub mod FirstSorted
-pub mod SymmetricPoints
-pub mod SortedOrders
 pub mod ImageTables
 pub mod PointValues
 pub mod RenamedValues

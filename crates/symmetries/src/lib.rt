@@ -1,5 +1,5 @@
 //! Variables in which functions are symmetric: what may be exchanged without a change of any
-//! function, and what follows of widths and orders.
+//! function, and what follows of widths.
 #![tactic(auto)]
 
 pub mod laws;

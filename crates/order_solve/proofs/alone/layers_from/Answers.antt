@@ -1,8 +1,8 @@
 use Rattle.std.proofs.Common.{ℕ, ◌+◌, List, [], ◌∷◌, length, length-append, slice_get, sym, ap, ◌∙◌, subst}
 use Rattle.subset_layers.specs.Costs.{CostsOf}
 use Rattle.compaction.specs.Preparations.{PreparedOf}
-use Rattle.solutions.specs.LayerCosts.{IsLayerFor}
-use Rattle.solutions.proofs.Layers.{layers_push}
+use Rattle.layer_core.specs.LayerCosts.{IsLayerFor}
+use Rattle.order_solve.proofs.LayerLists.{layers_push}
 use Rattle.order_solve.proofs.alone.layers_from.Goals as goal
 use Rattle.order_solve.proofs.alone.layers_from.Goals.{in-Some+in_ok-find_alone, in_default}
 

@@ -3,11 +3,11 @@ use Rattle.std.proofs.lemmas.Option.{slice_get_read}
 use Rattle.subset_layers.specs.Layers.{layer_with, masks_of}
 use Rattle.layer_core.specs.Instances.{cell_for}
 use Rattle.order_solve.specs.LayerContexts.{ContextOf}
-use Rattle.solutions.proofs.CellPlaces.{layer_is}
+use Rattle.layer_core.proofs.CellPlaces.{layer_is}
 use Rattle.order_solve.proofs.alone.next_layer_alone.Goals as goal
 
-pub new-requires : goal.new-requires
-new-requires c = grind (arith, slice_get_read)
+pub new-context-requires-clause-context : goal.new-context-requires-clause-context
+new-context-requires-clause-context c = grind (arith, slice_get_read)
 
 pub returns : goal.returns
 returns c =
@@ -16,6 +16,5 @@ returns c =
     layer_is t size c.in_ok-layer.layer c.in_ok-cells.cells.items c.of-2.result
     (c.in_ok-layer.ensures ∙ ap (λ n. layer_with n size) c.inputs.ensures.value) c.of-2.ensures.value
     (c.in_ok-cells.ensures
-    ∙ (ap (λ (b : ContextOf). map (cell_for b.instance) (masks_of b.layer)) c.with_source-context.ensures
-    ∙ ap (λ (b : ContextOf). map (cell_for b.instance) (masks_of b.layer)) c.new.ensures))
+    ∙ ap (λ (b : ContextOf). map (cell_for b.instance) (masks_of b.layer)) c.new-context.ensures)
     c.of-2.ensures.exact

@@ -1,18 +1,18 @@
-use Rattle.std.proofs.Common.{◌≡◌, ℕ, ◌++◌, List, [], ◌∷◌, map, get_or, slice_get, slice_index, Some, sym, ap, ap₂, ◌∙◌, subst, arith}
+use Rattle.std.proofs.Common.{◌≡◌, ℕ, ◌≤◌, ◌++◌, List, [], ◌∷◌, map, get_or, slice_get, slice_index, Some, sym, ap, ap₂, ◌∙◌, subst, arith}
 use Rattle.std.proofs.lemmas.List.{map_more, map-append, get_or-map}
 use Rattle.std.proofs.lemmas.Option.{slice_get-get_or, slice_get_within, get_or_from_slice_get}
 use Rattle.subset_layers.specs.Layers.{block_masks}
 use Rattle.compaction.specs.Rows.{IsWidthRow}
 use Rattle.layer_core.specs.Instances.{InstanceOf, cell_for}
 use Rattle.layer_core.specs.Pairing.{pair_of}
-use Rattle.solutions.specs.Needs.{needed}
+use Rattle.layer_core.specs.Needs.{needed}
 use Rattle.order_solve.specs.LayerContexts.{ContextOf, context_with, IsContext}
 use Rattle.order_solve.proofs.Blocks.{in_layer, row_there, cell_is}
 use Rattle.order_solve.proofs.cells.cells_by_rows.Goals as goal
 
 pub least_cell-requires-clause-inputs : goal.least_cell-requires-clause-inputs
 least_cell-requires-clause-inputs c =
-    c.instance.invariant.pairs ∙ ap (λ (t : InstanceOf). t.problem.inputs) c.instance.view_is ∙ sym c.context.invariant.0.inputs
+    c.pairs.ensures.inputs ∙ sym c.context.invariant.0.inputs
 
 pub least_cell-requires-clause-next : goal.least_cell-requires-clause-next
 least_cell-requires-clause-next c =
@@ -30,7 +30,7 @@ loop-i-preserved c =
     let there = subst (λ (xs : List ℕ). slice_get xs c.loop-i.i ≡ Some mask) c.masks-mask-items.ensures
     (slice_get-get_or items c.loop-i.i 0 (omega arith)) in
     let t = c.args.context.now.instance in
-    let same = c.instance.view_is ∙ ap (λ (b : ContextOf). b.instance) c.context.view_is in
+    let same = ap (λ (b : ContextOf). b.instance) c.context.view_is in
     let lt = slice_get_within masks c.loop-i.i mask there in
     let at : slice_index masks c.loop-i.i ≡ mask = get_or_from_slice_get masks c.loop-i.i mask 0 there in
     let next = in_layer _ c.context.invariant.0 c.args.block.now
@@ -41,11 +41,11 @@ loop-i-preserved c =
     let own = get_or rows c.loop-i.i [] in
     let row = row_there t.problem masks (map (needed t) masks) rows c.loop-i.i mask (needed t mask) own c.requires.rows there need
     (slice_get-get_or rows c.loop-i.i [] (omega arith)) in
-    let context = subst (λ (z : InstanceOf). IsContext (context_with z c.context.inside.layer.now c.context.inside.before.now)) (sym c.instance.view_is)
-    c.context.invariant.0 in
-    let is = cell_is _ context c.instance.inside.lower_bounds c.instance.invariant mask next own
+    let few : c.context.inside.instance.now.problem.inputs ≤ 16 = omega (arith, c.inputs.ensures.value, c.inputs.ensures.few) in
+    let is = cell_is _ c.context.invariant.0 few mask next own
     (subst (λ (z : InstanceOf). IsWidthRow z.problem mask (needed z mask) own) (sym same) row)
-    (pair_of c.least_cell.result) c.least_cell.ensures ∙ ap (λ (z : InstanceOf). cell_for z mask) same in
+    c.lower_bounds.result.now c.limit.result c.pairs.result.now (pair_of c.least_cell.result)
+    c.lower_bounds.ensures c.limit.ensures.value c.pairs.ensures.value c.least_cell.ensures ∙ ap (λ (z : InstanceOf). cell_for z mask) same in
     ap (map pair_of) c.in_ok-push.ensures.items
     ∙ map-append pair_of c.loop-i.cells.items (c.least_cell.result ∷ [])
     ∙ ap₂ (λ (xs : List (ℕ × ℕ)) (y : ℕ × ℕ). xs ++ y ∷ []) c.loop-i.invariant (is ∙ ap (cell_for t) (sym at))

@@ -1,6 +1,6 @@
 use Rattle.std.proofs.Common.{sym, ap, ◌∙◌, arith}
 use Rattle.layer_core.proofs.Layouts.{length-map_lem}
-use Rattle.solutions.proofs.WantedMembers.{needed_sum}
+use Rattle.layer_core.proofs.WantedMembers.{needed_sum}
 use Rattle.order_solve.specs.LayerContexts.{ContextOf}
 use Rattle.order_solve.proofs.Blocks.{are_members, own_layer}
 use Rattle.order_solve.proofs.cells.cells_of_block.Goals as goal
@@ -9,11 +9,11 @@ pub needs_of_block-requires-clause-next : goal.needs_of_block-requires-clause-ne
 needs_of_block-requires-clause-next c =
     c.requires.layer ∙ ap (λ (b : ContextOf). b.layer) (sym c.context.view_is) ∙ own_layer _ c.context.invariant.0
 
-pub widths_of-requires-clause-asked : goal.widths_of-requires-clause-asked
-widths_of-requires-clause-asked c = grind (arith, length-map_lem, are_members)
+pub block_rows-requires-clause-asked : goal.block_rows-requires-clause-asked
+block_rows-requires-clause-asked c = grind (arith, length-map_lem, are_members)
 
-pub widths_of-requires-clause-room : goal.widths_of-requires-clause-room
-widths_of-requires-clause-room c = grind (arith, needed_sum)
+pub block_rows-requires-clause-room : goal.block_rows-requires-clause-room
+block_rows-requires-clause-room c = grind (arith, needed_sum)
 
 pub returns-clause-counts : goal.returns-clause-counts
 returns-clause-counts c = grind (arith, needed_sum)

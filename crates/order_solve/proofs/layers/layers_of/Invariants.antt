@@ -1,5 +1,5 @@
 use Rattle.std.proofs.Common.{◌≡◌, ◌+◌, length}
-use Rattle.solutions.specs.LayerCosts.{AreLayersFor}
+use Rattle.layer_core.specs.LayerCosts.{AreLayersFor}
 use Rattle.order_solve.proofs.layers.layers_of.Given as goal
 
 abbrev pub invariant-loop-size : goal.invariant-loop-size

@@ -1,25 +1,14 @@
-use Rattle.std.proofs.Common.{List, IfOk, subst}
-use Rattle.std.proofs.lemmas.Result.{IfOk-weaker}
+use Rattle.std.proofs.Common.{ap, ◌∙◌}
 use Rattle.definitions.specs.KeptPairs.{KeptPairs}
-use Rattle.definitions.specs.Pairs.{Pair}
-use Rattle.definitions.specs.Problems.{TruthTables, functions}
-use Rattle.symmetries.specs.SymmetricPairs.{IsHarmless}
-use Rattle.layer_core.specs.Instances.{InstanceOf}
-use Rattle.solutions.specs.Solutions.{IsOptimumFor}
-use Rattle.solutions.proofs.Harmless.{optimum_harmless}
+use Rattle.order_solve.specs.SearchStarts.{StartOf}
+use Rattle.order_solve.proofs.Harmless.{found_harmless}
 use Rattle.order_solve.proofs.solver.find_optimum.Goals as goal
 
 pub returns : goal.returns
 returns g c =
-    let t = c.problem-problem.result.now in
-    let P = c.args.sifted.pairs in
-    let Q = c.in_ok-pairs.pairs.pairs in
     let instance = c.instance_of-instance.ensures in
-    let harmless = subst (λ (R : List Pair). IsHarmless t.inputs (functions t) R Q) c.pairs.ensures.value c.in_ok-pairs.ensures.harmless in
-    let best =
-    subst (λ (z : InstanceOf). IfOk c.optimum_of.result (IsOptimumFor z.problem z.pairs.pairs)) c.of_layers-cells.ensures
-    c.optimum_of.ensures.optimum in
-    IfOk-weaker c.optimum_of.result _ _ (λ o found. subst (λ (u : TruthTables). IsOptimumFor u P o) c.problem-problem.ensures
-    (optimum_harmless t P Q o harmless
-    (subst (λ (u : TruthTables). IsOptimumFor u Q o) instance.problem
-    (subst (λ (k : KeptPairs). IsOptimumFor c.instance_of-instance.result.problem k.pairs o) instance.pairs found)))) best
+    found_harmless c.args.sifted.problem c.args.sifted.pairs c.args.start.kept c.instance_of-instance.result c.of_layers-cells.result
+    c.optimum_of.result c.of_layers-cells.ensures
+    (instance.problem ∙ c.problem.ensures ∙ ap (λ (s : StartOf). s.problem) c.start.view_is ∙ c.requires.problem_is)
+    (ap (λ (k : KeptPairs). k.pairs) instance.pairs ∙ ap (λ (s : StartOf). s.kept) c.start.view_is)
+    c.requires.harmless c.optimum_of.ensures.optimum

@@ -1,7 +1,7 @@
 use Rattle.std.proofs.Common.{sym, subst}
 use Rattle.definitions.specs.Problems.{functions}
-use Rattle.symmetries.specs.SymmetricPairs.{IsHarmless}
-use Rattle.symmetries.proofs.FirstSorted.{harmless_same}
+use Rattle.symmetric_pairs.specs.SymmetricPairs.{IsHarmless}
+use Rattle.symmetric_pairs.proofs.FirstSorted.{harmless_same}
 use Rattle.order_solve.proofs.solver.solve.Goals as goal
 
 pub instance_of-instance-requires-clause-harmless : goal.instance_of-instance-requires-clause-harmless

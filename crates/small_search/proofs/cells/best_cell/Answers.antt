@@ -14,7 +14,7 @@ use Rattle.subset_layers.specs.Sums.{IsBest}
 use Rattle.subset_layers.specs.declared.costs.Cell.{Cell}
 use Rattle.definitions.proofs.Bits.Ones.{ones-members}
 use Rattle.subset_layers.proofs.CostLists.{bit_from_member, member_from_bit}
-use Rattle.solutions.specs.FlatCells.{no_cell}
+use Rattle.layer_core.specs.Pairing.{no_cell}
 use Rattle.subfunction_classes.specs.Table.{ClassesOf, classes_of, set_of}
 use Rattle.small_search.specs.Occurrences.{AreOf, CanBeCounted}
 use Rattle.small_search.specs.declared.width_counts.Subfunctions.{Subfunctions}

@@ -6,7 +6,8 @@ use Rattle.definitions.specs.Problems.{functions}
 use Rattle.definitions.specs.Cells.{cell_cost}
 use Rattle.subset_layers.specs.declared.costs.Cell.{Cell}
 use Rattle.layer_core.specs.Instances.{InstanceOf}
-use Rattle.solutions.specs.FlatCells.{AreFlatCells, no_cell}
+use Rattle.layer_core.specs.Pairing.{no_cell}
+use Rattle.solutions.specs.FlatCells.{AreFlatCells}
 use Rattle.solutions.specs.Solutions.{IsReadOff, cost_for}
 use Rattle.solutions.proofs.FlatLists.{flat_cost}
 use Rattle.solutions.proofs.ReadOrders.{CountedTo, counted_start, counted_small, counted_member, counted_fall, counted_next, counted_whole, full_small, less_member}

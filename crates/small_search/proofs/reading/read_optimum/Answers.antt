@@ -1,5 +1,5 @@
 use Rattle.std.proofs.Common.{◌-◌, ap, ◌∙◌, length, arith}
-use Rattle.solutions.specs.FlatCells.{no_cell}
+use Rattle.layer_core.specs.Pairing.{no_cell}
 use Rattle.solutions.specs.Solutions.{cost_for}
 use Rattle.solutions.proofs.FlatLists.{flat_cost}
 use Rattle.solutions.proofs.FoundOrders.{total_size, total_fewest}

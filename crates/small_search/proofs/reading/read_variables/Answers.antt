@@ -4,7 +4,8 @@ use Rattle.std.proofs.lemmas.Nat.{one_shl}
 use Rattle.definitions.specs.Orders.{has, members}
 use Rattle.subset_layers.specs.declared.costs.Cell.{Cell}
 use Rattle.layer_core.specs.Instances.{InstanceOf, cell_for}
-use Rattle.solutions.specs.FlatCells.{AreFlatCells, no_cell}
+use Rattle.layer_core.specs.Pairing.{no_cell}
+use Rattle.solutions.specs.FlatCells.{AreFlatCells}
 use Rattle.solutions.proofs.ReadOrders.{ReadTo, read_start, read_some, read_member, read_next, read_whole, less_member}
 use Rattle.small_search.specs.Searches.{IsPlainSearch}
 use Rattle.small_search.proofs.reading.read_variables.Goals as goal

@@ -3,9 +3,8 @@ use Rattle.std.proofs.lemmas.Bool.{cases_lt}
 use Rattle.std.proofs.lemmas.List.{length-append, get_or_append_left, get_or_push}
 use Rattle.std.proofs.lemmas.Nat.{one_shl, pow_pos}
 use Rattle.subset_layers.specs.declared.costs.Cell.{Cell}
-use Rattle.layer_core.specs.Pairing.{pair_of}
+use Rattle.layer_core.specs.Pairing.{no_cell, pair_of}
 use Rattle.layer_core.specs.Instances.{InstanceOf, cell_for}
-use Rattle.solutions.specs.FlatCells.{no_cell}
 use Rattle.small_search.specs.FirstCells.{AreFirstCells, IsFew}
 use Rattle.small_search.specs.Paths.{HoldPath}
 use Rattle.small_search.proofs.search.find_cells.Goals as goal

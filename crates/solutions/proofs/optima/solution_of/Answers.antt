@@ -2,8 +2,8 @@ use Rattle.std.proofs.Common.{◌∙◌}
 use Rattle.solutions.proofs.FoundOrders.{cells_listed}
 use Rattle.solutions.proofs.optima.solution_of.Goals as goal
 
-pub returns-clause-solution : goal.returns-clause-solution
-returns-clause-solution c =
+pub returns : goal.returns
+returns c =
     let t = c.args.cells.now in
     let o = c.in_ok-optimum.optimum in
     let is = c.in_ok-optimum.ensures.optimum in

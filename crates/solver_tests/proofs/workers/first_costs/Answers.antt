@@ -1,6 +1,6 @@
 use Rattle.std.proofs.Common.{◌≡◌, ap, ◌∙◌, rules}
 use Rattle.subset_layers.specs.Layers.{layer_with}
-use Rattle.solutions.proofs.CellPlaces.{layer_is}
+use Rattle.layer_core.proofs.CellPlaces.{layer_is}
 use Rattle.solver_tests.proofs.workers.first_costs.Goals as goal
 
 pub returns : goal.returns

@@ -1,5 +1,5 @@
 use Rattle.subset_layers.specs.Layers.{masks_of}
-use Rattle.solutions.proofs.CellPlaces.{found_cell}
+use Rattle.layer_core.proofs.CellPlaces.{found_cell}
 use Rattle.solver_tests.proofs.workers.first_of.Goals as goal
 
 pub returns : goal.returns

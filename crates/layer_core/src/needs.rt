@@ -1,0 +1,82 @@
+//! The variables whose widths the cell of a set takes.
+
+ghost use Rattle.std.specs.Prelude.{◌≡◌, ◌+◌, ◌^◌, ◌<◌, ℕ, map, IfOk};
+ghost use Rattle.definitions.specs.Orders.{mask_of};
+ghost use Rattle.definitions.specs.Cells.{asked, candidates};
+ghost use Rattle.subset_layers.specs.Layers.{layer_of, layer_with, block_masks};
+ghost use Rattle.layer_core.specs.LayerCosts.{AreCostsFor};
+ghost use Rattle.layer_core.specs.Needs.{IsInNextLayer, affordable, needed};
+
+use crate::instance::Instance;
+use order_model::{LowerBound, Mask, contains};
+use std::alloc::{AllocError, Global};
+use subset_layers::{Block, Costs};
+
+/// The members of the set `mask` whose widths its cell takes. `known` has those for which the set
+/// without the member costs at most the bound: with the lower bound by variables these, with that
+/// by widths all members if `known` has any.
+pub fn asked_members(lower_bound: LowerBound, mask: Mask, known: Mask) -> Mask
+    ensures { (n bound : ℕ) (costs : ℕ → ℕ) →
+        known ≡ mask_of (candidates n bound mask costs) → mask < 2 ^ n →
+        result ≡ mask_of (asked n lower_bound bound mask costs) }
+{
+    match lower_bound {
+        LowerBound::Variables => known,
+        LowerBound::Widths => { if known == 0 { 0 } else { mask } }
+    }
+}
+
+/// The members of the set `mask` for which the set without the member costs at most `bound`.
+/// `costs` is the layer before that of the set.
+fn affordable_members(mask: Mask, costs: &Costs, bound: u32) -> Mask
+    requires { IsInNextLayer costs.now mask }
+    ensures { result ≡ mask_of (affordable costs.now bound mask) }
+{
+    let mut found: Mask = 0;
+    for x in 0..costs.inputs() {
+        if contains(mask, x) {
+            let cost = costs.cost_of(mask - (1 << x)).unwrap();
+            if cost <= bound {
+                found |= 1 << x;
+            }
+        }
+    }
+    found
+}
+
+/// The members of the set `mask` whose widths its cell takes; none if the set is not lawful.
+/// `before` has the costs of the layer before.
+fn needed_members(instance: &Instance<'_>, before: &Costs, mask: Mask) -> Mask
+    requires next { IsInNextLayer before.now mask }
+    requires inputs { before.now.inputs ≡ instance.now.problem.inputs }
+    requires costs { AreCostsFor instance.now before.now }
+    ensures { result ≡ needed instance.now mask }
+{
+    if instance.lawful(mask) {
+        let limit = instance.limit();
+        let known = affordable_members(mask, before, limit.bound);
+        asked_members(limit.lower_bound, mask, known)
+    } else {
+        0
+    }
+}
+
+/// For each set of the block, the mask of the members whose widths its cell takes. `before` has the
+/// costs of the layer before that of the block.
+pub fn needs_of_block(
+    alloc: Global,
+    instance: &Instance<'_>,
+    before: &Costs,
+    block: &Block,
+) -> Result<Vec<Mask>, AllocError>
+    requires next { layer_of block.now ≡ layer_with before.now.inputs (before.now.size + 1) }
+    requires inputs { before.now.inputs ≡ instance.now.problem.inputs }
+    requires costs { AreCostsFor instance.now before.now }
+    ensures { IfOk result (λ v. v.items ≡ map (needed instance.now) (block_masks block.now)) }
+{
+    let mut needs = Vec::with_capacity(alloc, block.len())?;
+    for mask in block.masks() {
+        needs.push(needed_members(instance, before, *mask))?;
+    }
+    Ok(needs)
+}

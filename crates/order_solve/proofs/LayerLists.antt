@@ -1,0 +1,23 @@
+-- The layers that are done.
+--     layers_push      one layer more
+use Rattle.std.proofs.Common.{◌≡◌, ℕ, inl, inr, List, [], ◌∷◌, ◌++◌, length, length-append, Some, sym, ap, ◌∙◌, subst, arith}
+use Rattle.std.proofs.lemmas.Bool.{cases_lt}
+use Rattle.std.proofs.lemmas.List.{get_or_append_left, get_or_push}
+use Rattle.std.proofs.lemmas.Option.{slice_get_within, slice_get-get_or, get_or_from_slice_get}
+use Rattle.subset_layers.specs.Costs.{CostsOf}
+use Rattle.layer_core.specs.Instances.{InstanceOf}
+use Rattle.layer_core.specs.LayerCosts.{IsLayerFor, AreLayersFor}
+
+pub layers_push : (t : InstanceOf) (layers : List CostsOf) (c : CostsOf) → AreLayersFor t layers → IsLayerFor t (length layers) c →
+    AreLayersFor t (layers ++ c ∷ [])
+layers_push t layers c h new k d e = elim (cases_lt k (length layers)) [
+  | inl lt ↦ h k d
+      (slice_get-get_or layers k d lt
+      ∙ ap Some (sym (get_or_append_left layers (c ∷ []) d k lt) ∙ get_or_from_slice_get (layers ++ c ∷ []) k d d e))
+  | inr ge ↦
+      let w = slice_get_within (layers ++ c ∷ []) k d e in
+      let l = length-append layers (c ∷ []) in
+      let at : length layers ≡ k = omega (arith, w, l, ge) in
+      let is : d ≡ c = sym (get_or_from_slice_get (layers ++ c ∷ []) k d d e) ∙ get_or_push layers c d k at in
+      subst (λ (z : CostsOf). IsLayerFor t k z) (sym is) (subst (λ (i : ℕ). IsLayerFor t i c) at new)
+]

@@ -1,0 +1,10 @@
+use Rattle.std.proofs.Common.{sym, subst}
+use Rattle.definitions.specs.Problems.{functions}
+use Rattle.symmetric_pairs.specs.SymmetricPairs.{IsHarmless}
+use Rattle.symmetric_pairs.proofs.FirstSorted.{harmless_same}
+use Rattle.order_solve.proofs.solver.count_widths.Goals as goal
+
+pub instance_of-instance-requires-clause-harmless : goal.instance_of-instance-requires-clause-harmless
+instance_of-instance-requires-clause-harmless c =
+    subst (IsHarmless c.args.problem.now.inputs (functions c.args.problem.now) c.args.sifted.pairs) (sym c.pairs.ensures.value)
+    (harmless_same c.args.problem.now.inputs (functions c.args.problem.now) c.args.sifted.pairs)

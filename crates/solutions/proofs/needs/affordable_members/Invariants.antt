@@ -1,7 +1,0 @@
-use Rattle.definitions.proofs.Bits.Problems.{MaskOfFirst}
-use Rattle.subset_layers.specs.Costs.{cost_without}
-use Rattle.solutions.proofs.WantedMembers.{is_affordable}
-use Rattle.solutions.proofs.needs.affordable_members.Given as goal
-
-abbrev pub invariant-loop-x : goal.invariant-loop-x
-invariant-loop-x l = MaskOfFirst (is_affordable (cost_without l.costs l.mask) l.bound l.mask) l.x l.found

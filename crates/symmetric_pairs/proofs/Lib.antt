@@ -1,0 +1,5 @@
+pub mod PairExchanges
+pub mod SortedOrders
+pub mod FirstSorted
+pub mod SymmetricPoints
+pub mod SymmetricWords
