@@ -1,15 +1,20 @@
 -- Pairs that a search keeps besides those that are asked for.
+--     harmless_kept      what is asked for may be kept
 --     found_harmless      what is best among orders that keep harmless pairs is so among those that keep what is asked for
-use Rattle.std.proofs.Common.{◌≡◌, List, Result, IfOk, ap, ◌∙◌, subst}
+use Rattle.std.proofs.Common.{◌≡◌, ℕ, List, Result, IfOk, sym, ap, ◌∙◌, subst}
 use Rattle.std.proofs.lemmas.Result.{IfOk-weaker}
-use Rattle.definitions.specs.KeptPairs.{KeptPairs}
+use Rattle.definitions.specs.Functions.{Function}
 use Rattle.definitions.specs.Pairs.{Pair}
 use Rattle.definitions.specs.Problems.{TruthTables, functions}
 use Rattle.layer_core.specs.Instances.{InstanceOf}
 use Rattle.order_model.specs.declared.sized_orders.SizedOrder.{SizedOrder}
 use Rattle.symmetric_pairs.specs.SymmetricPairs.{IsHarmless}
-use Rattle.symmetric_pairs.proofs.FirstSorted.{fewest_harmless, first_harmless}
+use Rattle.symmetric_pairs.proofs.FirstSorted.{fewest_harmless, first_harmless, harmless_same}
 use Rattle.solutions.specs.Solutions.{IsOptimumFor}
+
+-- what is asked for may be kept
+pub harmless_kept : (n : ℕ) (F : List Function) (P Q : List Pair) → Q ≡ P → IsHarmless n F P Q
+harmless_kept n F P Q e = subst (λ (R : List Pair). IsHarmless n F P R) (sym e) (harmless_same n F P)
 
 optimum_harmless : (t : TruthTables) (P Q : List Pair) (o : SizedOrder) → IsHarmless t.inputs (functions t) P Q → IsOptimumFor t Q o → IsOptimumFor t P o
 optimum_harmless t P Q o h best = search (first_harmless, fewest_harmless)

@@ -34,6 +34,7 @@ impl<'a> Model for SearchStart<'a> {
 }
 
 /// The pairs that a search with this lower bound keeps if those in `asked` are required.
+#[tactic(auto, using(crate::proofs::Harmless::harmless_kept))]
 fn kept_pairs(
     alloc: Global,
     problem: &Problem,

@@ -90,6 +90,7 @@ pub fn find_optimum_alone(
 /// The first order of the fewest nodes among those that keep the pairs of `sifted`, and what its
 /// certificate lists. The lower bound is the one by variables: one node above a set for each
 /// essential variable outside. Workers call the gate for each set but the empty one.
+#[tactic(auto, using(crate::proofs::Harmless::harmless_kept))]
 pub fn solve<R: Threads + Sync, G: Gate>(
     rt: &R,
     alloc: Global,
@@ -111,6 +112,7 @@ pub fn solve<R: Threads + Sync, G: Gate>(
 
 /// The first order of the fewest nodes among those that keep the pairs of `sifted`, and what its
 /// certificate lists, by the calling thread alone.
+#[tactic(auto, using(crate::proofs::Harmless::harmless_kept))]
 pub fn solve_alone(alloc: Global, problem: &Problem, sifted: Sifted) -> Result<Solution, AllocError>
     requires { sifted.problem ≡ problem.now }
     ensures { IfOk result (IsSolution problem.now sifted.pairs) }
@@ -122,6 +124,7 @@ pub fn solve_alone(alloc: Global, problem: &Problem, sifted: Sifted) -> Result<S
 }
 
 /// How many widths the cells of all sets take in the search of `solve_alone`.
+#[tactic(auto, using(crate::proofs::Harmless::harmless_kept))]
 pub fn count_widths(alloc: Global, problem: &Problem, sifted: Sifted) -> Result<u64, AllocError>
     requires { sifted.problem ≡ problem.now }
     ensures { IfOk result

@@ -1,11 +1,9 @@
 -- The layer of a set.
 --     set_there, cell_found      the layer in which a set is, and its cell there
 --     ones_le, ones_some      how many members a set has
-use Rattle.std.proofs.Common.{◌≡◌, ℕ, ◌+◌, ◌^◌, ◌<◌, ◌≤◌, inl, inr, true, List, [], ◌∷◌, ◌++◌, length, length-append, Some, IfSome, Option, sym, ap, ◌∙◌, subst, arith, count_ones, eqb}
-use Rattle.std.proofs.lemmas.Bool.{cases_eq, cases_lt}
+use Rattle.std.proofs.Common.{◌≡◌, ℕ, ◌^◌, ◌<◌, ◌≤◌, true, List, length, Some, IfSome, Option, sym, ap, ◌∙◌, subst, arith, count_ones, eqb}
+use Rattle.std.proofs.lemmas.Bool.{cases_eq}
 use Rattle.std.proofs.lemmas.List.FromFn.{length-range_with_len}
-use Rattle.std.proofs.lemmas.List.{get_or_append_left, get_or_push}
-use Rattle.std.proofs.lemmas.Option.{slice_get_within, slice_get-get_or, get_or_from_slice_get}
 use Rattle.definitions.specs.Functions.{Function}
 use Rattle.std.specs.Int.{bit_at}
 use Rattle.std.proofs.lemmas.Nat.{zero_from_ones}
@@ -21,7 +19,7 @@ use Rattle.subset_layers.specs.Costs.{CostsOf, layer_of_costs, as_pair, AreTrueC
 use Rattle.subset_layers.proofs.BlockLists.{masks_has}
 use Rattle.definitions.proofs.Bits.Ones.{ones-members}
 use Rattle.layer_core.specs.Instances.{InstanceOf, cell_for}
-use Rattle.layer_core.specs.LayerCosts.{IsLayerFor, AreLayersFor, AreDone}
+use Rattle.layer_core.specs.LayerCosts.{IsLayerFor}
 use Rattle.definitions.proofs.Lists.Ranges.{filter_at_most}
 
 module _ (t : InstanceOf) (mask : ℕ) (c : CostsOf) (small : mask < 2 ^ t.problem.inputs) (h : IsLayerFor t (count_ones mask) c) where

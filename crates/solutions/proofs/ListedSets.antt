@@ -1,10 +1,9 @@
 -- The listed sets.
 --     ListedTo, listed_start, listed_yes, listed_no, listed_whole      the sets in turn
-use Rattle.std.proofs.Common.{◌≡◌, ℕ, ◌+◌, ◌-◌, ◌*◌, ◌^◌, ◌<◌, ◌≤◌, Bool, true, false, cond, List, [], ◌∷◌, ◌++◌, map, count_ones, ltb, refl, sym, ap, ap₂, ◌∙◌, arith}
-use Rattle.std.specs.List.{filter, sum, range_with_len}
+use Rattle.std.proofs.Common.{◌≡◌, ℕ, ◌+◌, ◌-◌, ◌^◌, ◌<◌, ◌≤◌, Bool, true, false, cond, List, [], ◌∷◌, ◌++◌, map, ltb, refl, sym, ap, ap₂, ◌∙◌, arith}
+use Rattle.std.specs.List.{filter, range_with_len}
 use Rattle.std.proofs.lemmas.Bool.{lt-ltb, le-ltb}
 use Rattle.std.proofs.lemmas.List.{map-append, append-nil}
-use Rattle.std.proofs.lemmas.List.FromFn.{sum_by-map-range_with_len_more}
 use Rattle.definitions.specs.Functions.{Function}
 use Rattle.definitions.specs.Orders.{members}
 use Rattle.definitions.specs.Pairs.{Pair}
@@ -12,16 +11,14 @@ use Rattle.definitions.specs.Problems.{functions}
 use Rattle.definitions.specs.Widths.{essentials_outside}
 use Rattle.definitions.specs.declared.limits.LowerBound.{LowerBound}
 use Rattle.definitions.specs.declared.limits.LowerBound.TheVariants.{Variables}
-use Rattle.definitions.specs.Cells.{cell_cost, widths_taken}
+use Rattle.definitions.specs.Cells.{cell_cost}
 use Rattle.definitions.specs.Certificates.{Cell, least_listed, listed_masks}
 use Rattle.definitions.proofs.Widths.Cells.{cost_known}
 use Rattle.definitions.proofs.Certificates.Listed.{listed_by_cells}
 use Rattle.subset_layers.proofs.ChosenNumbers.{filter_range_more}
 use Rattle.layer_core.specs.Instances.{InstanceOf}
 use Rattle.definitions.specs.declared.listed_cells.ListedCell.{ListedCell}
-use Rattle.layer_core.specs.Needs.{needed, width_count}
 use Rattle.definitions.specs.Listed.{listed}
-use Rattle.layer_core.proofs.WantedMembers.{needed_ones, wanted_none, few_each}
 
 module _ (t : InstanceOf) where
   abbrev n : ℕ

@@ -3,7 +3,6 @@
 use Rattle.std.proofs.Common.{◌≡◌, ℕ, ◌+◌, ◌*◌, ◌^◌, ◌≤◌, map, count_ones, ap, ◌∙◌, arith}
 use Rattle.std.specs.List.{sum, range_with_len}
 use Rattle.std.proofs.lemmas.List.FromFn.{sum_by-map-range_with_len_more}
-use Rattle.definitions.specs.Problems.{functions}
 use Rattle.definitions.specs.Cells.{widths_taken}
 use Rattle.layer_core.specs.Instances.{InstanceOf}
 use Rattle.layer_core.specs.Needs.{needed, width_count}

@@ -1,11 +1,8 @@
-use Rattle.std.proofs.Common.{◌≡◌, ◌<◌, ℕ, List, length, get_or, slice_index, inl, inr, sym, ap, ◌∙◌, subst, arith}
+use Rattle.std.proofs.Common.{◌≡◌, ◌<◌, ℕ, List, Some, get_or, slice_get, slice_index, inl, inr, sym, ap, ◌∙◌, subst, arith}
 use Rattle.std.proofs.lemmas.Bool.{cases_eq}
-use Rattle.std.proofs.lemmas.List.{get_or-map}
-use Rattle.layer_core.proofs.Layouts.{length-map_lem}
+use Rattle.std.proofs.lemmas.Option.{slice_get-get_or}
+use Rattle.layer_core.proofs.CellPlaces.{found_cell}
 use Rattle.subset_layers.specs.Layers.{block_masks}
-use Rattle.subset_layers.specs.declared.costs.Cell.{Cell}
-use Rattle.layer_core.specs.Instances.{cell_for}
-use Rattle.layer_core.specs.Pairing.{pair_of}
 use Rattle.order_solve.specs.Gains.{IsPosted}
 use Rattle.order_solve.proofs.Posts.{stays_trans, posted_stays}
 use Rattle.definitions.proofs.Lists.Accepted.{index_of}
@@ -15,16 +12,9 @@ pub post_cell-requires-clause-cell : goal.post_cell-requires-clause-cell
 post_cell-requires-clause-cell g c κs within =
     let masks = block_masks c.args.block.now in
     let items = c.masks-mask-items.result.now in
-    let is = c.masks-mask-items.ensures in
-    let t = c.args.worker.now.context.now.instance in
-    let cells : List Cell = c.args.cells.now in
-    let none : Cell = record { cost = 0; variable = 0 } in
-    let lt : c.loop-i.i < length masks = (let l = ap length is in omega (arith, l)) in
-    let long : length cells ≡ length masks = sym (length-map_lem pair_of cells) ∙ ap length c.requires.cells ∙ length-map_lem (cell_for t) masks in
-    sym (get_or-map pair_of cells c.loop-i.i none (0, 0) (omega (arith, long, lt)))
-    ∙ ap (λ (xs : List (ℕ × ℕ)). get_or xs c.loop-i.i (0, 0)) c.requires.cells
-    ∙ get_or-map (cell_for t) masks c.loop-i.i 0 (0, 0) lt
-    ∙ ap (λ (xs : List ℕ). cell_for t (get_or xs c.loop-i.i 0)) (sym is)
+    let mask = get_or items c.loop-i.i 0 in
+    found_cell c.args.worker.now.context.now.instance masks c.args.cells.now c.loop-i.i mask c.requires.cells
+    (subst (λ (xs : List ℕ). slice_get xs c.loop-i.i ≡ Some mask) c.masks-mask-items.ensures (slice_get-get_or items c.loop-i.i 0 (omega arith)))
 
 pub loop-i-preserved : goal.loop-i-preserved
 loop-i-preserved g c =

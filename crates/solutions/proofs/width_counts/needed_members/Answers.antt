@@ -1,4 +1,4 @@
-use Rattle.std.proofs.Common.{refl, sym, ap, ◌∙◌, subst}
+use Rattle.std.proofs.Common.{refl, sym, ap, ◌∙◌}
 use Rattle.definitions.specs.Orders.{mask_of, members}
 use Rattle.definitions.specs.Pairs.{is_lawful}
 use Rattle.definitions.specs.Cells.{asked}
