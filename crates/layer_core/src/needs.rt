@@ -8,7 +8,7 @@ ghost use Rattle.layer_core.specs.LayerCosts.{AreCostsFor};
 ghost use Rattle.layer_core.specs.Needs.{IsInNextLayer, affordable, needed};
 
 use crate::instance::Instance;
-use order_model::{LowerBound, Mask, contains};
+use order_model::{LowerBound, Mask, next_member};
 use std::alloc::{AllocError, Global};
 use subset_layers::{Block, Costs};
 
@@ -33,13 +33,13 @@ fn affordable_members(mask: Mask, costs: &Costs, bound: u32) -> Mask
     ensures { result ≡ mask_of (affordable costs.now bound mask) }
 {
     let mut found: Mask = 0;
-    for x in 0..costs.inputs() {
-        if contains(mask, x) {
-            let cost = costs.cost_of(mask - (1 << x)).unwrap();
-            if cost <= bound {
-                found |= 1 << x;
-            }
+    let mut from = 0;
+    while let Some(x) = next_member(mask, from) {
+        let cost = costs.cost_of(mask - (1 << x)).unwrap();
+        if cost <= bound {
+            found |= 1 << x;
         }
+        from = x + 1;
     }
     found
 }

@@ -264,6 +264,16 @@ module _ (test : ℕ → Bool) (i mask : ℕ) (small : i < 16) (m : MaskOfFirst 
   }
 
 -- once all variables have been tested, it is the mask of those that pass
+pub mask_without_gap : (test : ℕ → Bool) (i j mask : ℕ) → i ≤ j → ((y : ℕ) → i ≤ y → y < j → test y ≡ false) → MaskOfFirst test i mask →
+    MaskOfFirst test j mask
+mask_without_gap test i j mask le none m = record {
+  below = λ y h. elim (cases_lt y i) [
+    | inl lt ↦ m.below y lt
+    | inr g ↦ m.above y g ∙ sym (ap (λ b. cond b 1 0) (none y g h))
+  ];
+  above = λ y h. m.above y (omega arith);
+}
+
 pub mask_of_passing : (test : ℕ → Bool) (n mask : ℕ) → MaskOfFirst test n mask → mask ≡ mask_of (filter test (variables n))
 mask_of_passing test n mask m = same_from_bits mask (mask_of (filter test (variables n))) (λ y. bits y (cases_lt y n))
   where
