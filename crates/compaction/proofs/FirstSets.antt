@@ -4,13 +4,12 @@
 --     one_set_more      one more of them
 --     can_take, with_larger      a larger member can come into all of them; with those that have it they are the first sets
 --     larger_set, lacks_larger      the mask of a set with a larger member, which it lacked
-use Rattle.std.proofs.Common.{◌≡◌, ℕ, zero, suc, ◌+◌, ◌*◌, ◌%◌, ◌^◌, ◌<◌, ltb, List, Option, None, Some, IfSome, is_some, [], ◌∷◌, ◌++◌, map, length, get_or, false, sym, ap, ◌∙◌, arith, bit_or, zero-mul}
+use Rattle.std.proofs.Common.{◌≡◌, ℕ, zero, suc, ◌+◌, ◌*◌, ◌^◌, ◌<◌, List, Option, None, Some, [], ◌∷◌, ◌++◌, map, length, get_or, false, sym, ap, ◌∙◌, arith, bit_or, zero-mul}
 use Rattle.std.specs.List.{All, range_with_len}
 use Rattle.std.specs.Borrow.{Bor}
 use Rattle.std.specs.Option.{option_copied, unwrap_or}
 use Rattle.std.proofs.Math.Nat.{mod-eq_of_lt}
-use Rattle.std.proofs.lemmas.Bool.{ltb-true}
-use Rattle.std.proofs.lemmas.Nat.{one_shl, or_disjoint}
+use Rattle.std.proofs.lemmas.Nat.{or_disjoint}
 use Rattle.std.proofs.lemmas.Nat.Bits.{and_pow, bit_at_above}
 use Rattle.std.proofs.lemmas.List.{length-append, length-map, append-nil, append_assoc, ext_get_or, get_or-map}
 use Rattle.std.proofs.lemmas.List.FromFn.{map-range_with_len_more, get_or-map-range_with_len, length-map-range_with_len}

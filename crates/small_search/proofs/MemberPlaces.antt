@@ -3,7 +3,7 @@
 --     member_at      where it stands among the members
 --     members_none, members_next      the members below 0; below one more variable
 --     width_of_values      a width is how many of the values that occur depend on the variable's place
-use Rattle.std.proofs.Common.{◌≡◌, ℕ, zero, suc, ◌+◌, ◌-◌, ◌^◌, ◌<◌, ◌≤◌, Bool, true, false, cond, ◌&&◌, List, [], ◌∷◌, ◌++◌, length, get_or, count_ones, refl, sym, ap, ◌∙◌, subst, arith, eqb, eq-eqb, ne_eqb, nat_eq}
+use Rattle.std.proofs.Common.{◌≡◌, ℕ, zero, suc, ◌+◌, ◌-◌, ◌^◌, ◌<◌, ◌≤◌, Bool, true, false, cond, ◌&&◌, List, [], ◌∷◌, ◌++◌, length, get_or, count_ones, refl, sym, ap, ◌∙◌, subst, arith, eqb, eq-eqb, nat_eq}
 use Rattle.std.specs.Int.{bit_at}
 use Rattle.std.specs.List.{filter, range_with_len}
 use Rattle.std.proofs.lemmas.List.{length-append}

@@ -4,10 +4,9 @@
 --     asked_alike, costs_for_cell      the same costs at all members ask for the same widths; those of the layer before
 --     members_widths      the widths of all members, if the bound is by widths
 --     cell_found, cell_clipped      the cell where the best sum leaves room, and where none does
-use Rattle.std.proofs.Common.{◌≡◌, ℕ, ◌+◌, ◌-◌, ◌^◌, ◌<◌, ◌≤◌, Bool, true, cond, if◌then◌else◌, ◌||◌, nat_eq, nat_le, inl, inr, IsTrue, List, [], ◌∷◌, length, slice_index, unwrap_or, refl, sym, ap, ap₂, ◌∙◌, arith, eq-eqb, w16}
-use Rattle.std.specs.List.{filter}
+use Rattle.std.proofs.Common.{◌≡◌, ℕ, ◌+◌, ◌-◌, ◌^◌, ◌<◌, ◌≤◌, true, if◌then◌else◌, ◌||◌, nat_eq, nat_le, inl, inr, IsTrue, List, [], ◌∷◌, length, slice_index, unwrap_or, refl, sym, ap, ◌∙◌, arith, eq-eqb, w16}
 use Rattle.std.specs.Int.{bit_at, trailing_zeros}
-use Rattle.std.proofs.lemmas.Bool.{cases_lt, or_right}
+use Rattle.std.proofs.lemmas.Bool.{cases_lt}
 use Rattle.std.proofs.lemmas.Nat.Bits.{bit_at-trailing_zeros, bit_at_above}
 use Rattle.definitions.specs.Functions.{Function}
 use Rattle.definitions.specs.Orders.{has, IsOrder, members, without}

@@ -1,6 +1,6 @@
 -- Rows of numbers by variables, written for the members of a set one after the other.
 --     row_written      one member more: its entry is written
-use Rattle.std.proofs.Common.{◌≡◌, ℕ, ◌+◌, ◌<◌, List, length, inl, inr, set, get_or, sym, ap, ◌∙◌, subst, arith, get_or-set_other, get_or-set_same}
+use Rattle.std.proofs.Common.{◌≡◌, ℕ, ◌+◌, ◌<◌, List, length, inl, inr, set, get_or, sym, ap, ◌∙◌, arith, get_or-set_other, get_or-set_same}
 use Rattle.std.proofs.lemmas.Bool.{cases_lt}
 
 module _ (P : ℕ → Type 0) (wanted : ℕ → ℕ) (row : List ℕ) (x : ℕ) (before : (y : ℕ) → y < x → P y → get_or row y 0 ≡ wanted y) where

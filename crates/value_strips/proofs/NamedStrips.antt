@@ -3,7 +3,7 @@
 --     strip_of, strip_bits      a strip of a function's words
 --     values_at, table_bit, words_parted      where a function's values stand among all
 --     stored_strips, stored_values      the numbers of the stored strips are strips of the values
-use Rattle.std.proofs.Common.{◌≡◌, ◌==◌, ◌++◌, ◌∷◌, ◌⊎◌, [], ℕ, zero, suc, ◌+◌, ◌*◌, ◌-◌, ◌/◌, ◌%◌, ◌^◌, ◌<◌, ◌≤◌, Bool, true, false, cond, List, length, map, get_or, zero-mul, refl, sym, ap, ◌∙◌, subst, arith, inl, inr, eqb}
+use Rattle.std.proofs.Common.{◌≡◌, ◌==◌, ◌++◌, ◌∷◌, [], ℕ, zero, suc, ◌+◌, ◌*◌, ◌-◌, ◌/◌, ◌%◌, ◌^◌, ◌<◌, ◌≤◌, Bool, true, false, cond, List, length, map, get_or, zero-mul, refl, sym, ap, ◌∙◌, subst, arith, inl, inr, eqb}
 use Rattle.std.proofs.Math.Nat.{div-add-mod, mod-lt, suc-mul, div-lt_iff_lt-mul}
 use Rattle.std.proofs.lemmas.Nat.{pow-add, div-mul-add, mod-mul-add}
 use Rattle.std.proofs.lemmas.Bool.{cases_lt, cases_Bool, true≢false}

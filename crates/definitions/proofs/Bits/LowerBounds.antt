@@ -5,7 +5,7 @@
 --     entry_written      one more entry of a row
 --     most_none, most_with      the most that the members of a mask ask for, one after another
 --     members_gap      no members from a variable on
-use Rattle.std.proofs.Common.{◌≡◌, ◌≢◌, ℕ, zero, suc, ◌+◌, ◌<◌, ◌≤◌, max, Bool, true, false, not, cond, ◌&&◌, ◌||◌, List, [], ◌∷◌, ◌++◌, length, map, slice_index, get_or, set, take, get_or-set_same, get_or-set_other, refl, sym, ap, ap₂, ◌∙◌, arith, eqb, eq-eqb, ne_eqb, bit_or, IsTrue}
+use Rattle.std.proofs.Common.{◌≡◌, ℕ, zero, suc, ◌+◌, ◌<◌, ◌≤◌, max, Bool, true, false, not, cond, ◌&&◌, ◌||◌, List, [], ◌∷◌, ◌++◌, length, map, slice_index, get_or, set, take, get_or-set_same, get_or-set_other, refl, sym, ap, ap₂, ◌∙◌, arith, eqb, eq-eqb, ne_eqb, bit_or, IsTrue}
 use Rattle.std.specs.Int.{bit_at}
 use Rattle.std.specs.List.{filter, fold, list_any, range_with_len}
 use Rattle.std.proofs.lemmas.List.{append-nil, take_more, take_more_set, take_all, map-append, length-map}

@@ -1,7 +1,6 @@
-use Rattle.std.proofs.Common.{◌≡◌, ℕ, ◌∙◌, ◌+◌, ◌<◌, ◌≤◌, eqb, cond, List, inl, inr, refl, slice_index, sym, ap, arith, eq-eqb, ne_eqb}
+use Rattle.std.proofs.Common.{◌≡◌, ℕ, ◌∙◌, eqb, cond, List, refl, slice_index, sym, ap, arith, eq-eqb, ne_eqb}
 use Rattle.std.specs.Int.{bit_at}
-use Rattle.std.proofs.lemmas.Bool.{cases_lt}
-use Rattle.compaction.proofs.RowSteps.{IsRowBelow, row_passed, row_written}
+use Rattle.compaction.proofs.RowSteps.{row_passed, row_written}
 use Rattle.compaction.proofs.image_rows.members_moved.Goals as goal
 
 -- the row's entry at x

@@ -1,4 +1,4 @@
-use Rattle.std.proofs.Common.{◌≡◌, ◌≢◌, ℕ, ◌+◌, ◌-◌, ◌*◌, ◌/◌, ◌%◌, ◌^◌, ◌<◌, ◌≤◌, inl, inr, sym, ap, ◌∙◌, subst, arith, w32}
+use Rattle.std.proofs.Common.{◌≡◌, ◌≢◌, ℕ, ◌+◌, ◌-◌, ◌/◌, ◌%◌, ◌^◌, ◌<◌, ◌≤◌, inl, inr, sym, ap, ◌∙◌, subst, arith, w32}
 use Rattle.std.specs.Int.{bit_at, trailing_zeros}
 use Rattle.std.proofs.Math.Nat.{div-div-eq-div-mul, div-le_self}
 use Rattle.std.proofs.lemmas.Bool.{cases_lt}
@@ -47,9 +47,11 @@ pub returns-else-rest-eq0-clause-member : goal.returns-else-rest-eq0-clause-memb
 returns-else-rest-eq0-clause-member c =
     let e = c.from.ensures in
     subst (λ k. (c.args.from ≤ c.args.from + trailing_zeros w32 (k / 2 ^ c.args.from)) × (c.args.from + trailing_zeros w32 (k / 2 ^ c.args.from) < 16)
-    × (bit_at c.args.set (c.args.from + trailing_zeros w32 (k / 2 ^ c.args.from)) ≡ 1)) (sym e)
-    (omega arith, below c.args.set c.args.from c.ranges.set.fits (some_left c) (left_fits c),
-    here c.args.set c.args.from c.ranges.set.fits (some_left c) (left_fits c))
+    × (bit_at c.args.set (c.args.from + trailing_zeros w32 (k / 2 ^ c.args.from)) ≡ 1)) (sym e) (
+      omega arith,
+      below c.args.set c.args.from c.ranges.set.fits (some_left c) (left_fits c),
+      here c.args.set c.args.from c.ranges.set.fits (some_left c) (left_fits c),
+    )
 
 pub returns-else-rest-eq0-clause-first : goal.returns-else-rest-eq0-clause-first
 returns-else-rest-eq0-clause-first c =

@@ -1,9 +1,7 @@
-use Rattle.std.proofs.Common.{◌≡◌, ◌*◌, ◌%◌, ◌^◌, ◌<◌, ◌≤◌, ℕ, inl, inr, get_or, ◌∙◌, arith}
-use Rattle.std.specs.Int.{bit_at}
-use Rattle.std.proofs.lemmas.Bool.{cases_lt, false≢true}
+use Rattle.std.proofs.Common.{◌≡◌, ◌*◌, ◌%◌, ◌^◌, ◌≤◌, ℕ, get_or, ◌∙◌, arith}
+use Rattle.std.proofs.lemmas.Bool.{false≢true}
 use Rattle.std.proofs.lemmas.Nat.{one_shl}
-use Rattle.std.proofs.lemmas.Nat.Bits.{bit_at_above}
-use Rattle.definitions.proofs.Precedence.Masks.{bit_inside, row_small, some_bit, not_one_from_zero, within_16}
+use Rattle.definitions.proofs.Precedence.Masks.{bit_inside, row_small, some_bit, within_16}
 use Rattle.order_model.proofs.pairs.are_within.Goals as goal
 use Rattle.order_model.proofs.pairs.are_within.Goals.{then-a-n, else-a-n}
 

@@ -9,11 +9,10 @@ use Rattle.definitions.specs.Orders.{has, members}
 use Rattle.definitions.proofs.Bits.LowerBounds.{members_gap}
 use Rattle.definitions.proofs.Precedence.MaskLaws.{member_bit}
 use Rattle.definitions.proofs.Precedence.Masks.{bit_inside}
-use Rattle.definitions.proofs.Bits.Masks.{members_small}
 use Rattle.subset_layers.specs.Sums.{IsBest}
 use Rattle.subset_layers.specs.declared.costs.Cell.{Cell}
 use Rattle.definitions.proofs.Bits.Ones.{ones-members}
-use Rattle.subset_layers.proofs.CostLists.{bit_from_member, member_from_bit}
+use Rattle.subset_layers.proofs.CostLists.{member_from_bit}
 use Rattle.layer_core.specs.Pairing.{no_cell}
 use Rattle.subfunction_classes.specs.Table.{ClassesOf, classes_of, set_of}
 use Rattle.small_search.specs.Occurrences.{AreOf, CanBeCounted}

@@ -1,6 +1,5 @@
-use Rattle.std.proofs.Common.{◌≡◌, ℕ, suc, ◌+◌, ◌*◌, ◌-◌, ◌^◌, ◌<◌, ◌≤◌, [], false, length, get_or, sym, ap, ◌∙◌, subst, arith, mul_assoc, zero-mul, pow_mono, replicate}
+use Rattle.std.proofs.Common.{◌≡◌, ℕ, suc, ◌+◌, ◌*◌, ◌-◌, ◌^◌, ◌<◌, ◌≤◌, [], false, length, get_or, sym, ap, ◌∙◌, subst, arith, mul_assoc, zero-mul, pow_mono}
 use Rattle.std.proofs.lemmas.Grind.{common_steps}
-use Rattle.std.proofs.lemmas.List.{get_or-replicate, length-replicate}
 use Rattle.std.proofs.Math.Nat.{suc-mul, mul-le-mul_left}
 use Rattle.definitions.specs.Problems.{outputs_of}
 use Rattle.subfunction_classes.specs.Values.{values_of}

@@ -1,5 +1,4 @@
-use Rattle.std.proofs.Common.{◌≡◌, ℕ, ◌+◌, ◌-◌, ◌^◌, ◌<◌, List, map, max, refl, sym, ap, ap₂, ◌∙◌, arith}
-use Rattle.std.specs.Int.{bit_at}
+use Rattle.std.proofs.Common.{◌≡◌, ℕ, ◌+◌, ◌-◌, List, map, max, refl, sym, ap, ap₂, ◌∙◌, arith}
 use Rattle.std.specs.List.{fold}
 use Rattle.definitions.specs.Orders.{members}
 use Rattle.definitions.specs.Problems.{functions}
