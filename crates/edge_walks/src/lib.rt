@@ -1,7 +1,7 @@
 //! The walk of the checker over all sets: the first of the judged edges that fails.
 //!
-//! It shares with the search definitions and laws, the types of problems, the numbering of pairs of
-//! classes and the counting of those that depend on a variable.
+//! It shares with the search definitions and laws, the types of problems, the finding of exchanges,
+//! the numbering of pairs of classes and the counting of those that depend on a variable.
 #![tactic(auto)]
 
 mod class_table;

@@ -14,7 +14,7 @@ pub type Edge = (Mask, VarIx);
 #[derive(Clone, Copy)]
 pub struct Edges<'a> {
     pub problem: &'a Problem,
-    /// The value of each set, at its mask (see `values.rt`).
+    /// The value of each set, at its mask.
     pub values: &'a [u32],
     /// For each set the variables by which edges are judged into it.
     pub judged: &'a [Mask],
