@@ -1,7 +1,7 @@
 -- Blocks of sets: those that differ from one set in variables below a bound alone.
 --     IsBlock n set y      the set has no variable below y, and all these sets have variables below n
 --     StandsAt P y t      a class table of P by which a walk can go on over the block of its set
---     table_or o t, IsPartTable root part x t      a table, or another one where there is none; a table of the variables of a mask from x on
+--     table_or o t, IsPartTable root part x t      the table in o, or t if o has none; a table of the variables of `part` from x on
 use Rattle.std.specs.Prelude.{◌≡◌, ℕ, ◌≤◌, ◌+◌, ◌*◌, ◌/◌, ◌%◌, ◌^◌, Option, Some, None}
 use Rattle.definitions.specs.Problems.{TruthTables}
 use Rattle.edge_walks.specs.Tables.{TableOf}
@@ -18,7 +18,7 @@ pub record StandsAt (P : TruthTables) (y : ℕ) (t : TableOf) : Type 0 where
   pub level : y ≤ t.level
   pub block : IsBlock P.inputs t.set y
 
--- a table, or another one where there is none
+-- the table in o, or t if o has none
 abbrev pub table_or : Option TableOf → TableOf → TableOf
 table_or None t = t
 table_or (Some u) t = u

@@ -2,7 +2,7 @@
 --     TableOf, table_at problem set level      a table's value: also the bound below which no variable is in the set, and rows may be left out
 --     rows_with t x, rows_at t y      the table with one more variable in its set; one with shorter rows
 --     HoldsRows t numbers masks      the numbers are those of the set's classes, without rows that have come before
---     IsFull t count      these are all distinct, there are so many, and each depends on the whole set
+--     IsFull t count      all subfunctions are distinct, `count` is their number, and each depends on the whole set
 --     HoldsTable t full numbers masks      `full` is this count, if there is one; else t has the numbers and masks
 use Rattle.std.specs.Prelude.{ℕ, ◌^◌, List, replicate, bit_or, Option, Some, None}
 use Rattle.std.specs.List.{range_with_len}

@@ -17,15 +17,16 @@ use std::alloc::{AllocError, Global};
 use std::marker::Model;
 use subfunction_classes::{count_with, no_dependence, value_numbers};
 
-/// The class table of a set: each assignment of the other variables has an entry in each function's
-/// part, and equal subfunctions have one class number, by first occurrence. Rows of entries that
-/// have come before may be left out: they lead to no other pairs of classes.
+/// The class table of a set has an entry for each function and each assignment of the other
+/// variables: the class number of the subfunction. Equal subfunctions have one class number, by
+/// first occurrence. Rows of entries that repeat an earlier row may be left out, because they lead
+/// to no other pairs of classes.
 #[derive(Drop)]
 pub(crate) struct ClassTable<'a> {
     problem: &'a Problem,
     set: Mask,
-    // No member of the set is below `level`. Rows of 2^level entries that have come before may be
-    // left out.
+    // No member of the set is below `level`. Rows of 2^`level` entries that repeat an earlier row
+    // may be left out.
     level: VarIx,
     // The number of subfunctions, if all are distinct and depend on the whole set: `numbers` and
     // `masks` are then empty.
@@ -47,11 +48,11 @@ impl<'a> Model for ClassTable<'a> {
         (table_at c.problem.now c.set c.level) c.full c.numbers.items c.masks.items };
 }
 
-/// At these y repeated rows of 2^y entries are looked for, in tables of sets without variables
+/// For these y repeated rows of 2^y entries are looked for, in tables of sets without variables
 /// below y.
 const SHORT_LEVELS: [VarIx; 4] = [3, 5, 7, 10];
 
-/// Whether each mask is `set`.
+/// Whether each of `masks` equals `set`.
 fn are_whole(masks: &[Mask], set: Mask) -> bool
     ensures { IsTrue result → (i : ℕ) → i < length masks.now → slice_index masks.now i ≡ set }
 {
@@ -63,9 +64,9 @@ fn are_whole(masks: &[Mask], set: Mask) -> bool
     true
 }
 
-/// The class table of `set` with the numbers and masks of `numbered`, from which repeated rows of
-/// 2^`level` entries may be left out. Only the count of the subfunctions is kept if all are
-/// distinct and depend on the whole set.
+/// The class table of `set` with the numbers and masks of `numbered`, which is used up. Repeated
+/// rows of 2^`level` entries may be missing there. If all subfunctions are distinct and depend on
+/// the whole set, only their count is kept.
 fn table_of<'a>(
     alloc: Global,
     problem: &'a Problem,
@@ -127,9 +128,9 @@ impl<'a> ClassTable<'a> {
         self.set
     }
 
-    /// A copy of this table without rows of 2^y entries that have come before. None if no such rows
-    /// are found, or if it isn't worth while to look for them. Requires that no member of the set
-    /// is below `y`.
+    /// A copy of this table without rows of 2^`y` entries that repeat an earlier row. None if no
+    /// such rows are found, or if it isn't worth while to look for them. Requires that no member of
+    /// the set is below `y`.
     pub(crate) fn with_short_rows(
         &self,
         alloc: Global,
@@ -165,8 +166,8 @@ impl<'a> ClassTable<'a> {
         }
     }
 
-    /// The class table of the set with `x` added. Requires `x < level`; so `x` is smaller than all
-    /// members of the set.
+    /// The class table of the set with `x` added. Requires that `x` is below `level`; so `x` is
+    /// smaller than all members of the set.
     pub(crate) fn with_variable(
         &self,
         alloc: Global,
@@ -194,9 +195,10 @@ impl<'a> ClassTable<'a> {
         }
     }
 
-    /// Whether the lower classes show that in the set with `x` added each variable y has at least
-    /// the width `needed[y]`; false shows nothing. This takes less time than `with_variable`.
-    /// Requires `x < level`; so `x` is smaller than all members of the set.
+    /// Whether the lower classes, those of the entries where `x` is 0, show that in the set with
+    /// `x` added each variable y has at least the width `needed[y]`; false shows nothing. This
+    /// takes less time than `with_variable`. Requires that `x` is below `level`; so `x` is smaller
+    /// than all members of the set.
     pub(crate) fn tells_wide(
         &self,
         alloc: Global,
@@ -216,7 +218,8 @@ impl<'a> ClassTable<'a> {
         }
     }
 
-    /// The width of `x` over the set without it. Requires that `x` is a member of the set.
+    /// The width of `x` over the set without it: how many distinct subfunctions over the set depend
+    /// on `x`. Requires that `x` is a member of the set.
     pub(crate) fn width_into(&self, x: VarIx) -> u32
         requires { IsTrue (has (set_of (classes_at self.now)) x) }
         ensures { result ≡ width_over self.now.problem.inputs (functions_of (classes_at self.now))

@@ -1,6 +1,7 @@
-//! Fewer edges to judge, of which one fails if any edge does. Where variables may be exchanged
-//! without a change of any function, value or judged edge, a set and its image have edges of equal
-//! widths. So only the edges into one set of each orbit need be judged: the greatest.
+//! Fewer edges to judge, of which one fails if any edge does. If variables may be exchanged without
+//! a change of any function, value or judged edge, a set and its image (the set of the partners of
+//! its variables) have edges of equal widths. So in each orbit, the sets that such exchanges take
+//! to one another, only the edges into the greatest set need be judged.
 
 ghost use Rattle.std.specs.Prelude.{◌≡◌, ◌<◌, ◌^◌, ◌++◌, ◌⊎◌, ℕ, [], ◌∷◌, IfOk, IfSome, IsTrue, OnOk, length, slice_index};
 ghost use Rattle.std.specs.List.{All};
@@ -12,9 +13,10 @@ use order_model::{Mask, Pairs};
 use std::alloc::{AllocError, Global};
 use symmetries::{Exchange, exchanges_of};
 
-/// Whether an exchange keeps values and judged edges: each set and its image have equal values, and
-/// edges are judged into the image by the partners of the variables by which they are judged into
-/// the set. `images` has the image of each set.
+/// Whether an exchange of variables keeps values and judged edges: each set and its image have
+/// equal values, and edges are judged into the image by the partners of the variables by which they
+/// are judged into the set. `images` has the image of each set, at the index that is the set's
+/// mask.
 fn keeps_edges(edges: Edges, images: &[Mask]) -> bool
     requires long { length images.now ≡ 2 ^ edges.problem.now.inputs }
     requires inside { (S : ℕ) → S < length images.now →
@@ -35,8 +37,8 @@ fn keeps_edges(edges: Edges, images: &[Mask]) -> bool
     true
 }
 
-/// Finds exchanges of variables under which no function, no value and no judged edge changes. Some
-/// may be missed.
+/// Finds exchanges of variables under which no function, no value and no judged edge of `edges`
+/// changes. Some may be missed.
 fn guides_of(alloc: Global, edges: Edges) -> Result<Vec<Exchange>, AllocError>
     ensures { IfOk result (λ v. AreAllGuides edges.entry v.items) }
 {
@@ -50,7 +52,7 @@ fn guides_of(alloc: Global, edges: Edges) -> Result<Vec<Exchange>, AllocError>
     Ok(guides)
 }
 
-/// Whether an exchange in `guides` takes `set` to a greater mask.
+/// Whether some exchange in `guides` takes `set` to a greater mask.
 fn has_greater_image(edges: Edges, guides: &[Exchange], set: Mask) -> bool
     requires guides { AreAllGuides edges guides.now }
     requires set { set < 2 ^ edges.problem.now.inputs }
@@ -78,17 +80,19 @@ fn leave_out(edges: Edges, guides: &[Exchange], fewer: &mut Vec<u16>)
     }
 }
 
-/// The sets that exchanges reach, orbit by orbit.
+/// The sets that exchanges reach, orbit by orbit: an orbit has the sets that exchanges take to one
+/// another.
 #[derive(Drop)]
 struct Reached {
-    /// For each set whether it was reached, in the present orbit or one before.
+    /// For each set, at its mask, whether it was reached, in the present orbit or an earlier one.
     seen: Vec<bool>,
     /// The sets of the present orbit that were reached.
     sets: Vec<Mask>,
 }
 
 impl Reached {
-    /// Adds `set` to the sets of the present orbit, unless it was reached before.
+    /// Adds `set` to the sets of the present orbit, unless it was reached before, in this orbit or
+    /// an earlier one.
     fn add(&mut self, set: Mask) -> Result<(), AllocError>
         ensures { OnOk result
             ((self.new.sets.items ≡ self.old.sets.items)
@@ -106,8 +110,8 @@ impl Reached {
 }
 
 /// Adds to `reached` the sets to which the exchanges in `guides` take `set`, unless they were
-/// reached before. Empties `fewer[image]`, the variables by which edges are still to be judged into
-/// `image`, for each of these sets below `first`. Requires that `set` is in the orbit of `first`.
+/// reached before. If such a set, `image`, is below `first`, empties `fewer[image]`, the variables
+/// by which edges are still to be judged into it. Requires that `set` is in the orbit of `first`.
 fn step_from(
     edges: Edges,
     guides: &[Exchange],
@@ -184,8 +188,8 @@ fn leave_out_orbits(
     Ok(())
 }
 
-/// The number of sets into which some edge is judged. `judged` has for each set the variables by
-/// which edges into it are judged.
+/// The number of sets into which some edge is judged. `judged` has for each set the mask of the
+/// variables by which edges into it are judged.
 pub(crate) fn count_judged(judged: &[Mask]) -> usize {
     let mut count = 0usize;
     for edges in judged {
@@ -194,12 +198,12 @@ pub(crate) fn count_judged(judged: &[Mask]) -> usize {
     count
 }
 
-/// How many steps along orbits take about as long as judging the edges into one set.
+/// This many steps along orbits take about as long as judging the edges into one set.
 const STEPS_OF_A_SET: usize = 512;
 
-/// For each set the variables by which edges are still to be judged into it; None if no exchange is
-/// found. Edges into sets that an exchange takes to greater ones are left out. Chains of exchanges
-/// are followed if many sets are left that no single exchange takes to a greater one.
+/// For each set the mask of the variables by which edges are still to be judged into it; None if no
+/// exchange is found. Edges into sets that an exchange takes to greater ones are left out. Chains
+/// of exchanges are followed if many sets are left that no single exchange takes to a greater one.
 pub(crate) fn fewer_edges(alloc: Global, edges: Edges) -> Result<Option<Vec<u16>>, AllocError>
     ensures { IfOk result (λ o. IfSome o (λ v. AreEnough edges.entry v.items)) }
 {

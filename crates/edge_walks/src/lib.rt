@@ -1,7 +1,10 @@
-//! The walk of the checker over all sets: the first of the judged edges that fails.
+//! The walk of the checker over all sets, which finds the first of the judged edges that fails. An
+//! edge leads from a set to the set with one more variable. It fails if the value of the larger set
+//! exceeds that of the smaller one by more than the width of this variable over the smaller set.
 //!
-//! It shares with the search definitions and laws, the types of problems, the finding of exchanges,
-//! the numbering of pairs of classes and the counting of those that depend on a variable.
+//! This crate shares with the search definitions and laws, the types of problems, the finding of
+//! exchanges, the numbering of pairs of classes, and the counting of the classes that depend on a
+//! variable.
 #![tactic(auto)]
 
 mod class_table;

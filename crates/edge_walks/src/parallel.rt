@@ -1,4 +1,4 @@
-//! The walk over all sets, by many threads or by one.
+//! The walk over all sets for the first judged edge that fails, by many threads or by one.
 
 ghost use Rattle.std.specs.Prelude.{◌≡◌, ◌-◌, ◌*◌, ◌^◌, ◌<◌, ◌≤◌, IfOk};
 ghost use Rattle.edge_walks.specs.Edges.{IsFirstEdge, IsFirstOfParts, part_at};
@@ -15,13 +15,13 @@ use rayon::prelude::*;
 use std::alloc::{AllocError, Global};
 use std::thread::Threads;
 
-/// How many highest variables the sets of one task agree in.
+/// The sets of one task agree in this many highest variables, or in all if there are fewer.
 const PART_VARIABLES: u8 = 6;
 
 /// The class tables of the sets of this many highest variables are made once for all tasks.
 const SHARED_VARIABLES: u8 = 2;
 
-/// If edges are judged into at most this many sets, one thread walks over them alone.
+/// If edges are judged into at most this many sets, the calling thread walks over them alone.
 const SETS_FOR_ONE: usize = 32;
 
 /// The part that the task at `place` takes, as a set of the `end` highest variables, the lowest of
@@ -38,8 +38,9 @@ fn part_of(place: usize, end: u8) -> Mask
     (mixed & ((1 << end) - 1)) as Mask
 }
 
-/// The first, by mask and then by variable, of the edges that the parts found; None if they found
-/// none. An error if memory was refused to a part.
+/// The first, by mask and then by variable, of the edges in `parts`; None if there are none.
+/// `parts` has for each part of the sets its first judged edge that fails. An error if memory was
+/// refused to a part.
 fn first_of_parts(parts: &[Result<Option<Edge>, AllocError>]) -> Result<Option<Edge>, AllocError>
     ensures { IfOk result (IsFirstOfParts parts.now) }
 {
@@ -53,9 +54,9 @@ fn first_of_parts(parts: &[Result<Option<Edge>, AllocError>]) -> Result<Option<E
     Ok(first)
 }
 
-/// The first judged edge that fails; None if none does. Each task walks over the sets that agree in
-/// the `end` highest variables. `tops` has the class tables of sets of variables from `y` on.
-/// Requires that `root` stands at the empty set.
+/// The first judged edge that fails; None if none does. Each of 2^`end` tasks walks over the sets
+/// that agree in the `end` highest variables. `tops` has the class tables of sets none of whose
+/// variables is below `y`. Requires that `root` stands at the empty set.
 fn first_by_tasks<R: Threads + Sync>(
     rt: &R,
     alloc: Global,
@@ -92,16 +93,16 @@ pub trait Walker {
     // What a walk requires.
     ghost ready: { Self → Type 0 };
 
-    /// The first judged edge that fails; None if none does.
+    /// The first of the judged edges in `edges` that fails; None if none does.
     fn first_of_all(&self, alloc: Global, edges: Edges) -> Result<Option<Edge>, AllocError>
         requires { ready self.now }
         ensures { IfOk result (IsFirstEdge (FailsAmong edges.entry)) };
 }
 
-/// The walker that shares the sets among the threads of `rayon`.
+/// Shares the sets among threads by `rayon`; a walk over few sets is left to the calling thread.
 #[derive(Drop)]
 pub struct ThreadPool<'r, R> {
-    /// Who starts the threads.
+    /// The runtime, which starts the threads.
     pub rt: &'r R,
 }
 
@@ -146,9 +147,10 @@ impl Walker for CallingThread {
     }
 }
 
-/// The first judged edge that fails; None if none does. If exchanges of variables change no
-/// function, value or judged edge, fewer edges are judged first. If one of these fails, the first
-/// failing edge of all leads from the same mask as that one, or from a smaller one.
+/// The first of the judged edges in `edges` that fails; None if none does. If exchanges of
+/// variables change no function, value or judged edge, fewer edges are judged first. If one of
+/// these fails, the first failing edge of all leads from the same mask as that one, or from a
+/// smaller one.
 pub fn first_failure<W: Walker>(
     walker: &W,
     alloc: Global,

@@ -10,19 +10,20 @@ use order_model::{Mask, Problem, VarIx};
 /// the order of their masks; with equal masks, in the order of their variables.
 pub type Edge = (Mask, VarIx);
 
-/// What a walk judges: edges between sets, for the functions of `problem`.
+/// What a walk judges: edges between sets of variables, for the functions of `problem`.
 #[derive(Clone, Copy)]
 pub struct Edges<'a> {
     pub problem: &'a Problem,
-    /// The value of each set, at its mask.
+    /// The value of each set, at the index that is the set's mask.
     pub values: &'a [u32],
-    /// For each set the variables by which edges are judged into it.
+    /// For each set, at the same index, the mask of the variables by which edges are judged into
+    /// it.
     pub judged: &'a [Mask],
     ghost tables: { AreEdgeTables problem.now.inputs values.now judged.now },
 }
 
-/// Where a walk stands: before the sets that are the table's set with any variables below `free`
-/// added. These variables are free.
+/// Where a walk stands: before those sets that are the set of `table` with any of the variables
+/// below `free` added. The variables below `free` are called free.
 #[derive(Clone, Copy)]
 pub(crate) struct Position<'a, 't> {
     pub(crate) edges: Edges<'a>,

@@ -1,4 +1,4 @@
-//! Rows of a table's entries, without those that have come before.
+//! Takes repeated rows out of a class table's entries.
 
 ghost use Rattle.std.specs.Prelude.{◌≡◌, ℕ, ◌*◌, ◌^◌, ◌<◌, ◌≤◌, ◌++◌, List, [], length, IfOk, IfSome, IsTrue, OnOk};
 ghost use Rattle.edge_walks.specs.Rows.{AreWholeRows, IsShortened};
@@ -9,7 +9,8 @@ use std::alloc::{AllocError, Global};
 /// The factor of Fibonacci hashing: 2^64 divided by the golden ratio, rounded down.
 const SPREAD: u64 = 0x9E37_79B9_7F4A_7C15;
 
-/// The bucket of a row: a hash of its entries. `buckets` is a power of two.
+/// The bucket of `row`, below `buckets`: a hash of the row's entries. Expects `buckets` to be a
+/// power of two; else some buckets stay empty.
 fn bucket_of(row: &[u32], buckets: usize) -> usize
     requires some { 0 < buckets }
     ensures within { result < buckets }
@@ -28,8 +29,8 @@ fn bucket_of(row: &[u32], buckets: usize) -> usize
     (key >> 40) as usize & (buckets - 1)
 }
 
-/// Whether `row` is the row of `kept` at `place`, counted from 1; false at place 0. All rows have
-/// as many entries as `row`.
+/// Whether `row` is the row of `kept` at `place`, counted from 1; false at place 0. The rows of
+/// `kept` have as many entries as `row`.
 fn is_kept(kept: &[u32], place: usize, row: &[u32]) -> bool
     requires some { 0 < length row.now }
     ensures { IsTrue result → (front : List ℕ) × (between : List ℕ) × (rows : ℕ)
@@ -44,8 +45,8 @@ fn is_kept(kept: &[u32], place: usize, row: &[u32]) -> bool
     before == row
 }
 
-/// Whether two equal rows of 2^y entries are found in the first half of `numbers`. A wrong answer
-/// costs time or memory only.
+/// Whether two equal rows of 2^`y` entries are found in the first half of `numbers`; some may be
+/// missed. A wrong answer costs time or memory only.
 fn has_repeat(alloc: Global, numbers: &[u32], y: VarIx) -> Result<bool, AllocError>
     requires variable { y ≤ 16 }
     requires few { length numbers.now ≤ 2 ^ 20 }
@@ -65,9 +66,10 @@ fn has_repeat(alloc: Global, numbers: &[u32], y: VarIx) -> Result<bool, AllocErr
     Ok(false)
 }
 
-/// Appends the rows of 2^y entries of `numbers` to `kept`, mostly each once, by first occurrence.
+/// Appends the rows of 2^`y` entries of `numbers` to `kept`, mostly each once, by first occurrence.
 /// Requires that `kept` is empty before. `places` has for each bucket the place in `kept`, counted
-/// from 1, of the last row that was put into this bucket; 0 if there is none.
+/// from 1, of the last row that was put into this bucket; 0 if there is none. Expects `places` to
+/// be all 0 before.
 fn keep_rows(
     numbers: &[u32],
     y: VarIx,
@@ -93,8 +95,8 @@ fn keep_rows(
     Ok(())
 }
 
-/// The rows of 2^y entries of `numbers`, mostly each once, by first occurrence. None if no row is
-/// found to come again in the first half.
+/// The entries of `numbers` without rows of 2^`y` entries that repeat an earlier row; some repeats
+/// may stay. None if no repeat is found in the first half.
 pub(crate) fn without_repeats(
     alloc: Global,
     numbers: &[u32],

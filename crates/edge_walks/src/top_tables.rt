@@ -12,8 +12,8 @@ use crate::walk::{first_in_part, has_upper_judged, upper_table};
 use order_model::{Mask, VarIx};
 use std::alloc::{AllocError, Global};
 
-/// The class table of the set where the walk stands, with the highest free variable added. None if
-/// no edge is judged into the larger set, or into it with other free variables added.
+/// The class table of the set of `at.table` with the highest free variable, `at.free` - 1, added.
+/// None if no edge is judged into the larger set, or into it with other free variables added.
 fn judged_upper_table<'t>(
     alloc: Global,
     at: Position<'_, 't>,
@@ -29,8 +29,9 @@ fn judged_upper_table<'t>(
     Ok(Some(larger))
 }
 
-/// Appends to `tops` the class tables with the highest free variable of `root` added: to the set of
-/// `root`, and to those of the tables in `tops`. Tables that no judged edge needs are left out.
+/// Appends to `tops` the class tables of the sets with the highest free variable of `root` added:
+/// that of the set of `root`, and those of the sets of the tables that `tops` has. Tables that no
+/// judged edge needs are left out.
 fn add_variable<'t>(
     alloc: Global,
     root: Position<'_, 't>,
@@ -59,9 +60,9 @@ fn add_variable<'t>(
     Ok(())
 }
 
-/// The class tables of the non-empty sets of variables from `y` on that the walk needs: an edge is
-/// judged into the set, or into it with smaller variables added. Expects `root` to stand at the
-/// empty set.
+/// The class tables of the non-empty sets without variables below `y` that the walk needs: an edge
+/// is judged into the set, or into it with variables below `y` added. Expects `root` to stand at
+/// the empty set.
 pub(crate) fn top_tables<'t>(
     alloc: Global,
     root: Position<'_, 't>,
@@ -84,9 +85,9 @@ pub(crate) fn top_tables<'t>(
 }
 
 /// The first edge that fails among the judged edges into the sets of a part: `part` with any
-/// variables below `end` added. None if none fails. The walk begins at the table in `tops` of those
-/// variables of `part` that are not below `y`, or at `root` if there is none. Requires that `root`
-/// stands at the empty set.
+/// variables below `end` added. None if none fails. `tops` has class tables of sets without
+/// variables below `y`. The walk begins at the table in `tops` of those variables of `part` that
+/// are not below `y`, or at `root` if there is none. Requires that `root` stands at the empty set.
 pub(crate) fn first_from_tops(
     alloc: Global,
     root: Position,

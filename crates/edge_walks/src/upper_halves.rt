@@ -50,8 +50,9 @@ fn has_later(judged: &[Mask], set: Mask, y: VarIx) -> bool
     false
 }
 
-/// Whether the value of `set` is so high that the set is most likely not listed. Into a listed set
-/// the widths are mostly no greater than needed, and lower classes seldom show that they suffice.
+/// Whether the value of `set` is so high that the certificate most likely does not list the set.
+/// Into a listed set the widths are mostly no greater than needed, and lower classes seldom show
+/// that they suffice.
 fn is_hardly_listed(edges: Edges, set: Mask) -> bool
     requires { set < 2 ^ edges.problem.now.inputs }
 {
@@ -61,9 +62,10 @@ fn is_hardly_listed(edges: Edges, set: Mask) -> bool
     u64::from(edges.values[set as usize]) + u64::from(outside) >= u64::from(total)
 }
 
-/// Whether the lower classes of the table at `at` show that no edge into the upper half fails;
-/// false shows nothing. They are tried only if no edge is judged into a set of the upper half but
-/// its smallest, and this is most likely not listed.
+/// Whether the lower classes of the table at `at` (those of the entries where the highest free
+/// variable is 0) show that no edge into the upper half fails; false shows nothing. They are tried
+/// only if edges are judged into no set of the upper half but the smallest, and the certificate
+/// most likely does not list this one.
 fn passes_by_lower_classes(alloc: Global, at: Position) -> Result<bool, AllocError>
     requires { 0 < at.free }
     ensures { IfOk result (λ none. IsTrue none → IsFirstEdge (FailsInUpper at.entry) None) }
@@ -78,8 +80,8 @@ fn passes_by_lower_classes(alloc: Global, at: Position) -> Result<bool, AllocErr
     table.tells_wide(alloc, x, &needed)
 }
 
-/// Whether it can be shown without another table that no edge fails into the upper half of the sets
-/// where the walk stands. False shows nothing.
+/// Whether it can be shown without another table that no judged edge into the upper half of the
+/// sets at which `at` stands fails; false shows nothing.
 pub(crate) fn upper_half_passes(alloc: Global, at: Position) -> Result<bool, AllocError>
     requires { 0 < at.free }
     ensures { IfOk result (λ passes. IsTrue passes → IsFirstEdge (FailsInUpper at.entry) None) }

@@ -1,5 +1,4 @@
-//! The first edge that fails: a walk over the sets that shares tables among those with common high
-//! variables.
+//! The walk that finds the first edge that fails. Sets with common high variables share tables.
 
 ghost use Rattle.std.specs.Prelude.{◌≡◌, ℕ, ◌+◌, ◌-◌, ◌*◌, ◌/◌, ◌^◌, ◌<◌, ◌≤◌, false, None, length, slice_index, IfOk};
 ghost use Rattle.edge_walks.specs.Edges.{IsFirstEdge, IsFirstOf};
@@ -12,7 +11,7 @@ use crate::upper_halves::upper_half_passes;
 use order_model::{Mask, VarIx, contains};
 use std::alloc::{AllocError, Global};
 
-/// Of two edges the one that comes first, by mask and then by variable. If one is None, the other.
+/// The one of two edges that comes first, by mask and then by variable. If one is None, the other.
 pub(crate) fn first_of(a: Option<Edge>, b: Option<Edge>) -> Option<Edge>
     ensures { IsFirstOf a b result }
 {
@@ -47,8 +46,8 @@ pub(crate) fn has_judged(judged: &[Mask], set: Mask, y: VarIx) -> bool
     false
 }
 
-/// Whether an edge is judged into the upper half of the sets where the walk stands: those that have
-/// the highest free variable.
+/// Whether an edge is judged into the upper half of the sets at which `at` stands: those that have
+/// the highest free variable, `at.free` - 1.
 pub(crate) fn has_upper_judged(at: Position) -> bool
     requires { 0 < at.free }
     ensures { result ≡ false → IsFirstEdge (FailsInUpper at.entry) None }
@@ -57,7 +56,7 @@ pub(crate) fn has_upper_judged(at: Position) -> bool
     has_judged(at.edges.judged, at.table.set() + (1 << x), x)
 }
 
-/// The class table of the set where the walk stands, with the highest free variable added.
+/// The class table of the set of `at.table` with the highest free variable, `at.free` - 1, added.
 pub(crate) fn upper_table<'t>(
     alloc: Global,
     at: Position<'_, 't>,
@@ -69,8 +68,8 @@ pub(crate) fn upper_table<'t>(
     at.table.with_variable(alloc, at.free - 1)
 }
 
-/// The first judged edge into the table's set that fails; None if none does. Edges by larger
-/// variables lead from smaller masks, so they come first. Requires that no variable is free.
+/// The first judged edge that fails into the set of `at.table`; None if none does. Edges by larger
+/// variables lead from smaller masks, so they come first. Requires that `at.free` is 0.
 fn first_into(at: Position) -> Option<Edge>
     requires { at.free ≡ 0 }
     ensures { IsFirstEdge (FailsAt at.entry) result }
@@ -90,7 +89,7 @@ fn first_into(at: Position) -> Option<Edge>
     None
 }
 
-/// The first edge that fails among the judged edges into the sets where the walk stands; None if
+/// The first edge that fails among the judged edges into the sets at which `at` stands; None if
 /// none does. `short` is true if repeated rows of the table were looked for already.
 pub(crate) fn first_failing(
     alloc: Global,
@@ -136,9 +135,9 @@ pub(crate) fn first_failing(
     Ok(first_of(without, with))
 }
 
-/// The class table of the set of those variables of `part` that are not below `end`. None if the
-/// walk stands at this set already. Requires that the walk stands at the set of those that are not
-/// below `at.free`. Tables that are made on the way are dropped.
+/// The class table of the set of those variables of `part` that are not below `end`; None if this
+/// is the set of the table at `at`. Requires that this table's set has those variables of `part`
+/// that are not below `at.free`. Tables that are made on the way are dropped.
 fn part_table<'t>(
     alloc: Global,
     at: Position<'_, 't>,
@@ -164,7 +163,7 @@ fn part_table<'t>(
 }
 
 /// The first edge that fails among the judged edges into the sets of one task: `part` with any
-/// variables below `end` added. None if none fails. Requires that the walk stands at the set of
+/// variables below `end` added. None if none fails. Requires that the set of the table at `at` has
 /// those variables of `part` that are not below `at.free`.
 pub(crate) fn first_in_part(
     alloc: Global,

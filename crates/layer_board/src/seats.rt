@@ -57,7 +57,7 @@ impl BoardSeat {
 /// A block that a worker claimed.
 #[derive(Drop)]
 pub struct Claim {
-    /// The place of the block in the layer.
+    /// The block's place among the layer's blocks, from 0.
     place: usize,
     /// The block.
     block: Block,
@@ -72,14 +72,14 @@ impl Model for Claim {
 }
 
 impl Claim {
-    /// The claim of `block`, which stands at place `place` of the layer.
+    /// The claim of `block`, which stands at `place` among the layer's blocks.
     pub(crate) fn new(place: usize, block: Block) -> Claim
         ensures { result ≡ record { place = place; block = block } }
     {
         Claim { place, block }
     }
 
-    /// The place of the block in the layer.
+    /// The block's place among the layer's blocks, from 0.
     pub fn place(&self) -> usize
         ensures { result ≡ self.now.place }
     {

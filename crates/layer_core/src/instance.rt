@@ -1,4 +1,4 @@
-//! What a search is for.
+//! A problem instance: what a search is for.
 
 ghost use Rattle.std.specs.Prelude.{◌≡◌, ◌+◌, ◌^◌, ◌<◌, ◌≤◌};
 
@@ -7,8 +7,9 @@ use order_model::{Limit, LowerBounds, Mask, Pairs, Problem};
 use std::marker::Model;
 use subset_layers::Cell;
 
-/// What a search is for: the functions, the pairs that an order must keep, and what prunes its
-/// cells: the bound, and the lower bound on the nodes above a set.
+/// A problem instance: the functions, the pairs that an order must keep, the upper bound on the
+/// size of an order, and the rule of the lower bound on the nodes above a set. A set is pruned if
+/// its least cost plus this lower bound exceeds the upper bound.
 #[derive(Drop)]
 pub struct Instance<'a> {
     problem: &'a Problem,
@@ -37,7 +38,8 @@ impl<'a> Instance<'a> {
     ghost use Rattle.layer_core.specs.Pairing.{pair_of};
     ghost use Rattle.layer_core.specs.Instances.{cell_for, instance_of};
 
-    /// The problem instance of these functions. The pairs are of their variables.
+    /// The instance of the functions of `problem`, with these pairs and this limit. Requires that
+    /// `pairs` are pairs of the variables of `problem`.
     pub fn new(problem: &'a Problem, pairs: &'a Pairs, limit: Limit) -> Instance<'a>
         requires pairs { pairs.now.inputs ≡ problem.now.inputs }
         requires room { limit.bound + 1 < 2 ^ 32 }
@@ -83,7 +85,8 @@ impl<'a> Instance<'a> {
         self.pairs.lawful(mask)
     }
 
-    /// The bound, and the rule of the lower bound on the nodes above a set.
+    /// The upper bound on the size of an order, and the rule of the lower bound on the nodes above
+    /// a set.
     pub fn limit(&self) -> Limit
         ensures value { result ≡ record
             { bound = self.now.bound; lower_bound = self.now.lower_bound } }
@@ -92,7 +95,7 @@ impl<'a> Instance<'a> {
         self.limit
     }
 
-    /// The lower bounds on the nodes above the sets.
+    /// The lower bounds on the nodes above sets, by the rule of the instance.
     pub fn lower_bounds(&self) -> &LowerBounds<'a>
         ensures { result.now ≡ lower_bounds_with self.now.problem self.now.lower_bound }
     {
@@ -106,7 +109,8 @@ impl<'a> Instance<'a> {
         self.lower_bounds.essential()
     }
 
-    /// What is posted to a board for the set `mask`: its cell.
+    /// The set `mask` with `cell`, as a worker posts them to a board. Requires that `cell` is the
+    /// cell of this set for the instance.
     pub fn result(&self, mask: Mask, cell: Cell) -> CellResult
         requires { pair_of cell ≡ cell_for self.now mask }
         ensures { result ≡ record { instance = self.now; mask = mask; cell = pair_of cell } }

@@ -1,5 +1,6 @@
-//! A layer of sets: what its cells are for, whose widths they take and where they stand, and the
-//! machine by which workers claim its blocks in turn, and post and read the cells of its masks.
+//! A layer, the sets of one size: the problem instance, the widths that its cells take and their
+//! places, and the state machine by which workers claim the layer's blocks in turn, and post and
+//! read the cells of its sets.
 #![tactic(auto)]
 
 // What a search is for, and the cells of a layer.

@@ -1,4 +1,4 @@
-//! The variables whose widths the cell of a set takes.
+//! The members of a set whose widths its cell takes: those from which a search computes the cell.
 
 ghost use Rattle.std.specs.Prelude.{◌≡◌, ◌+◌, ◌^◌, ◌<◌, ℕ, map, IfOk};
 ghost use Rattle.definitions.specs.Orders.{mask_of};
@@ -12,9 +12,10 @@ use order_model::{LowerBound, Mask, next_member};
 use std::alloc::{AllocError, Global};
 use subset_layers::{Block, Costs};
 
-/// The members of the set `mask` whose widths its cell takes. `known` has those for which the set
-/// without the member costs at most the bound: with the lower bound by variables these, with that
-/// by widths all members if `known` has any.
+/// The members of the set `mask` whose widths its cell takes, as a mask. Requires that `known` has
+/// those members for which the set without the member costs at most the bound. With the lower bound
+/// by variables the cell takes the widths of these, with that by widths those of all members if
+/// `known` has any.
 pub fn asked_members(lower_bound: LowerBound, mask: Mask, known: Mask) -> Mask
     ensures { (n bound : ℕ) (costs : ℕ → ℕ) →
         known ≡ mask_of (candidates n bound mask costs) → mask < 2 ^ n →
@@ -26,8 +27,8 @@ pub fn asked_members(lower_bound: LowerBound, mask: Mask, known: Mask) -> Mask
     }
 }
 
-/// The members of the set `mask` for which the set without the member costs at most `bound`.
-/// `costs` is the layer before that of the set.
+/// The members of the set `mask`, as a mask, for which the set without the member costs at most
+/// `bound`. Requires that `costs` has the costs of the layer before that of the set.
 fn affordable_members(mask: Mask, costs: &Costs, bound: u32) -> Mask
     requires { IsInNextLayer costs.now mask }
     ensures { result ≡ mask_of (affordable costs.now bound mask) }
@@ -44,8 +45,8 @@ fn affordable_members(mask: Mask, costs: &Costs, bound: u32) -> Mask
     found
 }
 
-/// The members of the set `mask` whose widths its cell takes; none if the set is not lawful.
-/// `before` has the costs of the layer before.
+/// The members of the set `mask` whose widths its cell takes, as a mask; 0 if the set is not
+/// lawful. Requires that `before` has the costs of the layer before that of the set.
 fn needed_members(instance: &Instance<'_>, before: &Costs, mask: Mask) -> Mask
     requires next { IsInNextLayer before.now mask }
     requires inputs { before.now.inputs ≡ instance.now.problem.inputs }
@@ -61,8 +62,8 @@ fn needed_members(instance: &Instance<'_>, before: &Costs, mask: Mask) -> Mask
     }
 }
 
-/// For each set of the block, the mask of the members whose widths its cell takes. `before` has the
-/// costs of the layer before that of the block.
+/// For each set of the block, in the block's order, the mask of the members whose widths its cell
+/// takes. Requires that `before` has the costs of the layer before that of the block.
 pub fn needs_of_block(
     alloc: Global,
     instance: &Instance<'_>,

@@ -1,4 +1,4 @@
-//! Where the cells of a block stand among those of its layer.
+//! Writes the cells of a block's sets to their places among the cells of the whole layer.
 
 ghost use Rattle.std.specs.Prelude.{◌≡◌, length};
 ghost use Rattle.subset_layers.specs.Layers.{layer_of, masks_of, block_masks};
@@ -8,8 +8,8 @@ ghost use Rattle.layer_core.specs.Placed.{AreCellsPlaced, StayPlaced};
 
 use subset_layers::{Block, Cell, Layer};
 
-/// Writes `found`, the cells of a block's sets, to their places in `cells`, which has those of the
-/// whole layer.
+/// Writes `found`, the cells of a block's sets in the block's order, to their places in `cells`,
+/// which has the cells of the whole layer in the layer's order.
 pub fn place_cells(layer: &Layer, block: &Block, found: &[Cell], cells: &mut [Cell])
     requires layer { layer_of block.now ≡ layer.now }
     requires found { length found.now ≡ length (block_masks block.now) }

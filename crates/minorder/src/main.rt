@@ -9,9 +9,9 @@ use std::process::ExitCode;
 use std::rt::Files;
 use std::thread::Threads;
 
-/// Runs minorder with the words of the command line, and returns its exit status. Err has the exit
-/// status if the program can't run: 2 if a word of the command line isn't UTF-8, 4 if memory is
-/// refused.
+/// Runs minorder with the words of the command line, and returns its exit status. The report goes
+/// to `out`, messages to `err`. Err has the exit status if the program can't run: 2 if a word of
+/// the command line isn't UTF-8, 4 if memory is refused.
 fn minorder_status<R: Env + Files + AllocGlobal + Threads + Sync, W: CountedWrite, E: CountedWrite>(
     rt: &R,
     out: &mut W,

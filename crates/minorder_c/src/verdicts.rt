@@ -23,7 +23,8 @@ pub(crate) struct ReturnedVerdict {
     pub variable: u32,
 }
 
-/// The verdict in C for the reason of number `reason`, which is not that of an edge.
+/// The verdict in C with the number `reason`, 0 to 7: valid, or a reason other than an edge. Its
+/// mask and its variable are 0.
 fn plain(reason: u32) -> ReturnedVerdict
     ensures { result ≡ record { reason = reason; mask = 0; variable = 0 } }
 {

@@ -1,4 +1,4 @@
--- What a seat gains.
+-- What a seat, a worker's view of a board, gains by claims and posts.
 --     gained s s'      the sets of a layer that a seat claimed from s to s'
 --     StaysClaimed s s', IsPosted s mask      a seat after posts; a mask that was posted, if it was claimed
 use Rattle.std.specs.Prelude.{◌≡◌, ℕ, Bool, not, ◌&&◌, List, IsTrue}

@@ -1,4 +1,5 @@
-//! The layers of all sets, one after another, by the calling thread.
+//! Computes the cells of all sets on the calling thread, one layer (the sets of one size) after
+//! another.
 
 ghost use Rattle.std.specs.Prelude.{◌≡◌, length, IfOk};
 ghost use Rattle.subset_layers.specs.Layers.{masks_of};
@@ -13,7 +14,8 @@ use layer_core::{Instance, place_cells};
 use std::alloc::{AllocError, Global};
 use subset_layers::{Cell, Costs, Layer};
 
-/// The cells of a layer's sets, in the layer's order.
+/// Computes the cells of the sets of the layer of `context`, in the layer's order, on the calling
+/// thread.
 pub(crate) fn cells_alone(
     alloc: Global,
     context: &LayerContext<'_>,
@@ -37,7 +39,8 @@ pub(crate) fn cells_alone(
     Ok(cells)
 }
 
-/// The cells of the layer after those in `done`, with widths from `source`.
+/// Computes the layer after those in `done`, with its cells, on the calling thread, with widths
+/// from `source`. `done` has all smaller layers by rising size, from that of the empty set on.
 fn next_layer_alone(
     alloc: Global,
     instance: &Instance<'_>,
@@ -55,8 +58,8 @@ fn next_layer_alone(
     Ok(Costs::of(layer, cells))
 }
 
-/// The layers of all sets. Rows of widths that were prepared are used, and others are found ahead
-/// from layer to layer.
+/// Computes all layers with their cells, by rising size, on the calling thread. Uses the rows of
+/// widths in `prepared`; other rows are computed before the layer that needs them.
 fn layers_from(
     alloc: Global,
     instance: &Instance<'_>,
@@ -78,7 +81,8 @@ fn layers_from(
     Ok(layers)
 }
 
-/// The layers of all sets of a problem instance.
+/// Computes all layers of a problem instance with their cells, by rising size, on the calling
+/// thread.
 pub(crate) fn layers_alone(alloc: Global, instance: &Instance<'_>) -> Result<Vec<Costs>, AllocError>
     ensures { IfOk result (λ v. AreAllLayers instance.now v.items) }
 {

@@ -1,4 +1,5 @@
-//! The cells of a block's sets.
+//! The cells of a block's sets: of each set the least cost, and the smallest top variable that
+//! gives it. A block has the sets of a layer with one common low byte.
 
 ghost use Rattle.std.specs.Prelude.{◌≡◌, ◌+◌, ◌^◌, ◌≤◌, map, IfOk, OnOk};
 ghost use Rattle.compaction.specs.Rows.{AreWidthRows};
@@ -13,7 +14,8 @@ use order_model::WidthRow;
 use std::alloc::{AllocError, Global};
 use subset_layers::{Block, Cell, least_cell};
 
-/// The cells of a block's sets, in the block's order. `rows` has a row of widths for each set.
+/// The cells of a block's sets, in the block's order. `rows` has for each set, in this order, the
+/// widths that its cell takes.
 fn cells_by_rows(
     alloc: Global,
     block: &Block,
@@ -42,8 +44,8 @@ fn cells_by_rows(
     Ok(cells)
 }
 
-/// The cells of a block's sets, in the block's order. The tally rises by the number of widths that
-/// they take.
+/// The cells of a block's sets, in the block's order. Adds the number of widths that these cells
+/// take to `tally`.
 pub(crate) fn cells_of_block(
     alloc: Global,
     block: &Block,

@@ -1,4 +1,4 @@
-//! The cells of a layer, by several workers.
+//! The cells of a layer, computed by several workers.
 
 ghost use Rattle.std.specs.Prelude.{◌≡◌, ◌≤◌, All, IfOk, vec_len};
 ghost use Rattle.std.specs.Thread.{IsSync};
@@ -16,14 +16,16 @@ use std::thread;
 use std::thread::Threads;
 use subset_layers::Cell;
 
-/// What a worker's thread is given: the worker's number, counted from 1, and its seat.
+/// What a worker's thread is given: the worker's number, counted from 1, and its seat, which is its
+/// view of the board.
 #[derive(Drop)]
 struct Job {
     worker: u8,
     seat: BoardSeat,
 }
 
-/// One job for each seat of the board: the seat, and its worker's number, counted from 1.
+/// Numbers the seats of `board` from 1 on: one job for each seat, with the seat and its worker's
+/// number.
 fn number_seats(alloc: Global, board: &Board, seats: Vec<BoardSeat>) -> Result<Vec<Job>, AllocError>
     requires few { vec_len seats ≤ 64 }
     requires seats { All (λ s. s.board ≡ board.now) seats.items }
@@ -39,7 +41,8 @@ fn number_seats(alloc: Global, board: &Board, seats: Vec<BoardSeat>) -> Result<V
     Ok(jobs)
 }
 
-/// One of the workers' seats; an error if some worker ran out of memory.
+/// Returns one of the seats in `ended`, which has what each worker returned; an error if some
+/// worker ran out of memory. Drops the other seats and all tallies.
 fn gather(
     board: &Board,
     ended: Vec<Result<WorkerResult, AllocError>>,
@@ -56,8 +59,9 @@ fn gather(
     Ok(seat)
 }
 
-/// Lets the workers post the cells of a layer to the board, each on a thread of its own. Returns
-/// one of their seats; an error if some worker ran out of memory.
+/// Starts a thread for each seat, which computes cells of the layer of `context` and posts them to
+/// `board`, until all blocks are claimed. Returns one of the seats; an error if some worker ran out
+/// of memory.
 fn post_by_workers<R: Threads + Sync, G: Gate>(
     crew: &Crew<'_, R, G>,
     alloc: Global,
@@ -90,8 +94,9 @@ fn post_by_workers<R: Threads + Sync, G: Gate>(
     gather(board, ended)
 }
 
-/// The cells of a layer's sets in the layer's order, by workers. If a cell is missing although no
-/// worker ran out of memory, the calling thread computes the whole layer anew.
+/// Computes the cells of the sets of the layer of `context`, in the layer's order, by the workers
+/// of `crew`. If a cell is missing although no worker ran out of memory, the calling thread
+/// computes the whole layer anew.
 pub(crate) fn cells_of_layer<R: Threads + Sync, G: Gate>(
     crew: &Crew<'_, R, G>,
     alloc: Global,

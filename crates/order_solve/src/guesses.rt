@@ -1,5 +1,5 @@
-//! Estimates of what a search needs: they decide how the layers are searched, and not what is
-//! found.
+//! Estimates of what a search needs: they decide how the layers (the sets of one size) are
+//! searched, and not what is found.
 
 ghost use Rattle.std.specs.Prelude.{◌≤◌, length};
 
@@ -7,12 +7,13 @@ use layer_core::Instance;
 use order_model::{Limit, LowerBound, Pairs, Problem, Workers};
 use subset_layers::{Costs, Layer};
 
-/// Most diagrams have about one node for so many entries of the truth tables.
+/// Most diagrams have about one node for this many entries of their truth tables.
 const ENTRIES_A_NODE: u64 = 16;
 
-/// For how many layers rows are found at first: for all if the bound is no less than the size of
-/// most diagrams, because then almost no set is pruned; else for those most of whose sets are
-/// needed.
+/// An estimate, before costs are known, of the size of the largest sets whose widths are worth
+/// computing ahead. It is the number of inputs if the bound is no less than the size of most
+/// diagrams, because then almost no set is pruned. Else it is a size up to which most sets are
+/// needed, as measured, larger for the lower bound by variables, which prunes less.
 fn first_layers(problem: &Problem, limit: Limit) -> u8 {
     let entries = u64::from(problem.outputs()) << problem.inputs();
     if u64::from(limit.bound) >= entries / ENTRIES_A_NODE {
@@ -24,10 +25,10 @@ fn first_layers(problem: &Problem, limit: Limit) -> u8 {
     }
 }
 
-/// An estimate of how many layers, from the smallest sets on, should have rows before the bound is
-/// known. `asked` are the pairs that the caller requires, `kept` those that the search is likely to
-/// keep, and `limit.bound` is the size of some diagram of the functions. The estimate is 0 if
-/// `asked` is empty and `kept` is not, because few sets are left then.
+/// An estimate of the size of the largest sets whose widths are worth computing before the bound of
+/// the search is known. `asked` has the pairs that the caller requires, `kept` those that the
+/// search is likely to keep, and `limit.bound` is the size of some diagram of the functions. The
+/// estimate is 0 if `asked` is empty and `kept` is not, because few sets are left then.
 pub(crate) fn layers_to_prepare(
     problem: &Problem,
     asked: &Pairs,
@@ -40,11 +41,12 @@ pub(crate) fn layers_to_prepare(
     first_layers(problem, limit)
 }
 
-/// One in so many masks is looked at for the mean cost of a layer.
+/// `mean_cost` looks only at the masks that are multiples of this number.
 const STEP: u32 = 7;
 
-/// The mean cost of the sets of `size` variables, from some of them. `costs` is their layer. A very
-/// large number if none of them has that size.
+/// An estimate of the mean cost of the sets of `size` variables, from those whose masks are
+/// multiples of `STEP`. `costs` has the costs of the layer of these sets. Returns `u32::MAX` if
+/// there are no such sets.
 fn mean_cost(costs: &Costs, size: usize) -> u64 {
     let mut sum = 0u64;
     let mut sets = 0u64;
@@ -64,8 +66,9 @@ fn mean_cost(costs: &Costs, size: usize) -> u64 {
     }
 }
 
-/// The likely lower bound on the nodes above a set that has `outside` variables outside, each
-/// member of width `width`.
+/// An estimate of the lower bound on the nodes above a set, by the rule of `instance`. `outside` is
+/// the number of variables that are not in the set, and `width` the width of each member over the
+/// others.
 fn likely_above(instance: &Instance<'_>, outside: usize, width: u64) -> u64 {
     let asked = match instance.limit().lower_bound {
         LowerBound::Variables => 0,
@@ -74,9 +77,9 @@ fn likely_above(instance: &Instance<'_>, outside: usize, width: u64) -> u64 {
     asked.max(outside as u64)
 }
 
-/// The size of the largest sets that are likely to be needed, from at least two layers. Costs are
-/// taken to rise from layer to layer as much as they did last, and by no more than the layer's
-/// class tables have entries.
+/// An estimate of the size of the largest sets that the search needs, from the mean costs of the
+/// last two layers in `done`. Assumes that the mean cost rises from each layer to the next by as
+/// much as between these two, but by no more than a class table of the larger sets has entries.
 fn end_by_costs(instance: &Instance<'_>, done: &[Costs]) -> usize
     requires { 2 ≤ length done.now }
 {
@@ -99,7 +102,8 @@ fn end_by_costs(instance: &Instance<'_>, done: &[Costs]) -> usize
     end
 }
 
-/// The size of the largest sets that are likely to be needed, from the layers in `done`.
+/// An estimate of the size of the largest sets that the search needs, by the costs of the layers in
+/// `done`, or without costs if this has only the layer of the empty set.
 pub(crate) fn likely_end(instance: &Instance<'_>, done: &[Costs]) -> u8
     requires { 1 ≤ length done.now }
 {
@@ -110,10 +114,11 @@ pub(crate) fn likely_end(instance: &Instance<'_>, done: &[Costs]) -> u8
     }
 }
 
-/// So many entries of truth tables are worth one more thread.
+/// This many entries of truth tables are worth one more worker (see `busy_workers`).
 const ENTRIES_A_WORKER: usize = 1 << 18;
 
-/// How many sets of the layer are lawful by the pairs, counted up to `most`.
+/// The number of lawful sets of the layer, or `most` if there are more. A set is lawful if for each
+/// pair (a, b) it has b or lacks a.
 fn count_lawful(pairs: &Pairs, layer: &Layer, most: usize) -> usize
     ensures { result ≤ most }
 {
@@ -126,8 +131,9 @@ fn count_lawful(pairs: &Pairs, layer: &Layer, most: usize) -> usize
     count
 }
 
-/// As many workers as the layer's lawful sets keep busy, by the entries of their truth tables, and
-/// no more than `workers`. At most as many sets are counted as there are blocks.
+/// An estimate of how many workers the layer keeps busy, at most `workers`: one, and another for
+/// each `ENTRIES_A_WORKER` entries of truth tables. The entries of the truth tables of all outputs
+/// count once for each lawful set of the layer, but for no more sets than the layer has blocks.
 pub(crate) fn busy_workers(instance: &Instance<'_>, layer: &Layer, workers: Workers) -> Workers
     ensures { result ≤ workers }
 {

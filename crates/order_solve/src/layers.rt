@@ -1,4 +1,4 @@
-//! The layers of all sets, one after another, by workers.
+//! Computes the cells of all sets by workers, one layer (the sets of one size) after another.
 
 ghost use Rattle.std.specs.Prelude.{◌≡◌, IfOk, length};
 ghost use Rattle.layer_core.specs.LayerCosts.{AreAllLayers, AreDone, AreLayersFor, IsLayerFor};
@@ -13,7 +13,7 @@ use std::alloc::{AllocError, Global};
 use std::thread::Threads;
 use subset_layers::{Costs, Layer};
 
-/// A list of one layer, that of the empty set.
+/// A list of one layer, that of the empty set, with its cost.
 pub(crate) fn first_layer(alloc: Global, instance: &Instance<'_>) -> Result<Vec<Costs>, AllocError>
     ensures one { IfOk result (λ v. length v.items ≡ 1) }
     ensures layers { IfOk result (λ v. AreLayersFor instance.now v.items) }
@@ -23,7 +23,8 @@ pub(crate) fn first_layer(alloc: Global, instance: &Instance<'_>) -> Result<Vec<
     Ok(layers)
 }
 
-/// The cells of the layer after those in `done`, by workers, with widths from `source`.
+/// Computes the layer after those in `done`, with its cells, by the workers of `crew`, with widths
+/// from `source`. `done` has all smaller layers by rising size, from that of the empty set on.
 fn next_layer<R: Threads + Sync, G: Gate>(
     crew: &Crew<'_, R, G>,
     alloc: Global,
@@ -42,8 +43,8 @@ fn next_layer<R: Threads + Sync, G: Gate>(
     Ok(Costs::of(layer, cells))
 }
 
-/// The layers of all sets, by workers. Rows of widths that were prepared are used, and others are
-/// found ahead from layer to layer.
+/// Computes all layers with their cells, by rising size, by the workers of `crew`. Uses the rows of
+/// widths in `prepared`; other rows are computed before the layer that needs them.
 pub(crate) fn layers_of<R: Threads + Sync, G: Gate>(
     crew: &Crew<'_, R, G>,
     alloc: Global,

@@ -1,4 +1,5 @@
-//! Which rows of widths are found before the cells of a layer need them.
+//! Which rows of widths are computed before the cells of a layer need them. A row has the widths of
+//! a set's members.
 
 ghost use Rattle.std.specs.Prelude.{◌≡◌};
 ghost use Rattle.subset_layers.specs.Layers.{layer_of};
@@ -11,14 +12,17 @@ use layer_core::{Instance, needs_of_block};
 use std::alloc::{AllocError, Global};
 use subset_layers::{Block, Costs, Layer};
 
-/// Which rows are to be found, and the size of the largest sets of which rows are to be found.
+/// The rows of widths to compute next: `requests` has the sets and those members whose widths are
+/// wanted, and `end` is the size of the largest of these sets.
 #[derive(Drop)]
 pub(crate) struct LookAhead {
     pub(crate) requests: Requests,
     pub(crate) end: u8,
 }
 
-/// Whether of each lawful set of the block all widths were found ahead, in the row of its image.
+/// Whether for each lawful set of `block` the source of widths in `context` has a whole row: the
+/// widths of all members of the set's image. The image is a set of the renamed problem that has the
+/// same widths, the first of its orbit.
 fn is_found(context: &LayerContext<'_>, prepared: &Preparation<'_>, block: &Block) -> bool
     requires prepared { prepared.now.problem ≡ context.now.instance.problem }
     requires layer { layer_of block.now ≡ context.now.layer }
@@ -33,8 +37,8 @@ fn is_found(context: &LayerContext<'_>, prepared: &Preparation<'_>, block: &Bloc
     true
 }
 
-/// Adds to `requests` the widths that the cells of the block's sets take, at their images. Sets
-/// whose image has its whole row already add nothing.
+/// Adds to `requests` the widths that the cells of the block's sets take, as widths of the images
+/// of these sets. Sets whose image has a whole row already add nothing.
 fn add_needs(
     alloc: Global,
     context: &LayerContext<'_>,
@@ -56,8 +60,8 @@ fn add_needs(
     Ok(())
 }
 
-/// Requests for the widths that the cells of the layer after those in `done` take, for what
-/// `source` does not have. Blocks of which all rows were found ahead request nothing.
+/// Requests for those widths that the cells of the layer after those in `done` take and that
+/// `source` does not have.
 fn requests_of_layer(
     alloc: Global,
     instance: &Instance<'_>,
@@ -82,9 +86,9 @@ fn requests_of_layer(
     Ok(requests)
 }
 
-/// Which rows are to be found before the layer after those in `done`; nothing if its cells need
-/// none. The same low bytes get rows of larger sets, too, up to a size at which nearly whole layers
-/// are likely to be needed.
+/// The rows of widths to compute before the layer after those in `done`; None if all widths that
+/// the cells of that layer take are there. Larger sets with the same low bytes as the requested
+/// ones are added, up to a size at which nearly whole layers are likely to be needed.
 pub(crate) fn look_ahead(
     alloc: Global,
     instance: &Instance<'_>,

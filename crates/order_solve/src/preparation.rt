@@ -14,8 +14,8 @@ use std::thread::Threads;
 use symmetric_pairs::pairs_to_keep;
 use symmetries::Renaming;
 
-/// What a search begins with: the pairs that it keeps, and what serves all its layers, with rows of
-/// widths that were found ahead.
+/// What a search begins with: the pairs that a search for the order alone keeps, the tables that
+/// walks read, and rows of widths that were computed ahead.
 #[derive(Drop)]
 pub struct SearchStart<'a> {
     pub(crate) prepared: Preparation<'a>,
@@ -33,7 +33,8 @@ impl<'a> Model for SearchStart<'a> {
     ghost invariant = { λ s. s.kept.inputs ≡ s.prepared.problem.inputs };
 }
 
-/// The pairs that a search with this lower bound keeps if those in `asked` are required.
+/// The pairs that a search with this lower bound keeps if the caller requires those in `asked`:
+/// these, or if there are none and the lower bound is by widths, pairs of symmetric variables.
 #[tactic(auto, using(crate::proofs::Harmless::harmless_kept))]
 fn kept_pairs(
     alloc: Global,
@@ -52,10 +53,11 @@ fn kept_pairs(
     }
 }
 
-/// What a search begins with. `limit.bound` is the size of any diagram of the functions; from it is
-/// estimated how many layers have almost no pruned set, and their rows are found. None are found if
-/// the search keeps pairs of symmetric variables, because few sets are left then, and none with one
-/// worker.
+/// Prepares a search of the problem of `renaming` among the orders that keep `pairs`. Computes rows
+/// of widths for the sets up to a size at which almost no set is likely to be pruned. This size is
+/// estimated from `limit.bound`, the size of some diagram of the functions. No rows are computed if
+/// there is one worker, or if the search keeps pairs of symmetric variables, because few sets are
+/// left then.
 pub fn prepare<'a, R: Threads + Sync>(
     rt: &R,
     alloc: Global,

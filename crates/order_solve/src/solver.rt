@@ -1,4 +1,5 @@
-//! The solver: the first order of the fewest nodes, by workers or by the calling thread.
+//! The solver: the first order of the fewest nodes, found by workers or by the calling thread. Of
+//! the orders of the fewest nodes the first is the lexicographically smallest, top first.
 
 ghost use Rattle.std.specs.Prelude.{◌≡◌, IfOk};
 ghost use Rattle.definitions.specs.Problems.{functions};
@@ -21,7 +22,9 @@ use std::thread::Threads;
 use symmetric_pairs::pairs_to_keep;
 
 /// The problem instance of a search that keeps `pairs`. Its bound is the size of the sifted order.
-/// An order that keeps the pairs of the sifted one can be changed into one that keeps `pairs`.
+/// Requires that every order that keeps `pairs` keeps those of `sifted`, and that every order that
+/// keeps those of `sifted` can be sorted into one that keeps `pairs`, has as many nodes, and is not
+/// later.
 fn instance_of<'a>(
     problem: &'a Problem,
     sifted: &'a Sifted,
@@ -47,11 +50,12 @@ fn instance_of<'a>(
     Instance::new(problem, pairs, limit)
 }
 
-/// The first order of the fewest nodes among those that keep the pairs of `sifted`. The size of the
-/// sifted order bounds the search, which uses the lower bound by widths. Workers call the gate for
-/// each set but the empty one.
+/// Finds the first order of the fewest nodes among those that keep the pairs of `sifted`. The size
+/// of the sifted order bounds the search, which uses the lower bound by widths. A worker calls
+/// `gate` before it posts the cell of a set. Requires that `start` was prepared for the problem and
+/// the pairs of `sifted`.
 ///
-/// The only error is that memory is wanting; no layer is then done over.
+/// The only error is that memory is refused. The search then ends and computes nothing anew.
 pub fn find_optimum<R: Threads + Sync, G: Gate>(
     rt: &R,
     alloc: Global,
@@ -70,8 +74,9 @@ pub fn find_optimum<R: Threads + Sync, G: Gate>(
     optimum_of(alloc, &cells)
 }
 
-/// The first order of the fewest nodes among those that keep the pairs of `sifted`, by the calling
-/// thread alone. The size of the sifted order bounds the search.
+/// Finds the first order of the fewest nodes among those that keep the pairs of `sifted`, on the
+/// calling thread alone. The size of the sifted order bounds the search, which uses the lower bound
+/// by widths.
 pub fn find_optimum_alone(
     alloc: Global,
     problem: &Problem,
@@ -87,9 +92,10 @@ pub fn find_optimum_alone(
     optimum_of(alloc, &cells)
 }
 
-/// The first order of the fewest nodes among those that keep the pairs of `sifted`, and what its
-/// certificate lists. The lower bound is the one by variables: one node above a set for each
-/// essential variable outside. Workers call the gate for each set but the empty one.
+/// Finds the first order of the fewest nodes among those that keep the pairs of `sifted`, and the
+/// sets and costs that its certificate lists. The lower bound is the one by variables: one node
+/// above a set for each essential variable outside. A worker calls `gate` before it posts the cell
+/// of a set. Requires that `start` was prepared for the problem of `sifted`.
 #[tactic(auto, using(crate::proofs::Harmless::harmless_kept))]
 pub fn solve<R: Threads + Sync, G: Gate>(
     rt: &R,
@@ -110,8 +116,9 @@ pub fn solve<R: Threads + Sync, G: Gate>(
     solution_of(alloc, &cells)
 }
 
-/// The first order of the fewest nodes among those that keep the pairs of `sifted`, and what its
-/// certificate lists, by the calling thread alone.
+/// Finds the first order of the fewest nodes among those that keep the pairs of `sifted`, and the
+/// sets and costs that its certificate lists, on the calling thread alone. The lower bound is the
+/// one by variables.
 #[tactic(auto, using(crate::proofs::Harmless::harmless_kept))]
 pub fn solve_alone(alloc: Global, problem: &Problem, sifted: Sifted) -> Result<Solution, AllocError>
     requires { sifted.problem ≡ problem.now }
@@ -123,7 +130,7 @@ pub fn solve_alone(alloc: Global, problem: &Problem, sifted: Sifted) -> Result<S
     solution_of(alloc, &cells)
 }
 
-/// How many widths the cells of all sets take in the search of `solve_alone`.
+/// The number of widths that the cells of all sets take in the search of `solve_alone`.
 #[tactic(auto, using(crate::proofs::Harmless::harmless_kept))]
 pub fn count_widths(alloc: Global, problem: &Problem, sifted: Sifted) -> Result<u64, AllocError>
     requires { sifted.problem ≡ problem.now }

@@ -1,4 +1,5 @@
-//! A worker at the board of a layer.
+//! A worker's part of a layer: it claims blocks of the layer's board and posts the cells of their
+//! sets.
 
 ghost use Rattle.std.specs.Prelude.{◌≡◌, ℕ, IfOk, IsTrue};
 ghost use Rattle.definitions.specs.Orders.{has};
@@ -18,14 +19,16 @@ use order_model::{Gate, Mask};
 use std::alloc::{AllocError, Global};
 use subset_layers::{Block, Cell};
 
-/// What a worker hands back: its seat, and a tally of the widths that its cells took.
+/// What a worker returns: its seat, which is its view of the board, and a tally of the widths that
+/// its cells took.
 #[derive(Drop)]
 pub struct WorkerResult {
     pub seat: BoardSeat,
     pub tally: Tally,
 }
 
-/// A worker at a board. Its number is counted from 1; it calls the gate before each post.
+/// A worker at a board: what it reads, its number, counted from 1, and the gate that it calls
+/// before each post.
 #[derive(Drop)]
 struct Worker<'a, G> {
     board: &'a Board,
@@ -35,7 +38,8 @@ struct Worker<'a, G> {
 }
 
 impl<'a, G: Gate> Worker<'a, G> {
-    /// The worker with this number at `board`, for the layer of `context`.
+    /// The worker with this number at `board`, for the layer of `context`. Calls `gate` before each
+    /// post.
     fn new(
         board: &'a Board,
         context: &'a LayerContext<'a>,
@@ -56,7 +60,8 @@ impl<'a, G: Gate> Worker<'a, G> {
     }
 }
 
-/// Calls the gate, then posts the cell of the set `mask` to the board.
+/// Calls the worker's gate, then posts `cell`, the cell of the set `mask`, to the board. If the
+/// seat has claimed this set, it then knows that the cell is posted.
 fn post_cell<G: Gate>(worker: &Worker<'_, G>, seat: &mut BoardSeat, mask: Mask, cell: Cell)
     requires seat { seat.old.board ≡ worker.now.board.now }
     requires instance { worker.now.board.now.brief.instance ≡ worker.now.context.now.instance }
@@ -69,7 +74,9 @@ fn post_cell<G: Gate>(worker: &Worker<'_, G>, seat: &mut BoardSeat, mask: Mask, 
     let _ = worker.board.post(seat, context.instance.result(mask, cell));
 }
 
-/// Posts the cells of a block's sets to the board. `cells` has them in the block's order.
+/// Posts `cells`, the cells of the block's sets in the block's order, to the board. Calls the
+/// worker's gate before each. If the seat has claimed these sets, it then knows that their cells
+/// are posted.
 fn post_block<G: Gate>(worker: &Worker<'_, G>, seat: &mut BoardSeat, block: &Block, cells: &[Cell])
     requires seat { seat.old.board ≡ worker.now.board.now }
     requires instance { worker.now.board.now.brief.instance ≡ worker.now.context.now.instance }
@@ -83,8 +90,9 @@ fn post_block<G: Gate>(worker: &Worker<'_, G>, seat: &mut BoardSeat, block: &Blo
     }
 }
 
-/// Claims blocks of the board until none is left, and posts the cell of each of their sets. The
-/// gate is called before each post. `worker` is the worker's number, counted from 1.
+/// Claims blocks of `board` until none is left, and posts the cell of each of their sets. Calls
+/// `gate` before each post. `worker` is the worker's number, counted from 1. Returns the seat, and
+/// a tally of the widths that the posted cells took.
 ///
 /// If memory is refused the seat is lost, and what was posted stays.
 pub fn work_layer<G: Gate>(

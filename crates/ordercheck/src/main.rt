@@ -10,9 +10,9 @@ use std::process::ExitCode;
 use std::rt::Files;
 use std::thread::Threads;
 
-/// Runs ordercheck with the words of the command line, and returns its exit status. Err has the
-/// exit status if the program can't run: 2 if a word of the command line isn't UTF-8, 4 if memory
-/// is refused.
+/// Runs ordercheck with the words of the command line, and returns its exit status. The verdict
+/// goes to `out`, messages to `err`. Err has the exit status if the program can't run: 2 if a word
+/// of the command line isn't UTF-8, 4 if memory is refused.
 fn ordercheck_status<
     R: Env + Files + AllocGlobal + Threads + Sync,
     W: CountedWrite,

@@ -1,4 +1,5 @@
-//! The answer of a run: the best order of a cover, beside the sifted and the file order.
+//! The texts that answer a run: the report on the best order of a cover, beside the sifted and the
+//! file order, and the certificate.
 
 ghost use Rattle.std.specs.Prelude.{◌≡◌, ◌≤◌, IfOk, is_some, string_bytes};
 ghost use Rattle.report.specs.Bests.{IsBestFor};
@@ -19,8 +20,8 @@ use std::alloc::{AllocError, Global};
 use std::thread::Threads;
 use truth_table::Tables;
 
-/// The pairs, of `n` variables, that an order has to keep: those that the plan lists, or none if it
-/// has no list. A fault if the list is refused.
+/// The pairs that an order of `n` variables has to keep: those that the plan lists, or none if it
+/// has no list. Err has the reason for which the list is refused.
 pub(crate) fn pairs_of<'a>(plan: &RunPlan<'a>, n: u8) -> Result<Pairs, PairsFault>
     requires some { 1 ≤ n }
     requires few { n ≤ 16 }
@@ -53,7 +54,8 @@ fn report_of(alloc: Global, instance: &SearchInput<'_>, found: &Found) -> Result
     Ok(text)
 }
 
-/// The text of the certificate of the best order; None if `best` has no cells for one.
+/// The text of the certificate of the best order; None if `best` has no cells, because none is
+/// wanted.
 fn certificate_of(
     alloc: Global,
     problem: &Problem,
@@ -73,8 +75,8 @@ fn certificate_of(
     Ok(Some(text))
 }
 
-/// The report on the first order of the fewest nodes that keeps the pairs, and its certificate if
-/// `certify` is true.
+/// Searches for the first order of the fewest nodes of the cover's functions among those that keep
+/// `pairs`. Returns the report on it, and its certificate if `certify` is true, else None.
 pub(crate) fn answer_texts<R: Threads + Sync>(
     rt: &R,
     alloc: Global,

@@ -1,4 +1,4 @@
-//! The first order of the fewest nodes, and what its certificate lists.
+//! Finds the first order of the fewest nodes, and the sets and costs that its certificate lists.
 
 ghost use Rattle.std.specs.Prelude.{◌≡◌, IfOk, Some};
 ghost use Rattle.order_solve.specs.SearchStarts.{IsStartFor};
@@ -31,9 +31,10 @@ impl Best {
     }
 }
 
-/// The first order of the fewest nodes among those that keep the pairs of `bound`, a sifted order
-/// whose size bounds the search. If `certify` is true it comes with the cells that its certificate
-/// lists; without them fewer sets are searched.
+/// Finds the first order of the fewest nodes among those that keep the pairs of `bound`, a sifted
+/// order whose size bounds the search. If `certify` is true the result has the cells that the
+/// order's certificate lists; without them fewer sets are searched. Requires that `start` was
+/// prepared for the problem and the pairs of `bound`.
 pub(crate) fn best_order<R: Threads + Sync>(
     rt: &R,
     alloc: Global,
@@ -56,9 +57,9 @@ pub(crate) fn best_order<R: Threads + Sync>(
     })
 }
 
-/// The first order of the fewest nodes among those that keep the pairs, and if `certify` is true
-/// the cells that its certificate lists. The calling thread searches alone: this is meant for small
-/// truth tables.
+/// Finds the first order of the fewest nodes among those that keep `pairs`, and if `certify` is
+/// true the cells that its certificate lists. The calling thread searches alone: this is meant for
+/// small truth tables.
 pub(crate) fn small_best(
     alloc: Global,
     problem: &Problem,

@@ -1,4 +1,4 @@
-//! The diagrams that an answer is read off.
+//! The diagrams under the starting order, from which sifting begins, and under the file order.
 
 ghost use Rattle.std.specs.Prelude.{◌≡◌, ◌≤◌, ◌<◌, ℕ, IfOk, length, slice_index};
 ghost use Rattle.definitions.specs.Diagrams.{nodes_at};
@@ -30,8 +30,8 @@ fn levels_of(alloc: Global, diagram: &Diagram) -> Result<Vec<u32>, AllocError>
     counts[..diagram.order().len()].to_vec(alloc)
 }
 
-/// The reduced diagram of the cover's functions under `order`. It is made directly from small truth
-/// tables, else in a store.
+/// The reduced diagram of the cover's functions under `order`. Small truth tables are reduced
+/// directly; else workers build the diagram in a store of nodes.
 fn diagram_under<R: Threads + Sync>(
     rt: &R,
     alloc: Global,
@@ -58,7 +58,8 @@ fn diagram_under<R: Threads + Sync>(
     )
 }
 
-/// The diagram under the starting order, the first order that keeps the pairs.
+/// The diagram of the cover's functions under the starting order, the first order that keeps the
+/// pairs.
 pub(crate) fn starting_diagram<R: Threads + Sync>(
     rt: &R,
     alloc: Global,
@@ -71,8 +72,9 @@ pub(crate) fn starting_diagram<R: Threads + Sync>(
     Ok(diagram)
 }
 
-/// The level counts under the file order. They are read off `starting`, the diagram under the
-/// starting order, if this is the file order; else another diagram is built.
+/// The level counts of the cover's functions under the file order, top first. Requires that
+/// `starting` is a diagram of the cover's functions. If its order is the file order, the level
+/// counts are read off it; else another diagram is built.
 pub(crate) fn file_order_levels_of<R: Threads + Sync>(
     rt: &R,
     alloc: Global,

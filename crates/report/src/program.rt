@@ -1,4 +1,4 @@
-//! The program minorder: words, files and messages.
+//! The program minorder: reads its command line, opens its files, and writes its messages.
 
 ghost use Rattle.std.specs.Prelude.{None};
 ghost use Rattle.command_line.specs.Lines.{texts};
@@ -15,8 +15,9 @@ use std::fs;
 use std::rt::Files;
 use std::thread::Threads;
 
-/// Opens the PLA file, creates the certificate's file if one is wanted, and carries out the plan.
-/// With `--count` no certificate is made.
+/// Opens the PLA file, creates the certificate's file if one is wanted, and carries out the plan of
+/// `line`, whose report goes to `out`. With `--count` no certificate is made. Returns how the run
+/// ended: `Fault::Device` if a file can't be opened or created.
 fn run_on_files<'a, R: Files + AllocGlobal + Threads + Sync, W: CountedWrite>(
     rt: &R,
     line: &Line<'a>,

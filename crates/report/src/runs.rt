@@ -13,8 +13,9 @@ use report_texts::{RunTexts, counts_of, write_texts};
 use std::alloc::Global;
 use std::thread::Threads;
 
-/// The texts that the plan asks for: the counts, or the report on the best order, with the
-/// certificate if `certify` is true.
+/// The texts that `plan` asks for: the counts, or the report on the best order, with the
+/// certificate if `certify` is true. Err has the fault of the pairs that the plan lists, or that
+/// memory was refused.
 fn planned_texts<'a, R: Threads + Sync>(
     rt: &R,
     alloc: Global,
@@ -45,9 +46,10 @@ fn planned_texts<'a, R: Threads + Sync>(
     }
 }
 
-/// Reads a PLA file and writes the texts that the plan asks for. With `count` these are the level
-/// counts and the size under the file order, else the first order of the fewest nodes that keeps
-/// the pairs, beside the sifted one, and its certificate if `cert` is a writer.
+/// Reads a PLA file and writes the texts that `plan` asks for. With `plan.count` these are the
+/// level counts and the size under the file order; else the report on the first order of the fewest
+/// nodes that keeps the pairs, beside the sifted one, and its certificate if `cert` is a writer.
+/// Returns how the run ended.
 ///
 /// The file is read to its end before anything is decided, and both texts are made whole before the
 /// first byte is written. The certificate goes out first. A count leaves the certificate's writer

@@ -1,5 +1,6 @@
-//! The search of a cover: sifting finds a bound for it, while workers prepare it. Sifting starts
-//! from the diagram under the starting order, the first order that keeps the pairs.
+//! The search for the first order of the fewest nodes of a cover's functions: sifting finds the
+//! bound of the search, while workers prepare it. Sifting starts from the diagram under the
+//! starting order, the first order that keeps the pairs.
 
 ghost use Rattle.std.specs.Prelude.{◌≡◌, IfOk, sum};
 ghost use Rattle.std.specs.Thread.{IsSync};
@@ -52,7 +53,8 @@ fn sift<R: Threads + Sync>(
     })
 }
 
-/// The manager of the diagram under the starting order, ready to be sifted.
+/// Makes a manager of `starting`, ready to be sifted among the orders that keep the pairs. Requires
+/// that `starting` is the diagram under the starting order.
 fn manager_of(
     alloc: Global,
     instance: &SearchInput<'_>,
@@ -67,8 +69,8 @@ fn manager_of(
     Ok(manager)
 }
 
-/// Prepares the search. `size` is that of the starting order and serves as the bound, because
-/// sifting has found none yet.
+/// Prepares the search. `size` is the number of nodes under the starting order and serves as the
+/// bound, because sifting has found none yet.
 fn prepare_below<'a, R: Threads + Sync>(
     rt: &R,
     alloc: Global,
@@ -92,8 +94,9 @@ fn prepare_below<'a, R: Threads + Sync>(
     Ok(start)
 }
 
-/// Sifts and prepares the search: what sifting found, and what the search begins with. Both are
-/// done at the same time, or one after the other if only one worker would be busy.
+/// Sifts the diagram of `manager` and prepares the search. Returns what sifting found, and what the
+/// search begins with. Both are done at the same time, or one after the other if only one worker
+/// would be busy.
 fn sift_and_prepare<'a, R: Threads + Sync>(
     rt: &R,
     alloc: Global,
@@ -114,8 +117,8 @@ fn sift_and_prepare<'a, R: Threads + Sync>(
         let sifting = sift(rt, alloc, manager, workers)?;
         return Ok((sifting, start));
     }
-    // The closures own what they take (`move`): `join` ensures nothing of one that owns one value
-    // and borrows another.
+    // The closures own what they take (`move`): `join` ensures nothing of a closure that owns one
+    // value and borrows another.
     let sifting = move || -> Result<Sifting, AllocError>
         requires { IsSync R.row }
         ensures { IfOk result (IsSiftingOf manager) }
@@ -129,7 +132,8 @@ fn sift_and_prepare<'a, R: Threads + Sync>(
     Ok((sifting?, start?))
 }
 
-/// The number of nodes under the file order. `starting` is the diagram under the starting order.
+/// The number of nodes of the cover's functions under the file order. Requires that `starting` is
+/// the diagram under the starting order.
 fn file_size_of<R: Threads + Sync>(
     rt: &R,
     alloc: Global,

@@ -1,4 +1,4 @@
-//! What a run searches.
+//! What a run searches, and how.
 
 ghost use Rattle.std.specs.Prelude.{◌≡◌};
 ghost use Rattle.truth_table.specs.OfCovers.{AreTablesOf};
@@ -28,7 +28,8 @@ pub(crate) struct SearchInput<'a> {
 const ENTRIES_WORTH_THREADS: usize = 1 << 14;
 
 impl SearchInput<'_> {
-    /// The workers that are kept busy before the search: all, or one if the truth tables are small.
+    /// The workers for sifting and preparing, before the search: `self.workers`, or one if the
+    /// truth tables are too small for threads.
     pub(crate) fn busy_workers(&self) -> Workers {
         let problem = self.tables.problem();
         let entries = usize::from(problem.outputs()) << problem.inputs();

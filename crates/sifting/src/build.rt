@@ -15,7 +15,8 @@ use indexmap::IndexSet;
 use order_model::{Node, Ref, VarIx};
 use std::alloc::{AllocError, Global};
 
-/// The number of a ref: 0 and 1 for the terminals, k + 2 for the node at place k.
+/// The code of a ref: 0 is the terminal 0, 1 the terminal 1, and k + 2 node k of the diagram's list
+/// of nodes.
 fn code(r: Ref) -> usize
     requires { IsBefore (2 ^ 32) r }
     ensures { result ≡ code_of r }
@@ -27,7 +28,8 @@ fn code(r: Ref) -> usize
     }
 }
 
-/// The ref that a number stands for: 0 and 1 are the terminals, k + 2 is the node at place k.
+/// The ref with this code: 0 is the terminal 0, 1 the terminal 1, and k + 2 node k of the diagram's
+/// list of nodes.
 fn reference(code: usize) -> Ref
     ensures { result ≡ ref_named code }
 {
@@ -38,7 +40,8 @@ fn reference(code: usize) -> Ref
     }
 }
 
-/// The refs that numbers stand for: 0 and 1 are the terminals, k + 2 is the node at place k.
+/// The refs with these codes: 0 is the terminal 0, 1 the terminal 1, and k + 2 node k of the
+/// diagram's list of nodes.
 fn references(alloc: Global, codes: &[usize]) -> Result<Vec<Ref>, AllocError>
     ensures { IfOk result (λ v. v.items ≡ map ref_named codes.now) }
 {

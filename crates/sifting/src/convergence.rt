@@ -93,9 +93,10 @@ impl Sifted {
         }
     }
 
-    /// Sifts from two starts, this order and this order reversed, until a pass gains nothing.
-    /// Returns the order of smaller size. If reversing changes the size by at most a sixty-fourth,
-    /// returns this order unchanged.
+    /// Sifts from two starts, this order and this order reversed as far as its pairs allow, until a
+    /// pass gains nothing or `MOST_PASSES` are done. Returns the order of smaller size, which is no
+    /// larger than this one. If reversing changes the size by at most a sixty-fourth, returns this
+    /// order unchanged.
     pub fn sifted_to_convergence(self, alloc: Global) -> Result<Sifted, AllocError>
         ensures { IfOk result (IsNoLarger self) }
     {

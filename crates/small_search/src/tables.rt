@@ -66,9 +66,9 @@ pub(crate) fn values_over(values: &[u8], entries: usize, size: u32) -> &[u8]
     own
 }
 
-/// Writes to `values` the values over `size` variables: each joins two of those over `size - 1`
-/// variables whose assignments differ in x alone. `values` has the values over 0, 1, 2 and 3
-/// variables, one size behind the other, and `entries` of them are over no variable.
+/// Writes to `values` the values over `size` variables, of which x is the lowest. Each joins two
+/// values over the others: the lower bits are the one where x is 0. `values` has the values over 0,
+/// 1, 2 and 3 variables, one size after the other, with `entries` of size 0. Other sizes stay.
 #[inline(always)]
 fn make_values(values: &mut [u8], entries: usize, x: VarIx, size: u32)
     requires some { 1 ≤ size }

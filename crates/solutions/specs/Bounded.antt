@@ -1,6 +1,6 @@
 -- The cells of all sets, for a bound that some order stays within.
 --     IsBounded t      some order that keeps the pairs has at most the bound as its size
---     HoldsCells t storage      what the cells of all sets are kept with
+--     HoldsCells t storage      the storage has the cells of all sets, and some order stays within the bound
 use Rattle.std.specs.Prelude.{ℕ, ◌≤◌, List}
 use Rattle.definitions.specs.Orders.{IsOrder}
 use Rattle.definitions.specs.Pairs.{Keeps}
@@ -17,7 +17,7 @@ pub record IsBounded (t : InstanceOf) : Type 0 where
   pub keeps : Keeps t.pairs.pairs order
   pub size : size_under t.problem.inputs (functions t.problem) order ≤ t.bound
 
--- the cells of all sets, for a bound that some order stays within
+-- the storage has the cells of all sets, and some order stays within the bound
 pub record HoldsCells (t : InstanceOf) (storage : Storage) : Type 0 where
   pub bounded : IsBounded t
   pub all : AreStored t storage

@@ -1,11 +1,11 @@
 -- What the cells of all sets give.
---     cost_for t mask, cost_for_without t mask x      the cost of a set, and that without one member
+--     cost_for t mask, cost_for_without t mask x      the cost of a set; the cost of a set without one member
 --     IsReadOff t order      the order that the cells give
 --     AreListedFor t total cells      the sets that a certificate lists, with their costs
 --     widths_for_all t      how many widths the cells of all sets take
 --     IsFirstFewest n F P order levels total      the first order of the fewest nodes among those that keep the pairs, with its level counts and its size
---     IsOptimumFor problem P o      the optimum holds them
---     IsSolution problem P s      this, with its certificate's cells
+--     IsOptimumFor problem P o      o has the first order of the fewest nodes, its level counts and its size
+--     IsSolution problem P s      s has this optimum, and the cells that its certificate lists
 use Rattle.std.specs.Prelude.{◌≡◌, ℕ, ◌-◌, ◌^◌, List, map}
 use Rattle.definitions.specs.Functions.{Function}
 use Rattle.definitions.specs.Pairs.{Pair}
@@ -50,11 +50,11 @@ pub record IsFirstFewest (n : ℕ) (F : List Function) (P : List Pair) (order le
   pub size : total ≡ size_under n F order
   pub levels_are : levels ≡ level_counts n F order
 
--- the optimum holds them
+-- o has the first order of the fewest nodes, its level counts and its size
 abbrev pub IsOptimumFor : TruthTables → List Pair → SizedOrder → Type 0
 IsOptimumFor problem P o = IsFirstFewest problem.inputs (functions problem) P o.order o.levels.items o.total
 
--- this, and the cells of its certificate
+-- s has this optimum, and the cells that its certificate lists
 pub record IsSolution (problem : TruthTables) (P : List Pair) (s : Solution) : Type 0 where
   pub optimum : IsOptimumFor problem P s.optimum
   pub cells : map listed s.cells.items ≡ (certificate_of problem.inputs (functions problem) P s.optimum.order).cells

@@ -1,4 +1,5 @@
-//! The cells of all sets.
+//! The cells of all sets of variables: of each set the least cost, and the smallest top variable
+//! that gives it.
 
 ghost use Rattle.std.specs.Prelude.{◌≡◌, ◌^◌, ◌<◌, ◌≤◌, count_ones};
 ghost use Rattle.definitions.specs.Problems.{functions};
@@ -19,12 +20,12 @@ use subset_layers::{Cell, Costs};
 enum Storage {
     /// By layers: at index k the cells of the sets of k variables.
     Layers(Vec<Costs>),
-    /// Each at its set's mask.
+    /// The cell of each set, at the index that is the set's mask.
     Flat(Vec<Cell>),
 }
 
-/// The cells of all sets of a problem's variables. Some order that keeps the pairs has at most the
-/// bound as its size.
+/// The cells of all sets of a problem instance's variables. Some order that keeps the instance's
+/// pairs has at most the instance's bound as its size.
 #[derive(Drop)]
 pub struct AllCells<'a> {
     instance: &'a Instance<'a>,
@@ -42,7 +43,8 @@ impl<'a> Model for AllCells<'a> {
     ghost invariant = { λ a. HoldsCells a.instance.now a.storage };
 }
 
-/// The layer of the sets of `size` variables.
+/// The layer in `layers` that has the sets of `size` variables. `layers` has all layers by rising
+/// size.
 fn layer_of<'c>(instance: &Instance<'_>, layers: &'c [Costs], size: u32) -> &'c Costs
     requires layers { AreAllLayers instance.now layers.now }
     requires few { size ≤ instance.now.problem.inputs }
@@ -55,7 +57,8 @@ fn layer_of<'c>(instance: &Instance<'_>, layers: &'c [Costs], size: u32) -> &'c 
 impl<'a> AllCells<'a> {
     ghost use Rattle.solutions.specs.Bounded.{IsBounded};
 
-    /// The cells of all sets, from the layers by rising size.
+    /// The cells of all sets, from `layers`, all layers by rising size. Requires that some order
+    /// that keeps the instance's pairs has at most the instance's bound as its size.
     pub fn of_layers(instance: &'a Instance<'a>, layers: Vec<Costs>) -> AllCells<'a>
         requires bounded { IsBounded instance.now }
         requires layers { AreAllLayers instance.now layers.items }
@@ -67,7 +70,9 @@ impl<'a> AllCells<'a> {
         }
     }
 
-    /// The cells of all sets, each at its set's mask.
+    /// The cells of all sets, from `cells`, which has the cell of each set at the index that is the
+    /// set's mask. Requires that some order that keeps the instance's pairs has at most the
+    /// instance's bound as its size.
     pub fn of_cells(instance: &'a Instance<'a>, cells: Vec<Cell>) -> AllCells<'a>
         requires bounded { IsBounded instance.now }
         requires cells { AreFlatCells instance.now cells.items }
@@ -89,7 +94,7 @@ impl<'a> AllCells<'a> {
         self.instance.inputs()
     }
 
-    /// The problem instance whose cells they are.
+    /// The problem instance that the cells belong to.
     pub(crate) fn instance(&self) -> &Instance<'a>
         ensures { result.now ≡ self.now }
     {
@@ -103,7 +108,8 @@ impl<'a> AllCells<'a> {
         self.instance.essential()
     }
 
-    /// The cost of the set `mask`.
+    /// The cost of the set `mask`: its least cost, or the bound + 1 if the set is pruned or not
+    /// lawful. The empty set costs 0.
     pub fn cost(&self, mask: Mask) -> u32
         requires { mask < 2 ^ self.now.problem.inputs }
         ensures { result ≡ cost_for self.now mask }
@@ -117,7 +123,7 @@ impl<'a> AllCells<'a> {
         }
     }
 
-    /// The cell of the set `mask`, which is not empty.
+    /// The cell of the set `mask`. Requires that the set is not empty.
     pub fn cell(&self, mask: Mask) -> Cell
         requires some { 0 < mask }
         requires within { mask < 2 ^ self.now.problem.inputs }

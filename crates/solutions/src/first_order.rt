@@ -1,4 +1,4 @@
-//! The order that the cells give, and its level counts.
+//! Reads the first order of the fewest nodes and its level counts off the cells of all sets.
 
 ghost use Rattle.std.specs.Prelude.{◌≡◌, ◌≤◌, ◌-◌, ◌^◌, IfOk};
 ghost use Rattle.definitions.specs.Problems.{functions};
@@ -18,8 +18,8 @@ pub(crate) fn all_variables(inputs: u8) -> Mask
     Mask::MAX >> (16 - inputs)
 }
 
-/// The variables of the order that the cells give, from the top down: the one in the cell of the
-/// set of all variables, then the one in the cell of the set that is left, and so on.
+/// The variables of the order that the cells give, top first: the one in the cell of the set of all
+/// variables, then the one in the cell of the set that is left, and so on.
 fn read_variables(alloc: Global, cells: &AllCells<'_>) -> Result<Vec<VarIx>, AllocError>
     ensures { IfOk result (λ v. IsReadOff cells.now v.items) }
 {
@@ -34,7 +34,8 @@ fn read_variables(alloc: Global, cells: &AllCells<'_>) -> Result<Vec<VarIx>, All
     Ok(variables)
 }
 
-/// The order that the cells give, from the set of all variables downward.
+/// The order that the cells give: on top the variable in the cell of the set of all variables,
+/// below it the one in the cell of the set that is left, and so on.
 pub(crate) fn read_order(alloc: Global, cells: &AllCells<'_>) -> Result<Order, AllocError>
     ensures { IfOk result (λ o. IsReadOff cells.now o) }
 {
@@ -43,8 +44,8 @@ pub(crate) fn read_order(alloc: Global, cells: &AllCells<'_>) -> Result<Order, A
     Ok(Order::from_variables(variables))
 }
 
-/// The level counts of `order`, which is the one that the cells give, top first: by how much the
-/// cost falls when each variable is taken off the top.
+/// The level counts of `order`, top first: by how much the cost falls when each variable is taken
+/// off the top. Requires that `order` is the one that `read_order` returns for `cells`.
 pub(crate) fn level_counts(
     alloc: Global,
     cells: &AllCells<'_>,

@@ -1,5 +1,6 @@
-//! What is read off the cells of all sets: the first order of the fewest nodes, what its
-//! certificate lists, and how many widths the cells took.
+//! What is read off the cells of all sets: the first order of the fewest nodes, the sets and costs
+//! that its certificate lists, and how many widths the cells took. Of the orders of the fewest
+//! nodes the first is the lexicographically smallest, top first.
 #![tactic(auto)]
 
 mod all_cells;

@@ -20,9 +20,10 @@ fn count_outside(essential: Mask, mask: Mask) -> u32
     (essential & !mask).count_ones()
 }
 
-/// The listed sets of a certificate of size `total`, with their costs, by rising mask. A set other
-/// than that of all variables is listed if its cost, with one node for each essential variable
-/// outside, is below the total.
+/// The sets that a certificate of an order of `total` nodes lists, with their costs, by rising
+/// mask. A set other than that of all variables is listed if its cost plus the number of essential
+/// variables outside is below `total`. Requires that `cells` were computed with the lower bound by
+/// variables.
 pub(crate) fn listed_cells(
     alloc: Global,
     cells: &AllCells<'_>,

@@ -1,4 +1,5 @@
-//! The first order of the fewest nodes, and what its certificate lists.
+//! Reads the first order of the fewest nodes, and the sets and costs that its certificate lists,
+//! off the cells of all sets.
 
 ghost use Rattle.std.specs.Prelude.{◌≡◌, ◌≤◌, IfOk};
 ghost use Rattle.definitions.specs.declared.limits.LowerBound.TheVariants.{Variables};
@@ -11,8 +12,8 @@ use crate::solution::Solution;
 use order_model::SizedOrder;
 use std::alloc::{AllocError, Global};
 
-/// The order that the cells of all sets give: the first one of the fewest nodes among those that
-/// keep the pairs.
+/// The first order of the fewest nodes among those that keep the pairs of the cells' problem
+/// instance, with its size and its level counts.
 pub fn optimum_of(alloc: Global, cells: &AllCells<'_>) -> Result<SizedOrder, AllocError>
     ensures optimum { IfOk result (IsOptimumFor cells.now.problem cells.now.pairs.pairs) }
     ensures bounded { IfOk result (λ o. o.total ≤ cells.now.bound) }
@@ -27,9 +28,9 @@ pub fn optimum_of(alloc: Global, cells: &AllCells<'_>) -> Result<SizedOrder, All
     })
 }
 
-/// The first order of the fewest nodes among those that keep the pairs, and what its certificate
-/// lists. The lower bound of the cells is that by variables: one node above a set for each
-/// essential variable outside.
+/// The first order of the fewest nodes among those that keep the pairs of the cells' problem
+/// instance, and the sets and costs that its certificate lists. Requires that `cells` were computed
+/// with the lower bound by variables: one node above a set for each essential variable outside.
 pub fn solution_of(alloc: Global, cells: &AllCells<'_>) -> Result<Solution, AllocError>
     requires { cells.now.lower_bound ≡ Variables }
     ensures { IfOk result (IsSolution cells.now.problem cells.now.pairs.pairs) }

@@ -2,11 +2,12 @@
 
 use order_model::{ListedCell, SizedOrder};
 
-/// The first order of the fewest nodes, and what its certificate lists.
+/// The first order of the fewest nodes, and the sets and costs that its certificate lists.
 #[derive(Debug, Drop)]
 pub struct Solution {
     pub optimum: SizedOrder,
-    /// The lawful sets, without that of all variables, whose least cost with one node for each
-    /// essential variable outside is below the order's size, by rising mask.
+    /// The listed sets with their least costs, by rising mask: the lawful sets other than that of
+    /// all variables whose least cost plus the number of essential variables outside is below the
+    /// size of the order.
     pub cells: Vec<ListedCell>,
 }

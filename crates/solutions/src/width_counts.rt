@@ -1,4 +1,4 @@
-//! How many widths the cells of all sets take.
+//! How many widths the cells of all sets take: those from which a search computes the cells.
 
 ghost use Rattle.std.specs.Prelude.{◌≡◌, ◌^◌, ◌<◌, count_ones};
 ghost use Rattle.definitions.specs.Cells.{candidates};
@@ -10,7 +10,8 @@ use crate::all_cells::AllCells;
 use layer_core::asked_members;
 use order_model::{Mask, contains};
 
-/// The members of the set `mask` for which the set without the member costs at most the bound.
+/// The members of the set `mask`, as a mask, for which the set without the member costs at most the
+/// bound.
 fn affordable_members(cells: &AllCells<'_>, mask: Mask) -> Mask
     requires { mask < 2 ^ cells.now.problem.inputs }
     ensures { result ≡ mask_of
@@ -26,7 +27,8 @@ fn affordable_members(cells: &AllCells<'_>, mask: Mask) -> Mask
     found
 }
 
-/// The members of the set `mask` whose widths its cell takes; none if the set is not lawful.
+/// The members of the set `mask` whose widths its cell takes, as a mask; 0 if the set is not
+/// lawful.
 fn needed_members(cells: &AllCells<'_>, mask: Mask) -> Mask
     requires { mask < 2 ^ cells.now.problem.inputs }
     ensures { result ≡ needed cells.now mask }
@@ -40,7 +42,7 @@ fn needed_members(cells: &AllCells<'_>, mask: Mask) -> Mask
     }
 }
 
-/// How many widths the cells of all sets take.
+/// The number of widths that the cells of all sets take: those from which a search computes them.
 pub fn count_widths(cells: &AllCells<'_>) -> u64
     ensures { result ≡ widths_for_all cells.now }
 {

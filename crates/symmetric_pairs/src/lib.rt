@@ -1,5 +1,5 @@
-//! Pairs of variables in which functions are symmetric: that an order may keep them, and how a
-//! search finds them.
+//! Pairs of variables in which all functions are symmetric: the law that an order may keep them,
+//! and how a search finds them.
 #![tactic(auto)]
 
 pub mod laws;

@@ -1,6 +1,6 @@
-//! Pairs of variables in which all functions are symmetric. Where two variables may be exchanged,
-//! the first order of the fewest nodes has the smaller one above the larger one, so the search may
-//! keep that pair besides.
+//! Pairs of variables in which all functions are symmetric. If two variables may be exchanged
+//! without a change of any function, the first order of the fewest nodes has the smaller one above
+//! the larger one, so a search may keep this pair.
 
 ghost use Rattle.std.specs.Prelude.{◌≡◌, ◌<◌, ◌≤◌, IfOk, IfSome, IsTrue};
 ghost use Rattle.definitions.specs.Problems.{functions};
@@ -10,7 +10,7 @@ use crate::words::is_symmetric_in;
 use order_model::{Pairs, Problem, VarIx};
 use std::alloc::{AllocError, Global};
 
-/// Whether all functions are symmetric in a and b.
+/// Whether all functions are symmetric in `a` and `b`.
 fn are_symmetric(problem: &Problem, a: VarIx, b: VarIx) -> bool
     requires first { a < b }
     requires inside { b < problem.now.inputs }
@@ -24,7 +24,8 @@ fn are_symmetric(problem: &Problem, a: VarIx, b: VarIx) -> bool
     true
 }
 
-/// The next variable after a with which it may be exchanged: all functions are symmetric in both.
+/// The smallest variable above `a` such that all functions are symmetric in `a` and this variable;
+/// None if there is none.
 fn next_symmetric(problem: &Problem, a: VarIx) -> Option<VarIx>
     requires few { problem.now.inputs ≤ 16 }
     requires inside { a < problem.now.inputs }
@@ -38,7 +39,8 @@ fn next_symmetric(problem: &Problem, a: VarIx) -> Option<VarIx>
     None
 }
 
-/// For each variable the pair with the next larger one with which it may be exchanged.
+/// For each variable the pair with the next larger one such that all functions are symmetric in
+/// both, if there is one; the smaller variable comes first.
 fn symmetric_pairs(alloc: Global, problem: &Problem) -> Result<Pairs, AllocError>
     ensures inputs { IfOk result (λ p. p.inputs ≡ problem.now.inputs) }
     ensures pairs { IfOk result
@@ -57,8 +59,8 @@ fn symmetric_pairs(alloc: Global, problem: &Problem) -> Result<Pairs, AllocError
     }
 }
 
-/// The pairs that a search keeps: those in `asked`, or, if there are none, pairs of variables in
-/// which all functions are symmetric.
+/// The pairs that a search keeps if the caller requires those in `asked`: these, or, if there are
+/// none, pairs of variables in which all functions are symmetric, the smaller one first.
 pub fn pairs_to_keep(alloc: Global, problem: &Problem, asked: &Pairs) -> Result<Pairs, AllocError>
     requires { asked.now.inputs ≡ problem.now.inputs }
     ensures inputs { IfOk result (λ p. p.inputs ≡ problem.now.inputs) }

@@ -1,4 +1,5 @@
-//! Whether a truth table is symmetric in two variables, by words of 64 points.
+//! Tests whether a truth table is symmetric in two variables, on words of 64 points. The value at
+//! point p is bit p % 64 of word p / 64, and variable v is bit v of the point.
 
 ghost use Rattle.std.specs.Prelude.{◌≡◌, ℕ, ◌+◌, ◌-◌, ◌^◌, ◌<◌, ◌≤◌, length, slice_index, false, IsTrue};
 ghost use Rattle.std.specs.Int.{bit_at};
@@ -7,8 +8,8 @@ ghost use Rattle.definitions.specs.Problems.{packed_bit, words_per_table};
 use order_model::VarIx;
 use order_model::packed::lower_half;
 
-/// Whether a word has different bits at two points that differ in which of a and b is 1. Both
-/// variables are below 6.
+/// Whether `word` has different bits at some two points that differ only in `a` and `b`: `a` is 1
+/// and `b` is 0 at one, `a` is 0 and `b` is 1 at the other.
 #[inline(always)]
 fn changes_inside(word: u64, a: VarIx, b: VarIx) -> bool
     requires first { a < b }
@@ -22,8 +23,8 @@ fn changes_inside(word: u64, a: VarIx, b: VarIx) -> bool
     ((word >> apart) ^ word) & with_a != 0
 }
 
-/// Whether at some point where a is 1 `lower` has another bit than `upper` has where a is 0
-/// instead. The variable a is below 6.
+/// Whether at some point where `a` is 1 the bit of `lower` differs from the bit of `upper` at the
+/// point that has 0 instead for `a`.
 #[inline(always)]
 fn changes_across(lower: u64, upper: u64, a: VarIx) -> bool
     requires { a < 6 }
@@ -33,7 +34,8 @@ fn changes_across(lower: u64, upper: u64, a: VarIx) -> bool
     ((lower >> (1u32 << a)) ^ upper) & lower_half(a) != 0
 }
 
-/// Whether a function is symmetric in a and b, both below 6: points are compared within each word.
+/// Whether the function with the packed truth table `words` is symmetric in `a` and `b`, both below
+/// 6. Compares points within each word.
 fn is_symmetric_inside(words: &[u64], a: VarIx, b: VarIx) -> bool
     requires first { a < b }
     requires low { b < 6 }
@@ -50,8 +52,8 @@ fn is_symmetric_inside(words: &[u64], a: VarIx, b: VarIx) -> bool
     true
 }
 
-/// Whether a function is symmetric in a, which is below 6, and variable s + 6, which is bit s of a
-/// word's place: points are compared between two words.
+/// Whether the function with the packed truth table `words` is symmetric in `a`, which is below 6,
+/// and variable `s` + 6, which is bit `s` of a word's index. Compares points of two words.
 fn is_symmetric_across(words: &[u64], a: VarIx, s: u8) -> bool
     requires few { length words.now ≤ 1024 }
     requires low { a < 6 }
@@ -71,8 +73,8 @@ fn is_symmetric_across(words: &[u64], a: VarIx, s: u8) -> bool
     true
 }
 
-/// Whether a function is symmetric in the variables r + 6 and s + 6, which are bits r and s of a
-/// word's place: whole words are compared.
+/// Whether the function with the packed truth table `words` is symmetric in the variables `r` + 6
+/// and `s` + 6, which are bits `r` and `s` of a word's index. Compares whole words.
 fn is_symmetric_between(words: &[u64], r: u8, s: u8) -> bool
     requires few { length words.now ≤ 1024 }
     requires first { r < s }
@@ -92,8 +94,8 @@ fn is_symmetric_between(words: &[u64], r: u8, s: u8) -> bool
     true
 }
 
-/// Whether a function is symmetric in a and b: equal at each two points that differ in which of
-/// them is 1. `words` is its packed truth table.
+/// Whether the function with the packed truth table `words` is symmetric in `a` and `b`: equal at
+/// each two points that differ only in which of `a` and `b` is 1.
 pub(crate) fn is_symmetric_in(words: &[u64], inputs: u8, a: VarIx, b: VarIx) -> bool
     requires few { inputs ≤ 16 }
     requires long { length words.now ≡ words_per_table inputs }

@@ -26,9 +26,9 @@ impl Model for Renamed {
     ghost view = { λ r. record { problem = r.problem; exchange = r.exchange } };
 }
 
-/// Writes function number `output` of `renamed`: its value at a point is that of the function of
-/// `problem` with this number at the point's image. `images` has each point's image. Requires that
-/// the function is 0 everywhere before.
+/// Writes function f, number `output`, of `renamed`: at each point p its value is that of f of
+/// `problem` at `images[p]`. Requires that f of `renamed` is 0 everywhere before. No other function
+/// changes.
 fn set_values(renamed: &mut Problem, problem: &Problem, images: &[Mask], output: u8)
     requires inputs { renamed.old.inputs ≡ problem.now.inputs }
     requires outputs { outputs_of renamed.old ≡ outputs_of problem.now }

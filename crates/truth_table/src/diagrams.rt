@@ -10,7 +10,8 @@ use crate::tables::Tables;
 use order_model::{Diagram, Order, Ref};
 use std::alloc::{AllocError, Global};
 
-/// The refs that numbers stand for: 0 and 1 are the terminals, k + 2 is the node at place k.
+/// The refs with these numbers: 0 is the terminal 0, 1 the terminal 1, and k + 2 node k of the
+/// diagram's list of nodes.
 fn refs_of(alloc: Global, numbers: &[u32]) -> Result<Vec<Ref>, AllocError>
     ensures { IfOk result (λ v. v.items ≡ map ref_named numbers.now) }
 {

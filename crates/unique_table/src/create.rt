@@ -68,8 +68,9 @@ fn top_assignments(order: &Order) -> usize
     if order.len() < 2 { 2 } else { 4 }
 }
 
-/// How many parts all outputs together have, for parts of this kind. `outputs` is the number of
-/// outputs.
+/// How many parts all outputs together have, of which there are `outputs`. A part is a cofactor by
+/// the two variables on top (by one if there is no other), or the disjunction of some terms of an
+/// output.
 pub(crate) fn parts_count(kind: &PieceKind, order: &Order, outputs: u8) -> usize
     requires { outputs ≤ 16 }
     ensures is { (t : TruthTables) → outputs ≡ outputs_of t →

@@ -1,4 +1,5 @@
-//! Calls of both programs, and what is seen then.
+//! Calls minorder and ordercheck for worked cases, and compares what they do with what the case
+//! says.
 
 use crate::cases::{Case, Place};
 use anyhow::{Context, Result, bail, ensure};
@@ -25,7 +26,7 @@ struct Seen {
 }
 
 /// Calls the program that `line` begins with, with the words after it, and returns what the call
-/// did.
+/// did. An error if there is no such program.
 fn call<R: Files + AllocGlobal + Threads + Sync>(rt: &R, line: &str) -> Result<Seen> {
     let words: Vec<&str> = line.split(' ').collect(rt.alloc())?;
     let mut output = Counting::new(Vec::<u8>::new(rt.alloc()));
@@ -88,7 +89,7 @@ fn holds<R: Files + AllocGlobal>(rt: &R, name: &str, bytes: &[u8]) -> bool {
     }
 }
 
-/// Whether after a call the files are as the case says.
+/// Whether the files that the case names are, after a call, as the case says.
 fn has_files<R: Files + AllocGlobal>(rt: &R, case: &Case<'_>) -> Result<bool> {
     for text in case.texts.iter() {
         let is_well = match text.place {
@@ -103,7 +104,8 @@ fn has_files<R: Files + AllocGlobal>(rt: &R, case: &Case<'_>) -> Result<bool> {
     Ok(true)
 }
 
-/// The name of the first part of what was seen that is not as the case says; None if all is.
+/// The name of the first part of `seen` that is not as the case says; None if all is as it says.
+/// Files are compared last.
 fn difference<R: Files + AllocGlobal>(
     rt: &R,
     case: &Case<'_>,
@@ -139,8 +141,8 @@ fn print_difference<R: AllocGlobal + Print>(
     Ok(())
 }
 
-/// Makes the call `line` of the case, with the case's files cut to `length` bytes, and prints a
-/// line if it does something else than the case says. The tally counts the call.
+/// Makes the call `line` of the case, with the case's files cut to `length` bytes, adds it to
+/// `tally`, and prints a line if it does something else than the case says.
 fn carry_out_call<R: Files + AllocGlobal + Threads + Sync + Print>(
     rt: &R,
     case: &Case<'_>,
@@ -159,8 +161,8 @@ fn carry_out_call<R: Files + AllocGlobal + Threads + Sync + Print>(
     Ok(())
 }
 
-/// Makes each call of the case with each of its lengths, and prints a line for each call that does
-/// something else than the case says. The tally counts the calls.
+/// Makes each call of the case with each of its lengths, adds these calls to `tally`, and prints a
+/// line for each that does something else than the case says.
 pub fn carry_out<R: Files + AllocGlobal + Threads + Sync + Print>(
     rt: &R,
     case: &Case<'_>,

@@ -57,7 +57,7 @@ fn place_of<'a>(word: &str, rest: &'a str) -> Option<Place<'a>> {
     }
 }
 
-/// The first and the last length, which `range` has with a space between.
+/// Reads two lengths, the first and the last, from `range`, which has a space between them.
 fn lengths(range: &str) -> Result<(usize, usize)> {
     let Some((first, last)) = range.split_once(' ') else {
         bail!("two lengths")
@@ -80,21 +80,21 @@ impl<'a> Case<'a> {
         }
     }
 
-    /// Adds an empty text to the case, to which the lines that follow add.
+    /// Adds an empty text for `place` to the case; the lines that follow append to this text.
     fn begin(&mut self, alloc: Global, place: Place<'a>) -> Result<(), AllocError> {
         let bytes = Vec::new(alloc);
         self.texts.push(Text { place, bytes })?;
         Ok(())
     }
 
-    /// Adds a call, the line of a program and its words.
+    /// Adds a call to the case. `words` are the program's name and its words, with spaces between.
     fn call(&mut self, words: &'a str) -> Result<(), AllocError> {
         self.calls.push(words)?;
         Ok(())
     }
 
-    /// Reads a line of the case's text: it begins a text, adds to the last one, or says something
-    /// else.
+    /// Reads a line of the case's text: it begins a text, adds a call, sets the lengths, the status
+    /// or the stream to which clap writes, or else changes the last text of the case.
     fn read_line<R: Files + AllocGlobal>(&mut self, rt: &R, line: &'a str) -> Result<()> {
         let (word, rest) = line.split_once(' ').unwrap_or((line, ""));
         if let Some(place) = place_of(word, rest) {
@@ -118,8 +118,8 @@ impl<'a> Case<'a> {
         }
     }
 
-    /// Adds what a line says to the last text of the case. It is an error if the case has no text
-    /// yet.
+    /// Changes the last text of the case by what `line` says. It is an error if the case has no
+    /// text yet.
     fn lengthen<R: Files + AllocGlobal>(&mut self, rt: &R, line: &str) -> Result<()> {
         match self.texts.last_mut() {
             Some(text) => lengthen(rt, &mut text.bytes, line),
@@ -128,7 +128,7 @@ impl<'a> Case<'a> {
     }
 }
 
-/// Appends a text to `bytes`, and a line feed if `is_whole` is true.
+/// Appends `text` to `bytes`, and a line feed if `is_whole` is true.
 fn add_text(bytes: &mut Vec<u8>, text: &str, is_whole: bool) -> Result<(), AllocError> {
     bytes.extend_from_slice(text.as_bytes())?;
     if is_whole {
@@ -137,7 +137,7 @@ fn add_text(bytes: &mut Vec<u8>, text: &str, is_whole: bool) -> Result<(), Alloc
     Ok(())
 }
 
-/// Appends the bytes with these hexadecimal codes to `bytes`.
+/// Appends to `bytes` those bytes whose hexadecimal codes `codes` has, with spaces between.
 fn add_codes(bytes: &mut Vec<u8>, codes: &str) -> Result<()> {
     for code in codes.split(' ') {
         let byte = u8::from_str_radix(code, 16)?;
@@ -160,8 +160,8 @@ fn fill(bytes: &mut Vec<u8>, length: &str) -> Result<()> {
     Ok(())
 }
 
-/// Changes `bytes` by what a line of a text says: appends text, bytes by their codes, or those of a
-/// file, or fills up to a length.
+/// Changes `bytes` by what a line of a text says: appends text, bytes by their codes, or the bytes
+/// of a file, or cuts or lengthens `bytes` to a length.
 fn lengthen<R: Files + AllocGlobal>(rt: &R, bytes: &mut Vec<u8>, line: &str) -> Result<()> {
     if let Some(whole) = line.strip_prefix('|') {
         return Ok(add_text(bytes, whole, true)?);
@@ -177,8 +177,8 @@ fn lengthen<R: Files + AllocGlobal>(rt: &R, bytes: &mut Vec<u8>, line: &str) -> 
     }
 }
 
-/// Reads a line of a file of cases: it begins a case, adds to the last case, or is empty or a
-/// comment.
+/// Reads a line of a file of cases: it begins a case, which is added to `cases`, is read by the
+/// last case, or is empty or a comment.
 fn read_line<'a, R: Files + AllocGlobal>(
     rt: &R,
     cases: &mut Vec<Case<'a>>,
@@ -196,7 +196,7 @@ fn read_line<'a, R: Files + AllocGlobal>(
         .context(format_args!("in {}: {line}", case.name))
 }
 
-/// The cases that a text has.
+/// Reads the cases that `text` has. An error if some line is no line of a case.
 pub fn read_cases<'a, R: Files + AllocGlobal>(rt: &R, text: &'a str) -> Result<Vec<Case<'a>>> {
     let mut cases = Vec::new(rt.alloc());
     for line in text.lines() {

@@ -1,8 +1,8 @@
 //! Carries out worked cases of both programs, and reports each call that does something else than
 //! its case says.
 //!
-//! The words are a folder, which is gone into, and the names of files of cases there. README.md in
-//! data/ has their format.
+//! The words are a folder, which becomes the current one, and the names of files of cases there.
+//! README.md in data/ has the format of these files.
 #![tactic(auto)]
 
 mod calls;
@@ -15,7 +15,7 @@ use std::rt::Files;
 use std::thread::Threads;
 use std::{env, fs};
 
-/// Carries out the cases of one file. The tally counts their calls.
+/// Carries out the cases of the file `file`, and adds their calls to `tally`.
 fn carry_out_file<R: Files + AllocGlobal + Threads + Sync + Print>(
     rt: &R,
     file: &str,
@@ -29,8 +29,8 @@ fn carry_out_file<R: Files + AllocGlobal + Threads + Sync + Print>(
     Ok(())
 }
 
-/// Carries out the cases of all files. It is an error if a call did something else than its case
-/// says.
+/// Carries out the cases of all files that the command line names. It is an error if a call did
+/// something else than its case says.
 fn main(rt: HostRuntime) -> Result<()> {
     let mut words = env::args(&rt)?.skip(1);
     let folder = words.next().context("the words are FOLDER FILE..")?;
