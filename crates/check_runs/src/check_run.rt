@@ -44,8 +44,8 @@ fn read_certificate<C: CountedRead>(alloc: Global, cert: &mut C) -> Result<Certi
     }
 }
 
-/// The outcome of a check, and the line that it writes. `cert` is checked for the functions of
-/// `cover`.
+/// Checks `cert` for the functions of `cover`. Returns the outcome, `Done` if the certificate is
+/// valid and `Invalid` if not, and the line of the verdict.
 fn verdict_on<R: Threads + Sync>(
     rt: &R,
     alloc: Global,
@@ -61,9 +61,9 @@ fn verdict_on<R: Threads + Sync>(
     }
 }
 
-/// Reads a PLA file and a certificate, and writes the verdict to `out`: `valid N` for a certificate
-/// with the total N, `valid N pairs q` if it has q pairs, or `invalid` and the first reason why the
-/// certificate is not good.
+/// Reads a PLA file from `file` and a certificate from `cert`, and writes the verdict to `out`:
+/// `valid N` for a certificate with the total N, `valid N pairs q` if it has q pairs, or `invalid`
+/// and the first reason, in the order of `Reason`, why the certificate is not good.
 ///
 /// The file is read and decided first, then the certificate. The line is made whole before its
 /// first byte is written. Many threads share the work.

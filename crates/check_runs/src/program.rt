@@ -13,7 +13,8 @@ use std::fs;
 use std::rt::Files;
 use std::thread::Threads;
 
-/// Opens the PLA file, then the certificate, and writes the verdict to `out`.
+/// Opens the PLA file, then the certificate, and writes the verdict to `out`. Returns how the check
+/// ends: refused with `Device` if a file can't be opened.
 fn check_files<'a, R: Files + AllocGlobal + Threads + Sync, W: CountedWrite>(
     rt: &R,
     line: &CheckLine<'a>,
@@ -33,7 +34,9 @@ fn check_files<'a, R: Files + AllocGlobal + Threads + Sync, W: CountedWrite>(
 }
 
 /// The program ordercheck. `words` are those after its name; the verdict goes to `out`, messages to
-/// `err`. Returns the exit status.
+/// `err`. Returns the exit status: 0 if the certificate is valid or help was asked for, 1 if the
+/// certificate is not valid, 2 for refused words, 3 for a refused PLA file or certificate, 4 if
+/// memory is refused, 5 if a device failed.
 ///
 /// The words are `FILE CERT`. Both files are opened before FILE is read and decided; then CERT is.
 pub fn ordercheck<'a, R: Files + AllocGlobal + Threads + Sync, W: CountedWrite, E: CountedWrite>(

@@ -12,7 +12,8 @@ use std::fmt::Write;
 /// Bytes that are enough for the longest line: its words and two numbers of at most 6 digits.
 const LONGEST_LINE: usize = 32;
 
-/// Appends the words of a reason to `text`.
+/// Appends the name of a reason to `text`. For an edge, its set as a mask in four hexadecimal
+/// digits and the variable that it adds follow.
 fn push_reason(text: &mut String, reason: Reason) -> Result<(), AllocError>
     ensures { OnOk result
         (string_bytes text.new ≡ string_bytes text.old ++ reason_words (reason_of reason)) }
@@ -43,7 +44,7 @@ pub(crate) fn invalid_text(alloc: Global, reason: Reason) -> Result<String, Allo
     Ok(text)
 }
 
-/// Appends the number of pairs to `text`, if there are any.
+/// Appends ` pairs q` to `text`, where q is the number `pairs`. Appends nothing if it is 0.
 fn push_pairs(text: &mut String, pairs: usize) -> Result<(), AllocError>
     ensures { OnOk result (string_bytes text.new ≡ string_bytes text.old ++ pairs_words pairs) }
 {

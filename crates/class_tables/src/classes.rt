@@ -23,7 +23,7 @@ pub struct Classes<'a> {
     problem: &'a Problem,
     set: Mask,
     /// The class number of each subfunction, by first occurrence: function by function, assignments
-    /// of the variables outside the set rising.
+    /// of the variables outside the set rising, the lowest variable in the lowest bit.
     numbers: Vec<u32>,
     /// For each class number, the mask of the variables that its subfunctions depend on.
     masks: Vec<Mask>,
@@ -75,7 +75,8 @@ impl<'a> Classes<'a> {
         Ok(classes)
     }
 
-    /// Whether x is a variable of the problem that the set lacks, so that it may be added.
+    /// Whether x is a variable of the problem that is not in the set, so that it may be added to
+    /// it.
     pub fn lacks(&self, x: VarIx) -> bool
         ensures inside { IsTrue result → x < self.now.problem.inputs }
         ensures new { IsTrue result → IsFalse (has (set_of self.now) x) }
@@ -111,8 +112,8 @@ impl<'a> Classes<'a> {
         Ok(width)
     }
 
-    /// The width of x over the set, counted in the working memory `scratch`. The tally rises by
-    /// one.
+    /// The width of x over the set, counted in the working memory `scratch`. Requires `scratch` to
+    /// be long enough for all class tables of the problem. The tally rises by one.
     pub fn width_in(&self, x: VarIx, scratch: &mut Scratch, tally: &mut Tally) -> u32
         requires inside { x < self.now.problem.inputs }
         requires new { IsFalse (has (set_of self.now) x) }

@@ -11,8 +11,8 @@ use indexmap::IndexSet;
 use pair_numbering::{EntryPairs, MaskedNumbers, MaskedPairs, join_masks, number_with_masks};
 use std::alloc::{AllocError, Global};
 
-/// Numbers the pairs of a class table's entries by first occurrence, with an `IndexSet`: the number
-/// of each pair.
+/// The number, by first occurrence, of each pair of a class table's entries, found with an
+/// `IndexSet`.
 fn index_pairs(alloc: Global, entries: &EntryPairs<'_>) -> Result<Vec<u32>, AllocError>
     ensures { IfOk result (λ v. v.items ≡
         ranks same_pair (places.pairs entries.now.numbers (2 ^ entries.now.rank))) }
@@ -27,8 +27,8 @@ fn index_pairs(alloc: Global, entries: &EntryPairs<'_>) -> Result<Vec<u32>, Allo
     Ok(out)
 }
 
-/// The distinct pairs of a class table's entries, by rising number. `numbered` has the number of
-/// each pair by first occurrence.
+/// The distinct pairs of a class table's entries: at index k the pair that has the number k.
+/// Requires `numbered` to have the number of each pair by first occurrence.
 fn distinct_pairs(
     alloc: Global,
     entries: &EntryPairs<'_>,
@@ -48,9 +48,9 @@ fn distinct_pairs(
     Ok(pairs)
 }
 
-/// Numbers the pairs of a class table's entries by first occurrence, with an `IndexSet`: the number
-/// of each pair, and for each number the mask of the variables that the functions of its pair
-/// depend on.
+/// The number, by first occurrence, of each pair of a class table's entries, and for each number
+/// the mask of the variables that the functions of its pair depend on. An `IndexSet` finds the
+/// numbers.
 fn number_pairs_by_index(
     alloc: Global,
     pairs: &MaskedPairs<'_>,
@@ -67,9 +67,9 @@ fn number_pairs_by_index(
     })
 }
 
-/// Numbers the pairs of a class table's entries by first occurrence: the number of each pair, and
-/// for each number the mask of the variables that the functions of its pair depend on. If `indexed`
-/// is true the pairs are found in an `IndexSet`, else as `number_with_masks` does.
+/// The number, by first occurrence, of each pair of a class table's entries, and for each number
+/// the mask of the variables that the functions of its pair depend on. An `IndexSet` finds the
+/// numbers if `indexed` is true, else `number_with_masks` does.
 pub(crate) fn number_by(
     alloc: Global,
     pairs: &MaskedPairs<'_>,

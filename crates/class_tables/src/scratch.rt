@@ -12,18 +12,21 @@ use std::marker::Model;
 use subfunction_classes::join_mask;
 
 /// Working memory to count the pairs of entries in a problem's class tables: five words for each
-/// entry of the largest table, that of the empty set.
+/// entry of the largest table, that of the empty set. Pair j is two entries that differ in one
+/// variable. Its lower class is the class number where this variable is 0, and its upper class that
+/// where it is 1.
 #[derive(Drop)]
 pub struct Scratch {
-    /// For each lower class its first pair.
+    /// Entry c: the first pair with the lower class c. The number of pairs if there is none.
     heads: Vec<u32>,
-    /// For each pair the next one with the same lower class.
+    /// Entry j: the next pair after pair j with the same lower class. The number of pairs if there
+    /// is none.
     next: Vec<u32>,
-    /// For each upper class, one more than the lower class with which it was met last, or 0.
+    /// Entry c: one more than the lower class with which the upper class c was met last, or 0.
     stamps: Vec<u32>,
-    /// For each upper class, the first pair with it and the lower class that its stamp stands for.
+    /// Entry c: the first pair with the upper class c and the lower class that stamp c stands for.
     marks: Vec<u32>,
-    /// For each pair the first pair that is equal to it.
+    /// Entry j: the first pair that is equal to pair j.
     first: Vec<u32>,
 }
 
@@ -54,8 +57,9 @@ impl Scratch {
         })
     }
 
-    /// Counts the distinct pairs whose joined mask has the variable by which they are paired: the
-    /// width of that variable.
+    /// Counts the distinct pairs whose joined mask has the variable in which their entries differ:
+    /// the width of that variable. The joined mask of a pair is the mask of the function whose
+    /// cofactors are the pair's classes.
     pub fn count_joined(&mut self, pairs: &MaskedPairs<'_>) -> u32
         requires few { length pairs.now.masks.now ≤ length pairs.now.entries.numbers }
         requires long { length pairs.now.entries.numbers ≤ self.old }
@@ -74,8 +78,8 @@ impl Scratch {
     }
 }
 
-/// Counts the distinct pairs whose joined mask has the variable by which they are paired. The
-/// slices are working memory, long enough for the pairs.
+/// Counts the distinct pairs whose joined mask has the variable in which their entries differ. The
+/// five slices are working memory as in `Scratch`, long enough for the pairs.
 fn count_in(
     pairs: &MaskedPairs<'_>,
     heads: &mut [u32],
@@ -102,7 +106,7 @@ fn count_in(
     count_firsts(pairs, first)
 }
 
-/// Counts the distinct pairs whose joined mask has the variable by which they are paired.
+/// Counts the distinct pairs whose joined mask has the variable in which their entries differ.
 /// `first[j]` is the first pair that is equal to pair j, so a distinct pair is counted at the j
 /// with `first[j] = j`.
 fn count_firsts(pairs: &MaskedPairs<'_>, first: &[u32]) -> u32

@@ -12,15 +12,16 @@ use pair_numbering::{MaskedPairs, PairKeys, label_pairs};
 use std::alloc::{AllocError, Global};
 use std::marker::Model;
 
-/// A class table in strips, and the variable by which its strips are to be paired, one of those
-/// outside the strips. The name of a strip is its number.
+/// A class table in strips, and the rank of a variable by which its strips are to be paired. The
+/// variable is outside the table's set and above those inside a strip. The name of a strip is its
+/// number.
 #[derive(Drop)]
 pub(crate) struct StripTable<'a> {
-    /// Function by function, for each assignment of the variables above those inside a strip, the
-    /// name of its strip.
+    /// Function by function, for each assignment of the variables that are outside the set and
+    /// above those inside a strip, the name of its strip.
     pub(crate) outer: &'a [u32],
-    /// How many of the variables of `outer` are below the one that pairs the names: names 2^rank
-    /// apart are a pair.
+    /// How many of the variables that `outer` has assignments of are below the one by which strips
+    /// are paired: names 2^rank apart in `outer` are a pair.
     pub(crate) rank: u32,
     /// The class numbers in the strips, one strip after the other.
     pub(crate) numbers: &'a [u32],
@@ -48,7 +49,7 @@ impl<'a> Model for StripTable<'a> {
 
 /// The parts of a class table in strips: the names in `outer` and the class numbers in `numbers` as
 /// in a `StripTable`, and a mask for each class number. If `all_used` is true, each mask is that of
-/// a class number that occurs.
+/// a class number that occurs; if false, some may be of numbers that don't.
 #[derive(Drop)]
 pub(crate) struct StripParts {
     pub(crate) outer: Vec<u32>,
@@ -59,7 +60,8 @@ pub(crate) struct StripParts {
 }
 
 impl StripParts {
-    /// The parts of a table of which it isn't known whether all class numbers occur.
+    /// The parts `outer`, `numbers` and `masks` of a table of which it isn't known whether all
+    /// class numbers occur.
     pub(crate) fn new(outer: Vec<u32>, numbers: Vec<u32>, masks: Vec<Mask>) -> StripParts
         ensures outer { result.outer ≡ outer }
         ensures numbers { result.numbers ≡ numbers }
@@ -100,9 +102,9 @@ fn first_numbers(alloc: Global, count: usize) -> Result<Vec<u32>, AllocError>
     Ok(numbers)
 }
 
-/// The names, and the class numbers with their masks, of the table with `x` added, a variable above
-/// those inside a strip. Requires that the names of `table` are 0, 1, 2 and so on: then all entries
-/// stand one behind the other, and are paired as they stand.
+/// The table with `x` added, the variable by which `table` is to be paired: the names of its
+/// strips, and its class numbers with their masks. Requires that the names of `table` are 0, 1, 2
+/// and so on: then all entries stand one behind the other, and are paired as they stand.
 fn add_in_order(
     alloc: Global,
     table: &StripTable<'_>,
@@ -121,9 +123,9 @@ fn add_in_order(
     Ok((outer, labels))
 }
 
-/// The names, and the class numbers with their masks, of the table with `x` added, a variable above
-/// those inside a strip. Each distinct pair of strips becomes a strip. If `known` has numbered the
-/// pairs of these names, they are read from there.
+/// The table with `x` added, the variable by which `table` is to be paired: the names of its
+/// strips, and its class numbers with their masks. Each distinct pair of strips becomes a strip. If
+/// `known` has numbered the pairs of these names, the numbers are copied from there.
 fn add_by_pairs(
     alloc: Global,
     table: &StripTable<'_>,
@@ -143,8 +145,8 @@ fn add_by_pairs(
     Ok((runs.numbers, labels))
 }
 
-/// The parts of the class table with `x` added, a variable above those inside a strip. If `known`
-/// has numbered the pairs of the table's names, they are read from there.
+/// The parts of the class table with `x` added, the variable by which `table` is to be paired. If
+/// `known` has numbered the pairs of the table's names, the numbers are copied from there.
 pub(crate) fn add_above(
     alloc: Global,
     table: &StripTable<'_>,

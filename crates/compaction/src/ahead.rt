@@ -53,7 +53,8 @@ impl<'a> WidthsAhead<'a> {
         self.end
     }
 
-    /// Appends the rows of `others`; `end` stays. If memory is refused nothing changes.
+    /// Appends the rows of `others` to this list, and leaves the list's `end` as it is. If memory
+    /// is refused nothing changes.
     pub(crate) fn append(&mut self, others: WidthsAhead<'_>) -> Result<(), AllocError>
         requires { others.problem ≡ self.old.problem }
         ensures ok { OnOk result (self.new ≡ with_others self.old others.entry) }
@@ -73,15 +74,15 @@ impl<'a> WidthsAhead<'a> {
     }
 }
 
-/// For each low byte, the place of its last entry in a `WidthsAhead`; None if it has none.
+/// For each low byte, the place of its last entry in the list `bytes` of a `WidthsAhead`.
 #[derive(Clone, Copy)]
 pub(crate) struct Places {
-    /// At each low byte the place of its last entry.
+    /// `of[b]` is the place of the last entry with the low byte b; None if there is none.
     of: [Option<usize>; 256],
 }
 
 impl Places {
-    /// The place of each low byte's last entry in `found`.
+    /// Finds for each low byte the place of its last entry in the list of `found`.
     pub(crate) fn of(found: &WidthsAhead<'_>) -> Places {
         let mut places = Places { of: [None; 256] };
         for (place, byte) in found.bytes.iter().enumerate() {

@@ -41,8 +41,8 @@ impl BlockWidths {
         BlockWidths { rows, compactions }
     }
 
-    /// The row of the set at place `i` of the block: at each needed member its width over the set
-    /// without the member, and 0 elsewhere.
+    /// The row of set `i` of the block: at each needed member its width over the set without the
+    /// member, and 0 elsewhere.
     pub fn row(&self, i: usize) -> WidthRow
         requires { i < length self.now.rows }
         ensures { slice_get self.now.rows i ≡ Some result }
@@ -81,7 +81,7 @@ fn members_only(row: WidthRow, members: Mask) -> WidthRow
 }
 
 impl<'a> SharedTables<'a> {
-    /// A row for each set of the block: the widths of its members in its mask of `needed`, and 0
+    /// A row for each set of the block: for set i the widths of its members in `needed[i]`, and 0
     /// elsewhere. They are read from `byte`, the rows of the block's low byte.
     pub(crate) fn rows_of_block(
         &self,
@@ -107,9 +107,9 @@ impl<'a> SharedTables<'a> {
     }
 }
 
-/// Computes a row for each set of the block: the widths of its members in its mask of `needed`, and
-/// 0 elsewhere. The walk begins at the class table of the empty set. The tally rises by the number
-/// of these widths.
+/// Computes a row for each set of the block: for set i the widths of its members in `needed[i]`,
+/// and 0 elsewhere. The walk begins at the class table of the empty set. `tally` rises by the
+/// number of widths that are needed.
 pub fn block_widths(
     alloc: Global,
     problem: &Problem,
@@ -132,9 +132,9 @@ pub fn block_widths(
 }
 
 impl<'a> SharedTables<'a> {
-    /// Computes a row for each set of the block: the widths of its members in its mask of `needed`,
-    /// and 0 elsewhere. The walk begins at a shared table. The tally rises by the number of these
-    /// widths.
+    /// Computes a row for each set of the block: for set i the widths of its members in
+    /// `needed[i]`, and 0 elsewhere. The walk begins at a shared table. `tally` rises by the number
+    /// of widths that are needed.
     pub fn block_widths(
         &self,
         alloc: Global,

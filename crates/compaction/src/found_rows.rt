@@ -19,11 +19,11 @@ use std::thread::Threads;
 struct Turns {
     /// All low bytes, in the order in which they are taken.
     bytes: [u8; 256],
-    /// How often a thread came for a byte.
+    /// How often a thread came for a byte, counting those times when all were taken.
     taken: AtomicU64,
 }
 
-/// All bytes, those with the fewest bits first.
+/// All bytes, those with the fewest bits that are 1 first.
 fn bytes_by_size() -> [u8; 256] {
     let mut bytes = [0; 256];
     let mut count = 0usize;
@@ -59,7 +59,8 @@ impl Turns {
 }
 
 impl<'a> SharedTables<'a> {
-    /// Computes the rows of the sets with the low byte of `request`: the widths that it needs.
+    /// Computes the widths that `request` needs, as a row for each set with the low byte of
+    /// `request`.
     fn rows_of(&self, alloc: Global, request: &WidthRequest) -> Result<ByteRows, AllocError>
         requires { request.now.inputs ≡ self.now.inputs }
         ensures { IfOk result (HoldsRows self.now) }
@@ -70,8 +71,8 @@ impl<'a> SharedTables<'a> {
     }
 
     /// Takes low bytes from `turns` until none is left, and computes the rows that are requested
-    /// for them. The result keeps `end` as the size of the largest sets of which rows are to be
-    /// found.
+    /// for them. `end`, the size of the largest sets of which rows are to be found, is only stored
+    /// in the result.
     fn rows_by_turns(
         &self,
         alloc: Global,
@@ -97,8 +98,8 @@ impl<'a> SharedTables<'a> {
         Ok(found)
     }
 
-    /// Computes the rows that are requested, by the calling thread. The result keeps `end` as the
-    /// size of the largest sets of which rows are to be found.
+    /// Computes the rows that are requested, by the calling thread. `end`, the size of the largest
+    /// sets of which rows are to be found, is only stored in the result.
     pub(crate) fn rows_alone(
         &self,
         alloc: Global,
@@ -111,8 +112,8 @@ impl<'a> SharedTables<'a> {
     }
 }
 
-/// Joins the rows that all threads found; an error if a thread ran out of memory. The result keeps
-/// `end` as the size of the largest sets of which rows are to be found.
+/// Joins the rows that all threads found; an error if a thread ran out of memory. `end`, the size
+/// of the largest sets of which rows are to be found, is only stored in the result.
 fn collect<'a>(
     alloc: Global,
     problem: &'a Problem,
@@ -132,7 +133,8 @@ fn collect<'a>(
 
 impl<'a> SharedTables<'a> {
     /// Computes the rows that are requested, by the threads of `workers` workers; none if `end` is
-    /// 0. The result keeps `end` as the size of the largest sets of which rows are to be found.
+    /// 0. The result stores `end` as the size of the largest sets of which rows are to be found;
+    /// the rows of larger sets are computed, too, if they are requested.
     pub(crate) fn rows_by_workers<R: Threads + Sync>(
         &self,
         rt: &R,

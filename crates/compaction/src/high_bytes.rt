@@ -14,7 +14,7 @@ pub(crate) struct HighBytes {
     words: [u64; 4],
 }
 
-/// A word with a bit for each of the 64 bytes from `64 * i` on: 1 if the byte lacks bit `y`.
+/// A word in which bit b, for each b below 64, is 1 if the byte `64 * i + b` lacks bit `y`.
 fn bits_without(i: usize, y: u8) -> u64
     requires place { i < 4 }
     requires bit { y < 8 }
@@ -52,7 +52,7 @@ impl HighBytes {
         self.words == [0; 4]
     }
 
-    /// The high bytes of the set that lack bit y.
+    /// The high bytes of the set that lack bit `y`, which stands for the variable `8 + y`.
     pub(crate) fn without(&self, y: u8) -> HighBytes
         requires { y < 8 }
         ensures { (h : ℕ) → h < 256 → HasByte self.now.words h → bit_at h y ≡ 0 →
@@ -65,7 +65,7 @@ impl HighBytes {
         HighBytes { words }
     }
 
-    /// The high bytes of the set that have bit y.
+    /// The high bytes of the set that have bit `y`, which stands for the variable `8 + y`.
     pub(crate) fn with(&self, y: u8) -> HighBytes
         requires { y < 8 }
         ensures { (h : ℕ) → h < 256 → HasByte self.now.words h → bit_at h y ≡ 1 →

@@ -50,9 +50,9 @@ impl Branch {
         self.wanted.with(y % 8).count()
     }
 
-    /// The undecided variable that most of the wanted sets have; None if all are decided. Tables
-    /// halve with each variable, so the one that most sets share is added first. If only two are
-    /// undecided, the lower one is taken.
+    /// The undecided variable that most of the wanted sets have, the lowest of several; None if all
+    /// are decided. Tables halve with each variable, so the one that most sets share is added
+    /// first. If at most two are undecided, the lowest is taken.
     fn next_variable(&self, inputs: u8) -> Option<VarIx>
         requires { inputs ≤ 16 }
         ensures undecided { IfSome result
@@ -77,7 +77,7 @@ impl Branch {
     }
 }
 
-/// The set with y added.
+/// The set `set` with the variable y added.
 fn with_member(set: Mask, y: VarIx) -> Mask
     requires { y < 16 }
     ensures { result ≡ bit_or set (2 ^ y) }
@@ -106,8 +106,9 @@ fn fill_row(
 }
 
 /// Writes to `rows` the rows of the wanted sets that agree with the table's set in the decided
-/// variables, by a walk over the undecided ones. `names` has the pairs of strip names that were
-/// numbered beforehand. Returns how many class tables were compacted.
+/// variables, each at its set's high byte, by a walk over the undecided variables. `names` has the
+/// pairs of strip names that were numbered beforehand. Returns how many class tables were
+/// compacted.
 fn walk(
     alloc: Global,
     table: &Strips<'_>,
@@ -156,9 +157,10 @@ fn low_mask(problem: &Problem) -> Mask
     (1 << low_variables(problem)) - 1
 }
 
-/// Writes the rows of the wanted sets to `rows`, by a walk from `table`. Requires that this is the
-/// class table of the set of low variables that the request's low byte stands for. Returns how many
-/// class tables were compacted.
+/// Writes the rows of the wanted sets, those of which `request` needs some width, to `rows`, each
+/// at its set's high byte. They are found by a walk from `table`. Requires that this is the class
+/// table of the set of low variables that the request's low byte stands for. Returns how many class
+/// tables were compacted.
 fn walk_from(
     alloc: Global,
     shared: &SharedTables<'_>,
@@ -207,9 +209,9 @@ fn with_members<'a>(
     Ok(made)
 }
 
-/// Writes the rows of the wanted sets to `rows`. The walk begins at a shared table, and adds the
-/// other members of the low byte first. Returns how many class tables were compacted after that of
-/// the low byte.
+/// Writes the rows of the wanted sets, those of which `request` needs some width, to `rows`, each
+/// at its set's high byte. The walk begins at a shared table, and adds the other members of the low
+/// byte first. Returns how many class tables were compacted after that of the low byte.
 fn fill_rows(
     alloc: Global,
     shared: &SharedTables<'_>,
@@ -229,8 +231,8 @@ fn fill_rows(
     walk_from(alloc, shared, table, request, rows)
 }
 
-/// The rows of the sets with one low byte, that of `request`: `rows` has at a set's high byte the
-/// widths of those of its members that the request needs.
+/// The rows of the sets with one low byte, that of `request`: for the set with the high byte h,
+/// `rows[h]` has the widths of those members that the request needs, and 0 elsewhere.
 #[derive(Drop)]
 pub(crate) struct ByteRows {
     pub(crate) request: WidthRequest,
@@ -253,9 +255,10 @@ impl Model for ByteRows {
     ghost invariant = { λ b. IsRequest b.request.inputs b.request.low b.request.needed.items };
 }
 
-/// The rows that `request` needs, and how many class tables were compacted for them. The table of
-/// the low byte is made once, and the others by a walk over the high variables that shares common
-/// beginnings. If no width is needed no table is made.
+/// The rows that `request` needs, and how many class tables were compacted for them, counting one
+/// for each member of the low byte even if its table was made beforehand. The table of the low byte
+/// is made once, and the others by a walk over the high variables that shares common beginnings. If
+/// no width is needed no table is made, and the count is 0.
 pub(crate) fn walked_rows(
     alloc: Global,
     shared: &SharedTables<'_>,

@@ -37,8 +37,8 @@ fn asks_for(asked: Mask, variables: &[VarIx; 16], needed: Mask) -> bool
     true
 }
 
-/// At each variable x in `needed` the entry of `row` at `variables[x]`, to which x goes; 0
-/// elsewhere.
+/// At each variable x in `needed` the entry of `row` at `variables[x]`, the variable to which x
+/// goes, or 0 if that is not below 16; 0 elsewhere.
 fn members_moved(row: &WidthRow, variables: &[VarIx; 16], needed: Mask) -> WidthRow
     ensures { (x : ℕ) → x < 16 → slice_index result x ≡
         (if bit_at needed x == 1 then slice_index row.now (slice_index variables.now x) else 0) }
@@ -53,15 +53,15 @@ fn members_moved(row: &WidthRow, variables: &[VarIx; 16], needed: Mask) -> Width
 }
 
 impl ByteRows {
-    /// Whether the widths of all members of `set` were found. `set` is one with the low byte of
-    /// these rows.
+    /// Whether the widths of all members of `set` were requested, and so found. `set` is taken to
+    /// have the low byte of these rows, which isn't tested.
     pub(crate) fn is_whole(&self, set: Mask) -> bool {
         self.request.needed.get(usize::from(set >> 8)) == Some(&set)
     }
 
-    /// The widths of a set's members in `needed`, and 0 elsewhere, read from the row of `image`,
-    /// the set's image, which has the low byte of these rows. None if one of these widths was not
-    /// requested.
+    /// The row of a set whose image is `image`: the widths of its members in `needed`, and 0
+    /// elsewhere. They are read from the row of the image's set, which is taken to have the low
+    /// byte of these rows. None if one of these widths was not requested.
     pub(crate) fn row_by_image(&self, image: &Image, needed: Mask) -> Option<WidthRow>
         ensures { (p q : TruthTables) (set : ℕ) → p.inputs ≤ 16 → HoldsRows q self.now →
             TakesWidths p q set image.now.set image.now.variables →

@@ -1,4 +1,4 @@
-//! The solver's class tables, which say what subfunctions over a set of variables are equal, and
+//! The solver's class tables, which tell which subfunctions over a set of variables are equal, and
 //! the widths that are counted in them.
 #![tactic(auto)]
 

@@ -121,15 +121,16 @@ impl Halves {
     }
 }
 
-/// The packed truth tables of a problem with exchanged variables.
+/// The packed truth tables of a problem with exchanged variables. Place p stands for bit p of a
+/// point.
 #[derive(Drop)]
 struct Tables {
     words: Vec<u64>,
-    /// The problem's variable at each place of the packed truth tables.
+    /// `variables[p]` is the problem's variable at place p.
     variables: [VarIx; 16],
 }
 
-/// An exchange of the variables at two places.
+/// An exchange of the variables at two places, which are bits of a point.
 #[derive(Clone, Copy)]
 struct Change {
     /// The low place, below 8.
@@ -155,8 +156,9 @@ impl Tables {
         })
     }
 
-    /// The exchange of a low and a high place that leaves the fewest distinct strips, as far as
-    /// they are estimated; None if `inputs` is at most 8, so that no place is high.
+    /// The exchange of a low and a high place that leaves the fewest distinct strips by the
+    /// estimate of `count_after`, the first of several; None if `inputs` is at most 8, so that no
+    /// place is high.
     fn best_change(&self, alloc: Global, inputs: u8) -> Result<Option<Change>, AllocError>
         requires { inputs ≤ 16 }
     {
@@ -193,7 +195,8 @@ impl Tables {
     }
 }
 
-/// Exchanges the variables `low` and `high` in the packed truth tables `words`.
+/// Exchanges the variables at the places `low` and `high` in the packed truth tables `words`.
+/// `high` is meant to be 8 or above.
 fn exchange(words: &mut [u64], low: VarIx, high: VarIx)
     requires low { low < 8 }
     requires high { high < 16 }
@@ -222,8 +225,8 @@ fn exchange(words: &mut [u64], low: VarIx, high: VarIx)
 }
 
 /// The mask of eight variables to be the lowest ones, if they leave at most about three quarters of
-/// the distinct strips; else None. They are found by one exchange after another, each the best at
-/// its time.
+/// the distinct strips; else None. None, too, if there are at most about `FEW_STRIPS` strips. The
+/// eight are found by at most `MOST_CHANGES` exchanges, each the best at its time.
 fn lowest_of(alloc: Global, problem: &Problem) -> Result<Option<Mask>, AllocError>
     requires { problem.now.inputs ≤ 16 }
 {
@@ -250,7 +253,8 @@ fn lowest_of(alloc: Global, problem: &Problem) -> Result<Option<Mask>, AllocErro
 }
 
 /// A renaming by which the lowest variables are ones under which class tables are small. No
-/// variable is exchanged if that gains little, or if there are at most eight.
+/// variable is exchanged if that leaves more than about three quarters of the distinct strips, if
+/// these are few anyway, or if there are at most eight variables.
 pub fn renaming_of<'a>(alloc: Global, problem: &'a Problem) -> Result<Renaming<'a>, AllocError>
     ensures { IfOk result (λ r. r.problem ≡ problem.now) }
 {

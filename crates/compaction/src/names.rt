@@ -10,18 +10,18 @@ use order_model::{Mask, VarIx, contains};
 use pair_numbering::{EntryPairs, NumberedPairs, number_entries};
 use std::alloc::{AllocError, Global};
 
-/// The most strip names of a table whose pairs are numbered beforehand.
+/// Pairs of strip names are numbered beforehand only for tables with at most this many names.
 const MOST_NAMES: usize = 1 << 12;
 
-/// The names of a table's strips, and the numbers of the pairs of names by one variable. Names
-/// 2^rank apart are a pair.
+/// The names of a table's strips in `names`, and the numbers of their pairs by one variable. Names
+/// 2^rank apart in the list are a pair.
 #[derive(Drop)]
 pub(crate) struct NamePairs {
     names: Vec<u32>,
     rank: u32,
-    /// The number of each pair, by first occurrence.
+    /// `numbers[j]` is the number of pair j, by first occurrence.
     numbers: Vec<u32>,
-    /// The distinct pairs, by their numbers.
+    /// `pairs[k]` is the pair with the number k.
     pairs: Vec<(u32, u32)>,
     ghost numbered: { ArePairsNumbered names.items rank numbers.items pairs.items },
 }
@@ -83,7 +83,8 @@ impl NamePairs {
 }
 
 /// The pairs of names 2^rank apart, numbered by first occurrence. If `known` has the pairs of these
-/// names, their numbers are copied from there. Requires that all names are below `count`.
+/// names by this rank, their numbers are copied from there. Requires that all names are below
+/// `count`.
 pub(crate) fn number_names(
     alloc: Global,
     names: &[u32],
@@ -112,10 +113,11 @@ pub(crate) struct AllNamePairs {
     steps: Vec<Option<NamePairs>>,
 }
 
-/// The pairs of strip names in the class table of `set`, by the variable `y` outside it. In `set`
-/// and `y` the first high variable is 0. `names` has the names in the table of the empty set.
-/// Another set's names are the numbers of the pairs that `steps` has for the set without its lowest
-/// member, by that member. None if these are missing, or if the pairs aren't worth keeping.
+/// The pairs of strip names in the class table of `set`, by the variable `y` outside it. `set` and
+/// `y` count the high variables from 0, so that y = 0 is the variable 8. `names` has the names in
+/// the table of the empty set. Another set's names are the numbers of the pairs that `steps` has
+/// for the set without its lowest member, by that member. None if these are missing, or if the
+/// pairs aren't worth keeping.
 fn step_of(
     alloc: Global,
     names: &[u32],

@@ -18,7 +18,8 @@ use std::marker::Model;
 use std::thread::Threads;
 use symmetries::{Image, Orbits, Renaming};
 
-/// What serves all layers of a search.
+/// What serves all layers of a search: the renamed problem, its class tables that walks share, the
+/// orbits of its sets, and the rows of widths that were found so far.
 #[derive(Drop)]
 pub struct Preparation<'a> {
     /// The problem, and the renaming of its variables that makes class tables small.
@@ -49,8 +50,8 @@ impl<'a> Model for Preparation<'a> {
 }
 
 impl<'a> Preparation<'a> {
-    /// A preparation with the class tables `shared`, and without rows. `pairs` say which sets are
-    /// lawful.
+    /// A preparation with the class tables `shared`, and without rows. `pairs`, of the problem
+    /// before the renaming, say which sets are lawful.
     fn with_tables(
         alloc: Global,
         renaming: &'a Renaming<'a>,
@@ -72,7 +73,8 @@ impl<'a> Preparation<'a> {
         })
     }
 
-    /// A preparation without rows, made by the calling thread. `pairs` say which sets are lawful.
+    /// A preparation without rows, made by the calling thread. `pairs`, of the problem before the
+    /// renaming, say which sets are lawful.
     pub fn of(
         alloc: Global,
         renaming: &'a Renaming<'a>,
@@ -86,8 +88,9 @@ impl<'a> Preparation<'a> {
     }
 
     /// A preparation with rows, made by the threads of `workers` workers. The rows are those of the
-    /// sets of at most `end` variables that are lawful by `pairs`, of each orbit the first set
-    /// alone. There are no rows if `end` is 0.
+    /// sets of at least 1 and at most `end` variables that are lawful by `pairs`, of each orbit the
+    /// first set alone. There are no rows if `end` is 0. `pairs` are of the problem before the
+    /// renaming.
     pub fn by_workers<R: Threads + Sync>(
         rt: &R,
         alloc: Global,
@@ -168,8 +171,8 @@ impl<'a> Preparation<'a> {
         requests.add_sets(&self.wanted(first, last), false);
     }
 
-    /// Takes over newly found rows. If `found` goes to larger sets than the rows that the
-    /// preparation has, it replaces them; else it is appended. If memory is refused nothing
+    /// Takes over newly found rows. If `found.end()` is greater than `self.end()`, they replace the
+    /// rows that the preparation has; else they are appended to these. If memory is refused nothing
     /// changes.
     fn take(&mut self, found: WidthsAhead<'a>) -> Result<(), AllocError>
         requires { found.problem ≡ renamed_of self.old.problem self.old.renamed }
@@ -183,8 +186,8 @@ impl<'a> Preparation<'a> {
     }
 
     /// Finds the rows that are requested, by the calling thread. If `end` is larger than
-    /// `self.end()`, these rows replace the earlier ones, and `end` becomes the size of the largest
-    /// sets of which rows were found; else they are appended.
+    /// `self.end()`, these rows replace the earlier ones, and `self.end()` becomes `end`; else they
+    /// are appended, and `self.end()` stays.
     pub fn find_alone(
         &mut self,
         alloc: Global,
@@ -198,8 +201,8 @@ impl<'a> Preparation<'a> {
     }
 
     /// Finds the rows that are requested, by the threads of `workers` workers; none if `end` is 0.
-    /// If `end` is larger than `self.end()`, these rows replace the earlier ones, and `end` becomes
-    /// the size of the largest sets of which rows were found; else they are appended.
+    /// If `end` is larger than `self.end()`, these rows replace the earlier ones, and `self.end()`
+    /// becomes `end`; else they are appended, and `self.end()` stays.
     pub fn find<R: Threads + Sync>(
         &mut self,
         rt: &R,

@@ -12,8 +12,8 @@ use subset_layers::Block;
 use symmetries::Orbits;
 
 /// The widths that are needed of the sets with the low byte `low`, in a problem of `inputs`
-/// variables. `needed` has at a set's high byte the mask of those of its members whose widths are
-/// needed.
+/// variables. For the set with the high byte h, `needed[h]` is the mask of those members whose
+/// widths are needed.
 #[derive(Drop)]
 pub(crate) struct WidthRequest {
     pub(crate) inputs: u8,
@@ -35,7 +35,7 @@ pub(crate) struct Wanted<'a, 'b> {
 }
 
 impl<'a, 'b> Wanted<'a, 'b> {
-    /// Whether `set` is one of these sets.
+    /// Whether `set` is one of the wanted sets.
     fn has(&self, set: Mask) -> bool {
         let size = set.count_ones();
         if size < self.first || self.last < size {
@@ -79,7 +79,7 @@ impl WidthRequest {
     }
 
     /// Adds `members` to the members of `set` whose widths are needed. Requires that `set` has this
-    /// request's low byte, and that `members` are some of its members.
+    /// request's low byte, and that `members` has no variable outside `set`.
     pub(crate) fn add(&mut self, set: Mask, members: Mask)
         requires set { set < 2 ^ self.old.inputs }
         requires byte { set % 256 ≡ self.old.low }
@@ -95,9 +95,9 @@ impl WidthRequest {
         self.needed[usize::from(set >> 8)] |= members;
     }
 
-    /// For each set of the block, adds its mask of `needed` to the members whose widths are needed.
-    /// Requires that the block has this request's low byte, and that each mask has only members of
-    /// its set.
+    /// For set i of the block, adds `needed[i]` to the members whose widths are needed. Requires
+    /// that the block has this request's low byte, and that `needed[i]` has no variable outside set
+    /// i.
     pub(crate) fn add_block(&mut self, block: &Block, needed: &[Mask])
         requires inputs { block.now.inputs ≡ self.old.inputs }
         requires low { block.now.low ≡ self.old.low }

@@ -11,8 +11,8 @@ use symmetries::Image;
 /// the sets that have it.
 #[derive(Drop)]
 pub struct Requests {
-    /// The request for each low byte, at the byte's place. With fewer than eight variables there
-    /// are fewer low bytes.
+    /// `bytes[b]` is the request for the low byte b. With fewer than eight variables there are
+    /// fewer low bytes.
     bytes: Vec<WidthRequest>,
 }
 
@@ -47,8 +47,8 @@ impl Requests {
         self.bytes.iter().all(|request| request.is_empty())
     }
 
-    /// Adds all members of the wanted sets to those whose widths are needed. If `all` is false,
-    /// only for low bytes for which some width is needed already.
+    /// Adds to the widths that are needed those of all members of the wanted sets. If `all` is
+    /// false, this is done only for low bytes for which some width is needed already.
     pub(crate) fn add_sets(&mut self, wanted: &Wanted<'_, '_>, all: bool) {
         for request in &mut self.bytes {
             if all || !request.is_empty() {
@@ -57,8 +57,9 @@ impl Requests {
         }
     }
 
-    /// Adds those members of the image's set to which `image` takes `members` to the members whose
-    /// widths are needed. Nothing changes if there is no request for the low byte of that set.
+    /// Adds to the widths that are needed those of the image's set: of the variables to which
+    /// `image` takes `members`, as far as they are in that set. Nothing changes if there is no
+    /// request for the low byte of that set, or if it has a variable that the problem doesn't have.
     pub fn add_image(&mut self, image: &Image, members: Mask) {
         if let Some(request) = self.bytes.get_mut(usize::from(image.set % 256)) {
             request.add_members(image.set, members_of_image(image, members));

@@ -14,13 +14,13 @@ use std::marker::Model;
 use std::thread;
 use std::thread::Threads;
 
-/// The most points, counted over the distinct strips of the truth tables, with which the class
-/// tables of all sets of low variables are made beforehand. These tables take 26 times as many
+/// If the distinct strips of the truth tables have at most this many points in all, the class
+/// tables of all sets of low variables are made beforehand. These tables have 26 times as many
 /// class numbers.
 const MOST_POINTS: usize = 1 << 18;
 
 /// With more points than `MOST_POINTS` only the class tables of the sets of this many lowest
-/// variables are made beforehand.
+/// variables are made beforehand, or of all low variables if there are fewer.
 const FEWEST_KNOWN: u8 = 3;
 
 /// What all walks share, made once a search: the class tables of the sets of the lowest variables,
@@ -28,7 +28,8 @@ const FEWEST_KNOWN: u8 = 3;
 #[derive(Drop)]
 pub struct SharedTables<'a> {
     problem: &'a Problem,
-    /// The class tables of all sets of the lowest `known` variables, by rising mask.
+    /// The class tables of all sets of the lowest `known` variables: `tables[m]` is that of the set
+    /// with the mask m.
     tables: Vec<Strips<'a>>,
     /// How many of the lowest variables have class tables for all their sets.
     known: u8,
@@ -50,7 +51,8 @@ impl<'a> Model for SharedTables<'a> {
 /// Class tables, or an error if memory was refused.
 type Made<'a> = Result<Vec<Strips<'a>>, AllocError>;
 
-/// The class tables with the low variable x added to each set.
+/// The class tables with the low variable `x` added to each table's set, in the order of `tables`.
+/// Requires that none of the sets has `x`.
 fn with_low<'a>(alloc: Global, tables: &[Strips<'a>], x: VarIx) -> Made<'a>
     requires { All (CanTakeLow x) tables.now }
     ensures { IfOk result (λ v. v.items ≡ map (λ t. with_variable t x) tables.now) }
@@ -62,7 +64,8 @@ fn with_low<'a>(alloc: Global, tables: &[Strips<'a>], x: VarIx) -> Made<'a>
     Ok(larger)
 }
 
-/// The tables of all parts, one part after the other; an error if making a part ran out of memory.
+/// Joins the lists of tables that threads made: the tables of `parts[0]`, then those of `parts[1]`,
+/// and so on. Err if a thread ran out of memory.
 fn concatenate<'a>(
     alloc: Global,
     parts: Vec<Result<Vec<Strips<'a>>, AllocError>>,
@@ -78,8 +81,8 @@ fn concatenate<'a>(
     Ok(all)
 }
 
-/// The class tables with the low variable `x` added to each table's set, made by the threads of
-/// `workers` workers.
+/// The class tables with the low variable `x` added to each table's set, in the order of `tables`,
+/// made by the threads of `workers` workers. Requires that none of the sets has `x`.
 fn with_low_by_threads<'a, R: Threads + Sync>(
     rt: &R,
     alloc: Global,
@@ -109,7 +112,8 @@ trait TableMaker {
     // What the maker requires.
     ghost ready: { Self → Type 0 };
 
-    /// The class tables with the low variable x added to each set.
+    /// The class tables with the low variable `x` added to each table's set, in the order of
+    /// `tables`. Requires that none of the sets has `x`.
     fn with_low<'a>(&self, alloc: Global, tables: &[Strips<'a>], x: VarIx) -> Made<'a>
         requires ready { ready self.now }
         requires low { All (CanTakeLow x) tables.now }
@@ -239,9 +243,9 @@ impl<'a> SharedTables<'a> {
         &self.names
     }
 
-    /// The class table with which a walk to `set` begins, and a number k. It is the table of those
-    /// members of `set` that are among the k lowest variables, the ones with tables made
-    /// beforehand.
+    /// The class table with which a walk to `set` begins, and the number k of lowest variables for
+    /// whose sets class tables were made beforehand. The table is that of the members of `set`
+    /// below k.
     pub(crate) fn first_table(&self, set: Mask) -> (&Strips<'a>, u8)
         ensures known { result.1 ≤ low_of self.now }
         ensures table { result.0.now ≡ classes_of self.now (set % 2 ^ result.1) }

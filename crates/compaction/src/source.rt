@@ -16,11 +16,11 @@ use std::marker::Model;
 use subset_layers::Block;
 
 /// Where the widths of a layer's blocks come from: rows that were found ahead, or else a walk. A
-/// row that was found ahead is that of a set, and serves all sets whose image it is.
+/// row that was found ahead belongs to one set, and serves every set whose image that set is.
 #[derive(Drop)]
 pub struct WidthSource<'a> {
     prepared: &'a Preparation<'a>,
-    /// The place of each low byte's rows among those that `prepared` has found.
+    /// Where each low byte's rows stand in the list of rows that `prepared` has found.
     places: Places,
 }
 
@@ -74,7 +74,7 @@ impl<'a> WidthSource<'a> {
         byte.row_by_image(&image, needed)
     }
 
-    /// A row for each set of the block: the widths of its members in its mask of `needed`, and 0
+    /// A row for each set of the block: for set i the widths of its members in `needed[i]`, and 0
     /// elsewhere, read from the rows that were found ahead. `Ok(None)` if one of these widths was
     /// not found ahead.
     fn rows_found(
@@ -97,9 +97,9 @@ impl<'a> WidthSource<'a> {
         Ok(Some(rows))
     }
 
-    /// A row for each set of the block: the widths of its members in its mask of `needed`, and 0
-    /// elsewhere. If one of these widths was not found ahead, a walk computes all of them. The
-    /// tally rises by the number of widths.
+    /// A row for each set of the block: for set i the widths of its members in `needed[i]`, and 0
+    /// elsewhere. If one of these widths was not found ahead, a walk computes all of them. `tally`
+    /// rises by the number of widths that are needed.
     pub fn block_rows(
         &self,
         alloc: Global,

@@ -24,9 +24,11 @@ use value_strips::{ValueStrips, value_strips};
 pub(crate) struct Strips<'a> {
     problem: &'a Problem,
     set: Mask,
-    /// How many subfunctions there are, if only their count is kept.
+    /// How many subfunctions there are, if only their count is kept: then the lists below are
+    /// empty. Else None.
     distinct: Option<u32>,
-    /// If true, each entry of `masks` is that of a class number that occurs in `numbers`.
+    /// If true, each entry of `masks` is that of a class number that occurs in `numbers`. If false,
+    /// some may be of numbers that don't occur.
     all_used: bool,
     /// Function by function, for each assignment of the high variables outside the set, the name of
     /// its strip: the strip's number among those in `numbers`.
@@ -115,8 +117,9 @@ fn are_all(masks: &[Mask], mask: Mask) -> bool
     true
 }
 
-/// Whether the names `outer` and the class numbers `numbers` are 0, 1, 2 and so on, so that all
-/// entries are distinct, and each class number has the mask `set`.
+/// Whether all entries are distinct, stand in order, and depend on the whole of `set`: the names
+/// `outer` are 0, 1, 2 and so on, so are the class numbers `numbers`, and there is one mask for
+/// each class number, equal to `set`.
 fn all_distinct(outer: &[u32], numbers: &[u32], masks: &[Mask], set: Mask) -> bool
     ensures exact { IsTrue result → length masks.now ≡ length numbers.now }
     ensures outer { IsTrue result → AreOwn outer.now }
@@ -229,7 +232,8 @@ impl<'a> Strips<'a> {
         self.set
     }
 
-    /// The class table of the set with the low variable x added.
+    /// The class table of this table's set with the low variable `x` added. Requires that the set
+    /// lacks `x`.
     pub(crate) fn add_low(&self, alloc: Global, x: VarIx) -> Result<Strips<'a>, AllocError>
         requires low { x < low_variables self.now.problem }
         requires new { IsFalse (has (set_of self.now) x) }
@@ -254,8 +258,9 @@ impl<'a> Strips<'a> {
         }
     }
 
-    /// The class table of the set with the high variable `x` added. If `known` has numbered the
-    /// pairs of this table's strip names by `x`, they are read from there.
+    /// The class table of this table's set with the high variable `x` added. Requires that the set
+    /// lacks `x`. If `known` has numbered the pairs of this table's strip names by `x`, the numbers
+    /// are copied from there.
     pub(crate) fn add_high(
         &self,
         alloc: Global,
@@ -287,7 +292,7 @@ impl<'a> Strips<'a> {
         }
     }
 
-    /// At each member in `wanted` its width over the set without it, and 0 elsewhere.
+    /// At each member x in `wanted` the width of x over the set without x, and 0 elsewhere.
     pub(crate) fn width_row(&self, alloc: Global, wanted: Mask) -> Result<WidthRow, AllocError>
         requires { (x : ℕ) → bit_at wanted x ≡ 1 → IsTrue (has (set_of self.now) x) }
         ensures { IfOk result (λ row. IsWidthRow self.now.problem self.now.set wanted row) }

@@ -20,7 +20,8 @@ impl Model for Tally {
     ghost view = { λ t. t.count };
 }
 
-/// How many widths are needed: `needed` has a mask of members for each set.
+/// How many widths are needed: the number of members in all masks of `needed`, which has a mask for
+/// each set.
 pub(crate) fn count_wanted(needed: &[Mask]) -> u64
     requires { length needed.now ≤ 2 ^ 20 }
     ensures count { result ≡ wanted_count needed.now }
@@ -48,7 +49,8 @@ impl Tally {
         self.count
     }
 
-    /// Adds the number of widths that are needed: `needed` has a mask of members for each set.
+    /// Adds the number of widths that are needed: the number of members in all masks of `needed`,
+    /// which has a mask for each set.
     pub(crate) fn add_wanted(&mut self, needed: &[Mask])
         requires few { length needed.now ≤ 2 ^ 20 }
         requires room { self.old + wanted_count needed.now < 2 ^ 64 }

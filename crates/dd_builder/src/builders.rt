@@ -24,9 +24,9 @@ use std::thread::Threads;
 use truth_table::Tables;
 use unique_table::{CloseFault, Pieces, Session, Store};
 
-/// Makes the outputs of their parts, publishes them, closes the store, and returns the reduced
-/// diagram of the store's functions. Requires all parts to be published, and `session` to know
-/// them.
+/// Makes the outputs from their published parts, publishes them, closes the store, and returns the
+/// reduced diagram of the store's functions. Requires all parts to be published, and `session` to
+/// know them.
 fn finish(
     alloc: Global,
     store: Store,
@@ -53,8 +53,8 @@ fn finish(
 }
 
 /// Builds and publishes all parts of the outputs by `count` workers, each in a thread of its own.
-/// Returns, by rising number of the worker, the session with which each worker ended: as `Err` if
-/// the worker met a full store.
+/// Returns the sessions with which the workers ended, in the order of the workers' numbers: as
+/// `Err` if the worker met a full store.
 fn ends_of_workers<R: Threads + Sync, G: Gate>(
     crew: &Crew<'_, R, G>,
     alloc: Global,
@@ -119,8 +119,9 @@ fn parts_by_workers<R: Threads + Sync, G: Gate>(
     }
 }
 
-/// Builds the reduced diagram of the store's functions: workers build the parts of the outputs from
-/// `source`, and the calling thread makes the outputs of the parts.
+/// Builds the reduced diagram of the store's functions: the workers of `crew` build the parts of
+/// the outputs from `source`, and the calling thread makes the outputs from the parts. `StoreFull`
+/// if a worker or the calling thread met a full store.
 fn build_in<R: Threads + Sync, G: Gate>(
     crew: &Crew<'_, R, G>,
     alloc: Global,
@@ -138,11 +139,11 @@ fn build_in<R: Threads + Sync, G: Gate>(
     finish(alloc, store, session, source)
 }
 
-/// Builds the reduced diagram of the store's functions from their truth tables. Takes one search in
-/// the store for each output and point. Worker i, counted from 1, builds the parts of outputs whose
-/// number leaves the remainder i - 1 when divided by `workers`, and calls the gate before it
-/// publishes each. The calling thread makes the outputs of the parts. If the store is empty at the
-/// start, it never gets full.
+/// Builds the reduced diagram of the store's functions from their truth tables. Takes at most one
+/// search in the store for each output and point. Worker i, counted from 1, builds the parts q of
+/// outputs with `q % workers = i - 1`, and calls the gate before it publishes each. The calling
+/// thread makes the outputs from the parts. If `session` is the store's only one and made no node
+/// yet, the store never gets full.
 pub fn from_tables<R: Threads + Sync, G: Gate>(
     rt: &R,
     alloc: Global,
@@ -164,8 +165,8 @@ pub fn from_tables<R: Threads + Sync, G: Gate>(
 
 /// Builds the reduced diagram of the store's functions from the terms of a cover. Each term is made
 /// once for each of its outputs, and joined to the others by `apply`. Worker i, counted from 1,
-/// builds the parts of outputs whose number leaves the remainder i - 1 when divided by `workers`,
-/// and calls the gate before it publishes each. The calling thread makes the outputs of the parts.
+/// builds the parts q of outputs with `q % workers = i - 1`, and calls the gate before it publishes
+/// each. The calling thread makes the outputs from the parts.
 pub fn from_cover<R: Threads + Sync, G: Gate>(
     rt: &R,
     alloc: Global,
@@ -185,7 +186,7 @@ pub fn from_cover<R: Threads + Sync, G: Gate>(
 }
 
 /// An empty store for the functions of truth tables under an order, and the store's first session.
-/// The parts of the store's outputs are outputs with the top variables fixed.
+/// The parts of the store's outputs are outputs with the top two variables, or the only one, fixed.
 pub fn tables_store(
     alloc: Global,
     tables: &Tables,
@@ -225,7 +226,8 @@ pub fn cover_store(
 }
 
 /// Builds the reduced diagram, under `order`, of the functions of `tables`. It is built from the
-/// tables, in a store of its own, which never gets full.
+/// tables, in a store of its own, which never gets full. The workers call the gate before they
+/// publish each part.
 pub fn build_tables<R: Threads + Sync, G: Gate>(
     rt: &R,
     alloc: Global,
@@ -287,7 +289,7 @@ fn has_many_terms(cover: &Cover) -> bool {
 
 /// Builds the reduced diagram of a cover's functions under `order`. If the cover has many terms, it
 /// is built from `tables`, the cover's truth tables. Else it is built from the terms or, if they
-/// fill a store, from the truth tables.
+/// fill a store, from the truth tables. The workers call the gate before they publish each part.
 pub fn build<R: Threads + Sync, G: Gate>(
     rt: &R,
     alloc: Global,

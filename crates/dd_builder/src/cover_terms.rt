@@ -80,8 +80,9 @@ fn or_term(
     apply(store, session, Operation::Or, id, cube)
 }
 
-/// Makes the disjunction of those terms of output `output` whose number leaves the remainder
-/// `share` when divided by `TERM_SHARES`, and returns its id.
+/// Makes the disjunction of those terms of output `output` whose index in `terms` leaves the
+/// remainder `share` when divided by `TERM_SHARES`, and returns its id. `terms` has the terms of
+/// all outputs.
 fn output_share(
     store: &Store,
     session: &mut Session,
@@ -107,8 +108,8 @@ fn output_share(
 }
 
 /// Makes part `piece` of the outputs, for parts by terms, and returns its id. The part is the
-/// disjunction of those terms of output `piece / TERM_SHARES` whose number leaves the remainder
-/// `piece % TERM_SHARES` when divided by `TERM_SHARES`.
+/// disjunction of those terms of output `piece / TERM_SHARES` whose index in `terms` leaves the
+/// remainder `piece % TERM_SHARES` when divided by `TERM_SHARES`.
 pub(crate) fn terms_share(
     store: &Store,
     session: &mut Session,

@@ -5,8 +5,8 @@ use unique_table::Session;
 /// Why a build in a store gives no diagram.
 #[derive(Drop)]
 pub enum BuildError {
-    /// All places of the store are taken. The session is one that has seen this.
+    /// All places for nodes in the store are taken. The session is one that knows this.
     StoreFull(Session),
-    /// Some worker, or the call itself, was refused memory.
+    /// A worker or the calling thread was refused memory.
     OutOfMemory,
 }

@@ -24,9 +24,9 @@ pub(crate) fn orders_have_each_variable_once(order: &Order)
     let _variables = order.variables();
 }
 
-/// Unequal nodes, each of which denotes a subfunction of the outputs on the level of its variable,
-/// are at most as many as the size of the order. For at most 16 inputs and 16 outputs this size is
-/// at most 131,310.
+/// If no two nodes of a list are equal, and each denotes an output with the variables above the
+/// node's level fixed, the list has at most as many nodes as the size of the order. For at most 16
+/// inputs and 16 outputs the size of an order is at most 131,310, about half of a store's places.
 pub fn subfunctions_are_few()
     ensures few { SubfunctionsAreFew }
     ensures sizes { SizesAreFew }

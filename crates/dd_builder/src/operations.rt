@@ -92,8 +92,8 @@ fn level_of(store: &Store, session: &mut Session, id: NodeId) -> u8
     }
 }
 
-/// Looks up the level of the higher one of two nodes, given by their ids. Requires at least one of
-/// them not to be a terminal.
+/// Looks up the level of the higher one of two nodes, given by their ids: the lesser of the two
+/// numbers of levels. Requires at least one of the ids not to be a terminal.
 fn top_level(store: &Store, session: &mut Session, first: NodeId, second: NodeId) -> u8
     requires session { session.old.store ≡ store.now }
     requires operands { AreOperands session.old first second }
@@ -123,7 +123,8 @@ fn children(store: &Store, session: &mut Session, id: NodeId, level: u8) -> (Nod
     }
 }
 
-/// Two ids, seen as nodes of the higher one of their levels.
+/// Two ids, seen as nodes of the higher one of their levels. If an id lies below this level, both
+/// its children are the id itself.
 #[derive(Clone, Copy)]
 struct Cut {
     /// The higher level.
@@ -158,7 +159,7 @@ fn take_apart(store: &Store, session: &mut Session, first: NodeId, second: NodeI
 }
 
 /// Applies `operation` to the functions of two ids, and returns the id of the result. Requires both
-/// ids to lie at level `from` or below it.
+/// ids to lie at level `from` or below it; terminals lie below all levels.
 fn apply_from(
     store: &Store,
     session: &mut Session,

@@ -1,4 +1,4 @@
-//! The outputs, made of their published parts.
+//! The outputs, made from their published parts.
 
 ghost use Rattle.std.specs.Prelude.{◌≡◌, ◌+◌, ◌^◌, ◌<◌, ◌≤◌, length, take, IfOk, OnOk, OnErr};
 ghost use Rattle.definitions.specs.Problems.{outputs_of};
@@ -33,9 +33,9 @@ fn part_id(store: &Store, session: &mut Session, piece: usize) -> NodeId
     }
 }
 
-/// Makes output `output` with the variables above `level` fixed, that of level i to bit i of
-/// `path`, and returns its id. It is made of the published parts, in which the top variables are
-/// fixed.
+/// Makes output `output` with the variables above `level` fixed, the variable of level i to bit i
+/// of `path`, and returns its id. It is made from the published parts of the output, in which the
+/// top two variables (or the only one) are fixed.
 fn of_restrictions(
     store: &Store,
     session: &mut Session,
@@ -66,8 +66,8 @@ fn of_restrictions(
     store.make(session, level, low, high)
 }
 
-/// Makes the disjunction of `count` parts of output `output`, from its part `first` on, and returns
-/// its id. It is made of two disjunctions, of the first half of these parts and of the second half.
+/// Makes the disjunction of the `count` parts of output `output` from its part `first` on, and
+/// returns its id. The parts of an output are numbered from 0 to 63.
 fn of_shares(
     store: &Store,
     session: &mut Session,
@@ -105,7 +105,7 @@ fn of_all_shares(store: &Store, session: &mut Session, output: u8) -> Result<Nod
     of_shares(store, session, output, 0, TERM_SHARES)
 }
 
-/// Makes output `output` of its published parts, and returns its id. `source` says whether the
+/// Makes output `output` from its published parts, and returns its id. `source` says whether the
 /// parts are outputs with fixed variables or disjunctions of terms.
 fn root(
     store: &Store,
@@ -126,8 +126,8 @@ fn root(
     }
 }
 
-/// Makes all outputs of their published parts, and publishes the outputs. `source` says whether the
-/// parts are outputs with fixed variables or disjunctions of terms.
+/// Makes all outputs from their published parts, and publishes the outputs. `source` says whether
+/// the parts are outputs with fixed variables or disjunctions of terms.
 pub(crate) fn publish_roots(
     store: &Store,
     session: &mut Session,

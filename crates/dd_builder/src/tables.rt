@@ -14,8 +14,8 @@ use order_model::VarIx;
 use truth_table::Tables;
 use unique_table::{NodeId, Session, Store, StoreFull};
 
-/// The point at which the variable of each level i has bit i of `path`. Bit x of the point is the
-/// value of variable x.
+/// The point at which the variable of each level i of `order` has the value that bit i of `path`
+/// is. Bit x of the point is the value of variable x.
 fn point_of(order: &[VarIx], path: u32) -> u32
     requires order { IsOrder (length order.now) order.now }
     requires few { length order.now ≤ 16 }
@@ -31,9 +31,9 @@ fn point_of(order: &[VarIx], path: u32) -> u32
 /// Values for the variables above a level.
 #[derive(Clone, Copy, Debug)]
 struct Path {
-    /// The level.
+    /// The level: the variables of the levels 0 to `level - 1` have a value.
     level: u8,
-    /// The values: bit i is the value of the variable of level i.
+    /// The values: bit i is the value of the variable of level i. Bits from `level` on are 0.
     bits: u32,
     /// The point with these values, and 0 for the variables below. Bit x is the value of variable
     /// x.
@@ -89,8 +89,9 @@ pub(crate) fn top_variables(order: &[VarIx]) -> u8
 }
 
 /// Makes part `piece` of the outputs, for parts by truth tables, and returns its id. The part is
-/// output `piece / a` with the variables on top fixed to the bits of `piece % a`, where a is the
-/// number of assignments to the variables on top.
+/// output `piece / a` with the variable of each top level i fixed to bit i of `piece % a`. Here a
+/// is 4, the number of assignments to the top two variables, or 2 if the order has only one
+/// variable.
 pub(crate) fn restriction(
     store: &Store,
     session: &mut Session,

@@ -19,10 +19,9 @@ pub(crate) struct BuildJob {
     pub(crate) session: Session,
 }
 
-/// Builds and publishes the parts of worker number `worker`, counted from 1: those whose number
-/// leaves the remainder `worker - 1` when divided by `workers`, the number of workers. Calls the
-/// gate before each is published. Returns the worker's session, as `Err` if the worker met a full
-/// store.
+/// Builds and publishes the parts of worker number `worker`, counted from 1, of `workers` workers:
+/// the parts q of outputs with `q % workers == worker - 1`. Calls the gate before each is
+/// published. Returns the worker's session, as `Err` if the worker met a full store.
 pub(crate) fn build_parts<G: Gate>(
     store: &Store,
     mut session: Session,
@@ -50,7 +49,8 @@ pub(crate) fn build_parts<G: Gate>(
     Ok(session)
 }
 
-/// Splits a session among `workers` workers, and returns their jobs by rising number.
+/// Splits a session among `workers` workers, and returns their jobs in the order of the workers'
+/// numbers, 1 to `workers`.
 pub(crate) fn jobs(
     alloc: Global,
     store: &Store,

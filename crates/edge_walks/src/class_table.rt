@@ -25,8 +25,8 @@ use subfunction_classes::{count_with, no_dependence, value_numbers};
 pub(crate) struct ClassTable<'a> {
     problem: &'a Problem,
     set: Mask,
-    // No member of the set is below `level`. Rows of 2^`level` entries that repeat an earlier row
-    // may be left out.
+    // A variable's number, or the number of variables: no member of the set is below `level`. Rows
+    // of 2^`level` entries that repeat an earlier row may be left out.
     level: VarIx,
     // The number of subfunctions, if all are distinct and depend on the whole set: `numbers` and
     // `masks` are then empty.
@@ -48,8 +48,8 @@ impl<'a> Model for ClassTable<'a> {
         (table_at c.problem.now c.set c.level) c.full c.numbers.items c.masks.items };
 }
 
-/// For these y repeated rows of 2^y entries are looked for, in tables of sets without variables
-/// below y.
+/// Repeated rows of 2^y entries are looked for if y is one of these numbers, in tables of sets
+/// without variables below y.
 const SHORT_LEVELS: [VarIx; 4] = [3, 5, 7, 10];
 
 /// Whether each of `masks` equals `set`.
@@ -166,8 +166,8 @@ impl<'a> ClassTable<'a> {
         }
     }
 
-    /// The class table of the set with `x` added. Requires that `x` is below `level`; so `x` is
-    /// smaller than all members of the set.
+    /// The class table of this table's set with `x` added. Requires that `x` is below `self.level`;
+    /// so `x` is smaller than all members of the set.
     pub(crate) fn with_variable(
         &self,
         alloc: Global,
@@ -196,9 +196,9 @@ impl<'a> ClassTable<'a> {
     }
 
     /// Whether the lower classes, those of the entries where `x` is 0, show that in the set with
-    /// `x` added each variable y has at least the width `needed[y]`; false shows nothing. This
-    /// takes less time than `with_variable`. Requires that `x` is below `level`; so `x` is smaller
-    /// than all members of the set.
+    /// `x` added each variable y has at least the width `needed[y]` over the set without y; false
+    /// shows nothing. This takes less time than `with_variable`. Requires that `x` is below
+    /// `self.level`; so `x` is smaller than all members of the set.
     pub(crate) fn tells_wide(
         &self,
         alloc: Global,

@@ -15,8 +15,7 @@ use symmetries::{Exchange, exchanges_of};
 
 /// Whether an exchange of variables keeps values and judged edges: each set and its image have
 /// equal values, and edges are judged into the image by the partners of the variables by which they
-/// are judged into the set. `images` has the image of each set, at the index that is the set's
-/// mask.
+/// are judged into the set. `images[m]` is the image of the set with the mask m.
 fn keeps_edges(edges: Edges, images: &[Mask]) -> bool
     requires long { length images.now ≡ 2 ^ edges.problem.now.inputs }
     requires inside { (S : ℕ) → S < length images.now →
@@ -84,7 +83,8 @@ fn leave_out(edges: Edges, guides: &[Exchange], fewer: &mut Vec<u16>)
 /// another.
 #[derive(Drop)]
 struct Reached {
-    /// For each set, at its mask, whether it was reached, in the present orbit or an earlier one.
+    /// `seen[m]`: whether the set with the mask m was reached, in the present orbit or an earlier
+    /// one.
     seen: Vec<bool>,
     /// The sets of the present orbit that were reached.
     sets: Vec<Mask>,
@@ -188,8 +188,8 @@ fn leave_out_orbits(
     Ok(())
 }
 
-/// The number of sets into which some edge is judged. `judged` has for each set the mask of the
-/// variables by which edges into it are judged.
+/// The number of sets into which some edge is judged. `judged[m]` is the mask of the variables by
+/// which edges into the set with the mask m are judged.
 pub(crate) fn count_judged(judged: &[Mask]) -> usize {
     let mut count = 0usize;
     for edges in judged {
@@ -201,9 +201,10 @@ pub(crate) fn count_judged(judged: &[Mask]) -> usize {
 /// This many steps along orbits take about as long as judging the edges into one set.
 const STEPS_OF_A_SET: usize = 512;
 
-/// For each set the mask of the variables by which edges are still to be judged into it; None if no
-/// exchange is found. Edges into sets that an exchange takes to greater ones are left out. Chains
-/// of exchanges are followed if many sets are left that no single exchange takes to a greater one.
+/// For each set, at its mask, the variables by which edges are still to be judged into it; None if
+/// no exchange is found. Edges into sets that an exchange takes to greater ones are left out.
+/// Chains of exchanges are followed if many sets are left that no single exchange takes to a
+/// greater one.
 pub(crate) fn fewer_edges(alloc: Global, edges: Edges) -> Result<Option<Vec<u16>>, AllocError>
     ensures { IfOk result (λ o. IfSome o (λ v. AreEnough edges.entry v.items)) }
 {

@@ -13,9 +13,10 @@ use pair_buckets::pair_at;
 use std::alloc::{AllocError, Global};
 use subfunction_classes::{count_with, join_mask};
 
-/// For each class the union of the masks of those pairs of classes that have it as the lower class.
-/// The mask of a pair has the variables that the subfunction joined from both depends on. `numbers`
-/// has a class table's entries, which are paired by `x`, and `masks` the mask of each class.
+/// For each class the union of the masks of those pairs of classes that have it as the lower class;
+/// 0 if no pair has. The mask of a pair has the variables that the subfunction joined from both
+/// depends on. `numbers` has a class table's entries, of which those 2^x apart are paired, and
+/// `masks` the mask of each class.
 fn lower_masks(
     alloc: Global,
     numbers: &[u32],
@@ -37,8 +38,8 @@ fn lower_masks(
 
 /// Whether the lower classes of the pairs show that, for each variable y, at least `needed[y]`
 /// distinct pairs of classes join to subfunctions that depend on y; false shows nothing. `numbers`
-/// has a class table's entries, which are paired by `x`, and `masks` for each class the variables
-/// that it depends on.
+/// has a class table's entries, of which those 2^x apart are paired, and `masks` for each class the
+/// variables that it depends on.
 pub(crate) fn are_wide(
     alloc: Global,
     numbers: &[u32],

@@ -24,9 +24,10 @@ const SHARED_VARIABLES: u8 = 2;
 /// If edges are judged into at most this many sets, the calling thread walks over them alone.
 const SETS_FOR_ONE: usize = 32;
 
-/// The part that the task at `place` takes, as a set of the `end` highest variables, the lowest of
-/// them in bit 0. Parts of few variables take longest; laying the low bits of the place over the
-/// high ones spreads them evenly over neighbouring places. Requires that `place` is below 2^end.
+/// The part of the sets that task number `place` walks over: the members that they have of the
+/// `end` highest variables, as a mask in which bit 0 is the lowest of these. Parts of few variables
+/// take longest; laying the low bits of the place over the high ones spreads them evenly over
+/// neighbouring places. Requires that `place` is below 2^end.
 #[tactic(auto, unfolding(crate::specs::Edges::part_at), using(crate::proofs::Places::part_within))]
 fn part_of(place: usize, end: u8) -> Mask
     requires end { end ≤ 6 }
@@ -38,9 +39,9 @@ fn part_of(place: usize, end: u8) -> Mask
     (mixed & ((1 << end) - 1)) as Mask
 }
 
-/// The first, by mask and then by variable, of the edges in `parts`; None if there are none.
-/// `parts` has for each part of the sets its first judged edge that fails. An error if memory was
-/// refused to a part.
+/// The first, by mask and then by variable, of the edges in `parts`; None if there are none. Each
+/// entry of `parts` has, for the sets of one task, the first judged edge that fails, or None; or an
+/// error, which is returned, if memory was refused to the task.
 fn first_of_parts(parts: &[Result<Option<Edge>, AllocError>]) -> Result<Option<Edge>, AllocError>
     ensures { IfOk result (IsFirstOfParts parts.now) }
 {
@@ -55,7 +56,7 @@ fn first_of_parts(parts: &[Result<Option<Edge>, AllocError>]) -> Result<Option<E
 }
 
 /// The first judged edge that fails; None if none does. Each of 2^`end` tasks walks over the sets
-/// that agree in the `end` highest variables. `tops` has the class tables of sets none of whose
+/// that agree in the `end` highest variables. `tops` has class tables of sets none of whose
 /// variables is below `y`. Requires that `root` stands at the empty set.
 fn first_by_tasks<R: Threads + Sync>(
     rt: &R,
@@ -148,9 +149,10 @@ impl Walker for CallingThread {
 }
 
 /// The first of the judged edges in `edges` that fails; None if none does. If exchanges of
-/// variables change no function, value or judged edge, fewer edges are judged first. If one of
-/// these fails, the first failing edge of all leads from the same mask as that one, or from a
-/// smaller one.
+/// variables change no function, value or judged edge, only the edges into some sets are judged at
+/// first. If one of these fails, the first failing edge of all leads from the same mask as that
+/// one, or from a smaller one, and the edges into sets that have edges from such masks are judged
+/// then.
 pub fn first_failure<W: Walker>(
     walker: &W,
     alloc: Global,

@@ -14,16 +14,17 @@ pub type Edge = (Mask, VarIx);
 #[derive(Clone, Copy)]
 pub struct Edges<'a> {
     pub problem: &'a Problem,
-    /// The value of each set, at the index that is the set's mask.
+    /// `values[m]` is the value of the set with the mask m, a number that the caller chooses. An
+    /// edge fails along which it rises by more than the width.
     pub values: &'a [u32],
-    /// For each set, at the same index, the mask of the variables by which edges are judged into
-    /// it.
+    /// `judged[m]` is the mask of the variables by which edges into the set with the mask m are
+    /// judged.
     pub judged: &'a [Mask],
     ghost tables: { AreEdgeTables problem.now.inputs values.now judged.now },
 }
 
-/// Where a walk stands: before those sets that are the set of `table` with any of the variables
-/// below `free` added. The variables below `free` are called free.
+/// Where a walk stands: before the sets that are the set of `table` with none, some or all of the
+/// variables below `free` added. The variables below `free` are called free.
 #[derive(Clone, Copy)]
 pub(crate) struct Position<'a, 't> {
     pub(crate) edges: Edges<'a>,

@@ -1,4 +1,5 @@
-//! Takes repeated rows out of a class table's entries.
+//! Takes repeated rows out of a class table's entries. A row here is 2^y entries that stand one
+//! behind the other, from a multiple of 2^y on.
 
 ghost use Rattle.std.specs.Prelude.{◌≡◌, ℕ, ◌*◌, ◌^◌, ◌<◌, ◌≤◌, ◌++◌, List, [], length, IfOk, IfSome, IsTrue, OnOk};
 ghost use Rattle.edge_walks.specs.Rows.{AreWholeRows, IsShortened};
@@ -29,8 +30,8 @@ fn bucket_of(row: &[u32], buckets: usize) -> usize
     (key >> 40) as usize & (buckets - 1)
 }
 
-/// Whether `row` is the row of `kept` at `place`, counted from 1; false at place 0. The rows of
-/// `kept` have as many entries as `row`.
+/// Whether `row` is row number `place` of `kept`, counted from 1; false if `place` is 0 or `kept`
+/// has fewer rows. The rows of `kept` have as many entries as `row`.
 fn is_kept(kept: &[u32], place: usize, row: &[u32]) -> bool
     requires some { 0 < length row.now }
     ensures { IsTrue result → (front : List ℕ) × (between : List ℕ) × (rows : ℕ)
@@ -67,7 +68,7 @@ fn has_repeat(alloc: Global, numbers: &[u32], y: VarIx) -> Result<bool, AllocErr
 }
 
 /// Appends the rows of 2^`y` entries of `numbers` to `kept`, mostly each once, by first occurrence.
-/// Requires that `kept` is empty before. `places` has for each bucket the place in `kept`, counted
+/// Requires that `kept` is empty before. `places` has for each bucket the number in `kept`, counted
 /// from 1, of the last row that was put into this bucket; 0 if there is none. Expects `places` to
 /// be all 0 before.
 fn keep_rows(

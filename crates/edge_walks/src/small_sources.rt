@@ -18,8 +18,8 @@ fn smallest_source(set: Mask) -> Mask
 }
 
 /// A copy of `judged` without the edges into those sets into which every edge leads from a mask
-/// above `last`. `judged` has for each set, at its mask, the mask of the variables by which edges
-/// into it are judged.
+/// above `last`. `judged[m]` is the mask of the variables by which edges into the set with the mask
+/// m are judged.
 pub(crate) fn edges_up_to(
     alloc: Global,
     judged: &[Mask],

@@ -13,7 +13,8 @@ use order_model::{Mask, VarIx};
 use std::alloc::{AllocError, Global};
 
 /// The class table of the set of `at.table` with the highest free variable, `at.free` - 1, added.
-/// None if no edge is judged into the larger set, or into it with other free variables added.
+/// None if no edge is judged into the larger set, nor into any set that has more of the free
+/// variables.
 fn judged_upper_table<'t>(
     alloc: Global,
     at: Position<'_, 't>,
@@ -60,9 +61,9 @@ fn add_variable<'t>(
     Ok(())
 }
 
-/// The class tables of the non-empty sets without variables below `y` that the walk needs: an edge
-/// is judged into the set, or into it with variables below `y` added. Expects `root` to stand at
-/// the empty set.
+/// The class tables of those non-empty sets without variables below `y` that the walk needs. A set
+/// is needed if an edge is judged into it, or into it with variables below `y` added. Expects
+/// `root` to stand at the empty set.
 pub(crate) fn top_tables<'t>(
     alloc: Global,
     root: Position<'_, 't>,
@@ -84,10 +85,11 @@ pub(crate) fn top_tables<'t>(
     Ok(tops)
 }
 
-/// The first edge that fails among the judged edges into the sets of a part: `part` with any
-/// variables below `end` added. None if none fails. `tops` has class tables of sets without
-/// variables below `y`. The walk begins at the table in `tops` of those variables of `part` that
-/// are not below `y`, or at `root` if there is none. Requires that `root` stands at the empty set.
+/// The first edge that fails among the judged edges into the sets of a part: `part` with none, some
+/// or all of the variables below `end` added. None if none fails. `tops` has class tables of sets
+/// without variables below `y`. The walk begins at the table in `tops` of those variables of `part`
+/// that are not below `y`, or at `root` if there is none. Requires that `root` stands at the empty
+/// set.
 pub(crate) fn first_from_tops(
     alloc: Global,
     root: Position,

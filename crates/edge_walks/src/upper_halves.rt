@@ -13,7 +13,7 @@ use order_model::{Mask, VarIx, contains};
 use std::alloc::{AllocError, Global};
 
 /// For each variable y the width that the edge by y into `set` needs: how much the value rises
-/// along that edge. 0 if the edge is not judged.
+/// along that edge, or 0 if it falls. 0, too, if the edge is not judged.
 fn needed_widths(alloc: Global, edges: Edges, set: Mask) -> Result<Vec<u32>, AllocError>
     requires { set < 2 ^ edges.problem.now.inputs }
     ensures long { IfOk result (λ v. length v.items ≡ edges.entry.problem.now.inputs) }
@@ -34,8 +34,8 @@ fn needed_widths(alloc: Global, edges: Edges, set: Mask) -> Result<Vec<u32>, All
     Ok(needed)
 }
 
-/// Whether an edge is judged into a set whose mask is above `set` and below `set` + 2^`y`. `judged`
-/// has for each set the variables by which edges into it are judged.
+/// Whether an edge is judged into a set whose mask is above `set` and below `set` + 2^`y`.
+/// `judged[m]` is the mask of the variables by which edges into the set with the mask m are judged.
 fn has_later(judged: &[Mask], set: Mask, y: VarIx) -> bool
     requires variable { y ≤ 16 }
     requires within { set + 2 ^ y ≤ length judged.now }
@@ -50,9 +50,9 @@ fn has_later(judged: &[Mask], set: Mask, y: VarIx) -> bool
     false
 }
 
-/// Whether the value of `set` is so high that the certificate most likely does not list the set.
-/// Into a listed set the widths are mostly no greater than needed, and lower classes seldom show
-/// that they suffice.
+/// Whether the value of `set` plus the number of variables outside is at least the value of the set
+/// of all variables: the certificate then most likely does not list `set`. Into a listed set the
+/// widths are mostly no greater than needed, and lower classes seldom show that they suffice.
 fn is_hardly_listed(edges: Edges, set: Mask) -> bool
     requires { set < 2 ^ edges.problem.now.inputs }
 {

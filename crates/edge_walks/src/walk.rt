@@ -31,7 +31,7 @@ pub(crate) fn first_of(a: Option<Edge>, b: Option<Edge>) -> Option<Edge>
 }
 
 /// Whether an edge is judged into a set whose mask is at least `set` and below `set` + 2^`y`.
-/// `judged` has for each set the variables by which edges into it are judged.
+/// `judged[m]` is the mask of the variables by which edges into the set with the mask m are judged.
 pub(crate) fn has_judged(judged: &[Mask], set: Mask, y: VarIx) -> bool
     requires variable { y ≤ 16 }
     requires within { set + 2 ^ y ≤ length judged.now }
@@ -68,8 +68,8 @@ pub(crate) fn upper_table<'t>(
     at.table.with_variable(alloc, at.free - 1)
 }
 
-/// The first judged edge that fails into the set of `at.table`; None if none does. Edges by larger
-/// variables lead from smaller masks, so they come first. Requires that `at.free` is 0.
+/// The first judged edge that leads into the set of `at.table` and fails; None if none does. Edges
+/// by larger variables lead from smaller masks, so they come first. Requires that `at.free` is 0.
 fn first_into(at: Position) -> Option<Edge>
     requires { at.free ≡ 0 }
     ensures { IsFirstEdge (FailsAt at.entry) result }
@@ -162,9 +162,9 @@ fn part_table<'t>(
     Ok(own)
 }
 
-/// The first edge that fails among the judged edges into the sets of one task: `part` with any
-/// variables below `end` added. None if none fails. Requires that the set of the table at `at` has
-/// those variables of `part` that are not below `at.free`.
+/// The first edge that fails among the judged edges into the sets of one task: `part` with none,
+/// some or all of the variables below `end` added. None if none fails. Requires that the set of the
+/// table at `at` has those variables of `part` that are not below `at.free`.
 pub(crate) fn first_in_part(
     alloc: Global,
     at: Position,

@@ -28,7 +28,7 @@ pub enum PostRefused {
     /// The mask of the cell is not in the layer, or the seat did not claim the mask's block. No
     /// atomic step is made.
     Stranger,
-    /// The cell was filled before.
+    /// The cell was filled before, and stays as it was. One atomic step is made.
     Double,
 }
 
@@ -55,7 +55,8 @@ impl Model for Board {
 
 impl Board {
     /// A board for a layer, with empty cells, and a seat for each worker. Cells that are posted
-    /// must be those that the definition gives for the problem, the pairs and the limit.
+    /// must be those that the definition gives for the problem, the pairs and the limit: the upper
+    /// bound on the size of an order, and the rule of the lower bound.
     pub fn new(
         alloc: Global,
         problem: &Problem,
@@ -113,8 +114,9 @@ impl Board {
         Ok(seats)
     }
 
-    /// Claims the next block that no worker has claimed, and returns it. None if no block is left.
-    /// A seat that got None gets None ever after, and makes no atomic step for it.
+    /// Claims the next block that no worker has claimed, and returns it with its place among the
+    /// layer's blocks. None if no block is left. A seat that got None gets None ever after, and
+    /// makes no atomic step for it.
     pub fn claim(&self, seat: &mut BoardSeat) -> Option<Claim>
         requires { seat.old.board ≡ self.now }
         ensures board { seat.new.board ≡ self.now }
@@ -190,8 +192,8 @@ impl Board {
         Some(cell_of_word(found))
     }
 
-    /// Closes the board, and uses up `seat`, which is one of its seats. The words stay as they are
-    /// then.
+    /// Closes the board, and uses up `seat`, which is one of its seats. No word changes from then
+    /// on.
     pub fn into_closed(self, seat: BoardSeat) -> ClosedBoard
         requires { seat.board ≡ self }
         ensures brief { result.brief ≡ self.brief }

@@ -24,7 +24,7 @@ pub enum CloseError {
     OutOfMemory,
 }
 
-/// A board that was closed, so that no seat writes to it any more: the words that it ended with.
+/// A board that was closed: the words that it ended with. No seat writes to them any more.
 pub struct ClosedBoard {
     /// The words that the board ended with.
     pub(crate) closed: Closed<(), Global>,

@@ -17,13 +17,16 @@ ghost use Rattle.layer_board.specs.Invariant.{Kept, IsCellAt, Sat, cell_in, show
 
 /// Between any two atomic steps on a board, its words and its seats show a right state of the
 /// layer's machine: each filled cell is the one that the definition gives its mask, and each block
-/// that was handed out is claimed by exactly one worker.
+/// whose place is below the count of claims is claimed by exactly one worker, each other block by
+/// none.
 pub fn tables_show_right_states()
     ensures { (b : BriefOf) (s : State (Unit {0}) SeatView) → Kept b s →
         Right (IsCellAt b.instance) (shows b s) }
 {}
 
-/// The atomic step of a claim on the board's words is the machine's step for a claim by the seat.
+/// The atomic step by which a seat claims a block is a step of the layer's machine: its reply, and
+/// the state that the board shows after it, are those of the machine's step for this claim. The
+/// seat has not found before that no block is left.
 pub fn claims_are_events()
     ensures { (b : BriefOf) (s : State (Unit {0}) SeatView) (id : ℕ) (v : SeatView) (slots : ℕ)
         (m : Sat) →
@@ -35,8 +38,9 @@ pub fn claims_are_events()
         step (shows b s) (Claim id) }
 {}
 
-/// The atomic step of a post on the board's words, by a seat that claimed the mask's block, is the
-/// machine's step for a post by the seat.
+/// The atomic step by which a seat posts a cell is a step of the layer's machine: its reply, and
+/// the state that the board shows after it, are those of the machine's step for this post. The seat
+/// has claimed the mask's block.
 pub fn posts_are_events()
     ensures { (b : BriefOf) (s : State (Unit {0}) SeatView) (id : ℕ) (v : SeatView)
         (slots p mask new : ℕ) (cell : ℕ × ℕ) (m : Sat) →
@@ -52,7 +56,9 @@ pub fn posts_are_events()
         step (shows b s) (Post id mask cell) }
 {}
 
-/// The atomic step of a read on the board's words is the machine's step for a read by the seat.
+/// The atomic step by which a seat reads the cell of a mask of the layer is a step of the layer's
+/// machine: its reply, and the state that the board shows after it, are those of the machine's step
+/// for this read.
 pub fn reads_are_events()
     ensures { (b : BriefOf) (s : State (Unit {0}) SeatView) (id : ℕ) (v : SeatView)
         (slots p mask : ℕ) (m : Sat) →
@@ -64,14 +70,14 @@ pub fn reads_are_events()
         step (shows b s) (Read id mask) }
 {}
 
-/// If a board of one worker can't be closed, the error names the least mask whose cell the worker's
-/// seat doesn't know to be filled.
+/// If a board of one worker is closed while a cell is empty, the error names the least mask whose
+/// cell the worker's seat doesn't know to be filled.
 pub fn one_worker_misses_the_least()
     ensures { OneMissesTheLeast }
 {}
 
-/// The least mask whose cell is empty in the words of a closed board is a mask whose cell the seat
-/// that closed it didn't know to be filled.
+/// If a board is closed while a cell is empty, the seat that closed it didn't know the cell of the
+/// least such mask to be filled.
 pub fn seats_lack_what_is_empty()
     ensures { SeatsLackWhatIsEmpty }
 {}

@@ -15,7 +15,7 @@ use subset_layers::Block;
 pub struct BoardSeat {
     /// The seat at the board's words.
     pub(crate) seat: Seat<(), Knowledge>,
-    /// For each block, whether the worker claimed it.
+    /// For each block of the layer, by its place, whether the worker claimed it.
     pub(crate) claims: Vec<bool>,
     /// Whether a claim of the worker found no block left.
     pub(crate) ended: bool,

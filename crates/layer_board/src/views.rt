@@ -13,7 +13,8 @@ pub struct Brief {
     pub(crate) problem: Snapshot<Problem>,
     /// The pairs that an order must keep.
     pub(crate) pairs: Snapshot<Pairs>,
-    /// What prunes the search.
+    /// The upper bound on the size of an order, and the rule of the lower bound on the nodes above
+    /// a set.
     pub(crate) limit: Limit,
     /// The layer whose sets have their cells on the board.
     pub(crate) layer: Snapshot<Layer>,

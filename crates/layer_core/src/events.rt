@@ -9,7 +9,7 @@ use subset_layers::Cell;
 pub enum Event {
     /// The worker with this number claims the next block.
     Claim(u8),
-    /// The worker with this number fills the cell of a mask.
+    /// The worker with this number fills the cell of a mask; the result has both.
     Post(u8, CellResult),
     /// The worker with this number reads the cell of a mask.
     Read(u8, Mask),
@@ -18,18 +18,19 @@ pub enum Event {
 /// The machine's reply to a worker.
 #[derive(Clone, Copy, Debug, PartialEq, Eq)]
 pub enum Reply {
-    /// The worker has claimed the block at this place of the layer.
+    /// The worker has claimed the block at this place, counted from 0, among the layer's blocks.
     Claimed(usize),
     /// No block is left.
     NoMore,
-    /// The cell was empty, and is filled now.
+    /// The posted cell was empty before, and is filled now.
     Posted,
-    /// The mask is not in the layer, or the worker didn't claim the mask's block.
+    /// The cell is not filled by this post: its mask is not in the layer, or the worker didn't
+    /// claim the mask's block.
     Stranger,
-    /// The cell was filled before.
+    /// The posted cell was filled before, and stays as it was.
     Double,
-    /// The cell of the mask, which is filled.
+    /// The cell of the mask that was to be read: it is filled.
     Seen(Cell),
-    /// The mask is not in the layer, or its cell is empty.
+    /// The mask that was to be read is not in the layer, or its cell is empty.
     Empty,
 }

@@ -38,8 +38,9 @@ impl<'a> Instance<'a> {
     ghost use Rattle.layer_core.specs.Pairing.{pair_of};
     ghost use Rattle.layer_core.specs.Instances.{cell_for, instance_of};
 
-    /// The instance of the functions of `problem`, with these pairs and this limit. Requires that
-    /// `pairs` are pairs of the variables of `problem`.
+    /// The instance of the functions of `problem`, with these pairs and the upper bound and the
+    /// rule of the lower bound that `limit` has. Requires that `pairs` are pairs of the variables
+    /// of `problem`.
     pub fn new(problem: &'a Problem, pairs: &'a Pairs, limit: Limit) -> Instance<'a>
         requires pairs { pairs.now.inputs ≡ problem.now.inputs }
         requires room { limit.bound + 1 < 2 ^ 32 }
@@ -78,7 +79,7 @@ impl<'a> Instance<'a> {
         self.pairs
     }
 
-    /// Whether the set `mask` is lawful: for each pair (a, b), if it has a it has b.
+    /// Whether the set `mask` is lawful: for each pair (a, b), it has b if it has a.
     pub fn lawful(&self, mask: Mask) -> bool
         ensures { result ≡ is_lawful self.now.pairs.pairs (members self.now.problem.inputs mask) }
     {

@@ -10,7 +10,8 @@ ghost use Rattle.layer_core.specs.Rights.{IsLayout, RightFor, ArePosted, IsFille
 
 /// After any events from the machine's opening on, its state is right, if each posted cell is the
 /// one that the definition gives the mask. In a right state each filled cell is that of its mask,
-/// and each block that was handed out is claimed by exactly one worker.
+/// and each block whose place is below the counter is claimed by exactly one worker, each other
+/// block by none.
 pub fn events_keep_it_right()
     ensures { (n : ℕ) (F : List Function) (P : List Pair) (r : LowerBound) (bound : ℕ)
         (l : Layout) (workers : ℕ)
@@ -19,8 +20,8 @@ pub fn events_keep_it_right()
         RightFor n F P r bound (run (opening l workers) events) }
 {}
 
-/// After any events, each block that has a mask and was handed out, that is whose place is below
-/// the counter, is claimed by exactly one worker.
+/// After any events in which each posted cell is the one that the definition gives the mask, a
+/// block that has a mask and whose place is below the counter is claimed by exactly one worker.
 pub fn each_claim_is_one_workers()
     ensures { (n : ℕ) (F : List Function) (P : List Pair) (r : LowerBound) (bound : ℕ)
         (l : Layout) (workers : ℕ)
@@ -30,7 +31,8 @@ pub fn each_claim_is_one_workers()
         claimants (slice_index l.block_of p) (run (opening l workers) events).workers ≡ 1 }
 {}
 
-/// Once every mask's cell is filled, the cells are those that the definition gives.
+/// If each posted cell is the one that the definition gives the mask, and the cells of all masks of
+/// the layer are filled, they are the cells that the definition gives these masks.
 pub fn filled_cells_are_the_definitions()
     ensures { (n : ℕ) (F : List Function) (P : List Pair) (r : LowerBound) (bound : ℕ)
         (l : Layout) (workers : ℕ)

@@ -14,12 +14,13 @@ use std::alloc::{AllocError, Global};
 use std::marker::Model;
 use subset_layers::{Cell, Layer};
 
-/// What a worker did and knows.
+/// What a worker did at the machine, and which cells it knows to be filled.
 #[derive(Drop)]
 pub(crate) struct WorkerMarks {
-    /// For each block, whether the worker claimed it.
+    /// For each block of the layer, by its place, whether the worker claimed it.
     pub(crate) claims: Vec<bool>,
-    /// For each mask of the layer, whether the worker knows its cell to be filled.
+    /// For each mask of the layer, in the layer's order, whether the worker knows its cell to be
+    /// filled, because it filled or read it.
     pub(crate) known: Vec<bool>,
     /// Whether a claim of the worker found no block left.
     pub(crate) ended: bool,
@@ -35,7 +36,7 @@ pub struct Core {
     /// The place of the next block to be claimed. If the layer has no block at this place, none is
     /// left.
     counter: usize,
-    /// The cells of the layer's masks, `None` where a cell is empty.
+    /// The cells of the layer's masks, in the layer's order; `None` for an empty cell.
     cells: Vec<Option<Cell>>,
     /// What each worker did and knows: worker i, counted from 1, is at index i - 1.
     workers: Vec<WorkerMarks>,
@@ -54,7 +55,8 @@ impl Model for Core {
 }
 
 impl Core {
-    /// The machine of a layer before the first step: all cells of the layer are empty.
+    /// The machine of a layer and of `workers` workers before the first step: all cells of the
+    /// layer are empty, and no block is claimed.
     pub fn new(alloc: Global, layer: &Layer, workers: Workers) -> Result<Core, AllocError>
         ensures opening { IfOk result (λ c. c ≡ opening (layout_of layer.now) workers) }
         ensures layout { IfOk result (λ c. IsLayout c.layout) }
@@ -70,7 +72,8 @@ impl Core {
         })
     }
 
-    /// Carries out a worker's step, and returns the machine's reply to the worker.
+    /// Carries out a worker's step, and returns the machine's reply to the worker. Requires the
+    /// number of the worker to be at least 1 and at most the number of the machine's workers.
     pub fn step(&mut self, event: Event) -> Reply
         requires { IsByWorker self.old event }
         ensures step { (reply_of result, self.new) ≡ step self.old (event_of event) }
@@ -105,9 +108,9 @@ impl Core {
         }
     }
 
-    /// Fills the cell of `mask` for worker number `worker` + 1, and replies `Posted`. Replies
-    /// `Stranger` if the worker didn't claim the mask's block, and `Double` if the cell was filled
-    /// before.
+    /// Fills the cell of `mask` with `cell` for worker number `worker` + 1, and replies `Posted`.
+    /// Else changes nothing: replies `Stranger` if the layer doesn't have the mask or the worker
+    /// didn't claim the mask's block, and `Double` if the cell was filled before.
     fn post(&mut self, worker: usize, mask: Mask, cell: Cell) -> Reply
         requires { worker < length self.old.workers }
         ensures { (reply_of result, self.new) ≡ step self.old (Post worker mask (pair_of cell)) }

@@ -1,4 +1,5 @@
-//! The members of a set whose widths its cell takes: those from which a search computes the cell.
+//! The members of a set whose widths its cell takes: a search needs these widths to compute the
+//! cell.
 
 ghost use Rattle.std.specs.Prelude.{◌≡◌, ◌+◌, ◌^◌, ◌<◌, ℕ, map, IfOk};
 ghost use Rattle.definitions.specs.Orders.{mask_of};
@@ -14,8 +15,8 @@ use subset_layers::{Block, Costs};
 
 /// The members of the set `mask` whose widths its cell takes, as a mask. Requires that `known` has
 /// those members for which the set without the member costs at most the bound. With the lower bound
-/// by variables the cell takes the widths of these, with that by widths those of all members if
-/// `known` has any.
+/// by variables they are the members in `known`. With that by widths they are all members, or none
+/// if `known` is empty.
 pub fn asked_members(lower_bound: LowerBound, mask: Mask, known: Mask) -> Mask
     ensures { (n bound : ℕ) (costs : ℕ → ℕ) →
         known ≡ mask_of (candidates n bound mask costs) → mask < 2 ^ n →
@@ -28,7 +29,7 @@ pub fn asked_members(lower_bound: LowerBound, mask: Mask, known: Mask) -> Mask
 }
 
 /// The members of the set `mask`, as a mask, for which the set without the member costs at most
-/// `bound`. Requires that `costs` has the costs of the layer before that of the set.
+/// `bound`. Requires that `costs` has the costs of the sets with one variable less than `mask`.
 fn affordable_members(mask: Mask, costs: &Costs, bound: u32) -> Mask
     requires { IsInNextLayer costs.now mask }
     ensures { result ≡ mask_of (affordable costs.now bound mask) }
@@ -46,7 +47,7 @@ fn affordable_members(mask: Mask, costs: &Costs, bound: u32) -> Mask
 }
 
 /// The members of the set `mask` whose widths its cell takes, as a mask; 0 if the set is not
-/// lawful. Requires that `before` has the costs of the layer before that of the set.
+/// lawful. Requires that `before` has the costs of the sets with one variable less than `mask`.
 fn needed_members(instance: &Instance<'_>, before: &Costs, mask: Mask) -> Mask
     requires next { IsInNextLayer before.now mask }
     requires inputs { before.now.inputs ≡ instance.now.problem.inputs }
@@ -62,8 +63,9 @@ fn needed_members(instance: &Instance<'_>, before: &Costs, mask: Mask) -> Mask
     }
 }
 
-/// For each set of the block, in the block's order, the mask of the members whose widths its cell
-/// takes. Requires that `before` has the costs of the layer before that of the block.
+/// For each set of the block, in the block's order, the mask of the members whose widths the set's
+/// cell takes. Requires that `before` has the costs of the sets with one variable less than those
+/// of the block.
 pub fn needs_of_block(
     alloc: Global,
     instance: &Instance<'_>,

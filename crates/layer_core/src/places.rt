@@ -9,7 +9,7 @@ ghost use Rattle.layer_core.specs.Placed.{AreCellsPlaced, StayPlaced};
 use subset_layers::{Block, Cell, Layer};
 
 /// Writes `found`, the cells of a block's sets in the block's order, to their places in `cells`,
-/// which has the cells of the whole layer in the layer's order.
+/// which has the cells of the whole layer in the layer's order. The other cells stay.
 pub fn place_cells(layer: &Layer, block: &Block, found: &[Cell], cells: &mut [Cell])
     requires layer { layer_of block.now ≡ layer.now }
     requires found { length found.now ≡ length (block_masks block.now) }

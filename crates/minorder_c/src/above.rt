@@ -30,8 +30,8 @@ fn numbers_of(alloc: Global, given: &[AbovePair]) -> Result<Vec<(VarIx, VarIx)>,
     Ok(pairs)
 }
 
-/// The pairs that a call is given, which an order of `n` variables has to keep. Refused if no order
-/// keeps them, or if one has another variable.
+/// The pairs that a call is given, which an order of the variables below `n` has to keep. Refused
+/// if no such order keeps them, if a variable of a pair isn't below `n`, or if memory is refused.
 pub(crate) fn kept_pairs(alloc: Global, given: &[AbovePair], n: u8) -> Result<Pairs, Refusal>
     requires some { 1 ≤ n }
     requires few { n ≤ 16 }

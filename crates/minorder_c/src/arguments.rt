@@ -21,7 +21,8 @@ pub(crate) struct GivenTables<'a> {
 }
 
 impl<'a> GivenTables<'a> {
-    /// What a call is given as truth tables: words, and the numbers of inputs and outputs.
+    /// Puts together what a call is given as truth tables: words, and the numbers of inputs and
+    /// outputs.
     pub(crate) fn of(words: &'a [u64], inputs: u32, outputs: u32) -> GivenTables<'a>
         ensures { result ≡ given words.entry inputs outputs }
     {
@@ -49,16 +50,16 @@ pub(crate) fn are_tables(given: &GivenTables) -> bool
         && given.words.len() == given.outputs as usize * words_per_table(given.inputs as u8)
 }
 
-/// Whether a call is given truth tables, and both `places`, its room for an order's variables, and
-/// `counts`, its room for level counts, are one for each input.
+/// Whether a call is given truth tables (see `are_tables`), and has room for as many variables of
+/// an order (`places`) and for as many level counts (`counts`) as there are inputs.
 pub(crate) fn has_call_shape(given: &GivenTables, places: usize, counts: usize) -> bool
     ensures { IsTrue result ↔ HasCallShape given.now places counts }
 {
     places == given.inputs as usize && counts == given.inputs as usize && are_tables(given)
 }
 
-/// The truth tables that a call is given. Refused if the numbers are out of range, or the words are
-/// not as many as truth tables have.
+/// The truth tables that a call is given. Refused if the numbers of inputs and outputs are out of
+/// range, if there are more or fewer words than the truth tables have, or if memory is refused.
 pub(crate) fn tables_of(alloc: Global, given: &GivenTables) -> Result<Tables, Refusal>
     ensures there { OnOk result (AreTables given.now) }
     ensures tables { IfOk result (λ t. t ≡ tables_in given.now) }
@@ -73,8 +74,9 @@ pub(crate) fn tables_of(alloc: Global, given: &GivenTables) -> Result<Tables, Re
     }
 }
 
-/// The truth tables that a call is given. Refused if the call has none, or if `places`, its room
-/// for an order's variables, or `counts`, its room for level counts, isn't one for each input.
+/// The truth tables that a call is given. Refused if `given` has none (see `are_tables`), if
+/// `places`, its room for an order's variables, or `counts`, its room for level counts, isn't the
+/// number of inputs, or if memory is refused.
 pub(crate) fn tables_for(
     alloc: Global,
     given: &GivenTables,
@@ -91,8 +93,8 @@ pub(crate) fn tables_for(
     tables_of(alloc, given)
 }
 
-/// The order that a call is given as `variables`, top first. Refused if these are not each variable
-/// once.
+/// The order that a call is given as `variables`, top first. Refused if these are not the variables
+/// from 0 on, each once, or if memory is refused.
 fn order_of(alloc: Global, variables: &[u8]) -> Result<Order, Refusal>
     requires some { 1 ≤ length variables.now }
     requires few { length variables.now ≤ 16 }
@@ -116,9 +118,9 @@ pub(crate) struct Arguments {
     pub(crate) order: Order,
 }
 
-/// The truth tables and the order that a call is given. Refused if the call has no truth tables, if
-/// `variables` is no order of the inputs, or if `counts`, the room for level counts, isn't one for
-/// each input.
+/// The truth tables and the order that a call is given. Refused if `given` has no truth tables (see
+/// `are_tables`), if `variables` is no order of the inputs, if `counts`, the room for level counts,
+/// isn't the number of inputs, or if memory is refused.
 pub(crate) fn arguments_of(
     alloc: Global,
     given: &GivenTables,

@@ -21,7 +21,8 @@ use std::alloc::{AllocError, Global};
 use truth_table::Tables;
 
 /// The first order of the fewest nodes among those that keep the pairs, and the cells of its
-/// certificate. Unless the truth tables are small, the size of a sifted order bounds the search.
+/// certificate. Unless the problem is small (`is_small`), the size of a sifted order bounds the
+/// search.
 fn solution(alloc: Global, tables: &Tables, pairs: Pairs) -> Result<Solution, AllocError>
     requires { pairs.inputs ≡ tables.now.inputs }
     ensures { IfOk result (IsSolution tables.now pairs.pairs) }
@@ -49,8 +50,9 @@ fn text_of(alloc: Global, tables: &Tables, pairs: Pairs) -> Result<String, Alloc
     Ok(text)
 }
 
-/// The text of the certificate for the truth tables and the pairs that a call is given. Refused if
-/// the call has no truth tables, or if no order keeps the pairs.
+/// The text of the certificate for the truth tables and the pairs `above` that a call is given.
+/// Refused if `given` has no truth tables (see `are_tables`), if no order keeps the pairs, or if
+/// memory is refused.
 fn certificate(alloc: Global, given: &GivenTables, above: &[AbovePair]) -> Result<String, Refusal>
     ensures shape { OnOk result (AreTables given.now) }
     ensures kept { OnOk result (CanBeKept given.now.inputs (pairs_given above.now)) }
@@ -65,10 +67,11 @@ fn certificate(alloc: Global, given: &GivenTables, above: &[AbovePair]) -> Resul
 }
 
 /// Writes the certificate of the first order of the fewest nodes among those that keep the pairs
-/// `above` to `text`, as `minorder --cert` writes it, and its length to `size`. If `text` is too
-/// short only the length is written; a call that is refused otherwise writes nothing. Returns 0 if
-/// the text is written, `SHORT_ROOM` if there is too little room, or the status of the refusal: 2,
-/// 4 or 8.
+/// `above` to the front of `text`, as `minorder --cert` writes it, and its length to `size`. If
+/// `text` is too short only the length is written; a call that is refused otherwise writes nothing.
+/// Returns 0 if the text is written, `SHORT_ROOM` if there is too little room, or the status of the
+/// refusal: 2 if a number or a length doesn't fit, 4 if memory is refused, 8 if no order keeps the
+/// pairs.
 #[unsafe(no_mangle)]
 pub extern "C" fn minorder_certify_with_pairs(
     alloc: Global,

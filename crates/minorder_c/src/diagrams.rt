@@ -17,7 +17,8 @@ use std::alloc::{AllocError, Global};
 use truth_table::reduced_diagram;
 
 /// A node in C: its variable, and the numbers of its children where that variable is 0 (`low`) and
-/// where it is 1 (`high`). 0 and 1 are the terminals, k + 2 is the node at place k.
+/// where it is 1 (`high`). 0 and 1 are the terminals, and k + 2 is node k, from 0, of the diagram's
+/// list of nodes.
 #[repr(C)]
 #[derive(Clone, Copy, Debug)]
 pub(crate) struct DiagramNode {
@@ -26,14 +27,16 @@ pub(crate) struct DiagramNode {
     pub high: u32,
 }
 
-/// A diagram in C: its nodes, level by level from below, and the number of each function's root.
+/// A diagram in C: its nodes, lowest level first, and for each output the number of its root,
+/// numbered as the children of `DiagramNode` are.
 #[derive(Drop)]
 struct DiagramForC {
     nodes: Vec<DiagramNode>,
     roots: Vec<u32>,
 }
 
-/// The number in C of a node or terminal: 0 and 1 for the terminals, k + 2 for the node at place k.
+/// The number in C of a node or terminal: 0 and 1 for the terminals 0 and 1, and k + 2 for node k,
+/// from 0, of the diagram's list of nodes.
 fn number_of(r: Ref) -> u32
     requires { IsBefore (2 ^ 20) r }
     ensures { ref_named result ≡ r }
@@ -45,7 +48,7 @@ fn number_of(r: Ref) -> u32
     }
 }
 
-/// The nodes of a diagram, as nodes in C.
+/// The nodes of a diagram as nodes in C, in the diagram's order.
 fn nodes_of(alloc: Global, diagram: &Diagram) -> Result<Vec<DiagramNode>, AllocError>
     requires { length diagram.now.graph.nodes ≤ 2 ^ 20 }
     ensures { IfOk result (λ v. map node_for v.items ≡ diagram.now.graph.nodes) }
@@ -67,7 +70,7 @@ fn nodes_of(alloc: Global, diagram: &Diagram) -> Result<Vec<DiagramNode>, AllocE
     Ok(made)
 }
 
-/// The numbers in C of a diagram's roots.
+/// The numbers in C of a diagram's roots, by rising output.
 fn roots_of(alloc: Global, diagram: &Diagram) -> Result<Vec<u32>, AllocError>
     requires { length diagram.now.graph.nodes ≤ 2 ^ 20 }
     ensures { IfOk result (λ v. map ref_named v.items ≡ diagram.now.graph.roots) }
@@ -80,8 +83,9 @@ fn roots_of(alloc: Global, diagram: &Diagram) -> Result<Vec<u32>, AllocError>
     Ok(made)
 }
 
-/// The reduced diagram, in C, of the truth tables that a call is given, under `order`. Refused if
-/// `order` is no order of the inputs, or if `roots`, the room for roots, isn't one for each output.
+/// The reduced diagram, in C, under `order` of the truth tables that a call is given. Refused if
+/// `given` has no truth tables (see `are_tables`), if `order` is no order of the inputs, if
+/// `roots`, the room for roots, isn't the number of outputs, or if memory is refused.
 fn diagram_of(
     alloc: Global,
     given: &GivenTables,
@@ -108,10 +112,12 @@ fn diagram_of(
     })
 }
 
-/// Writes the nodes of the reduced diagram under `order` to `nodes`, level by level from below,
-/// each function's root to `roots` and the number of nodes to `count`. If `nodes` is too short only
-/// the number is written; a call that is refused otherwise writes nothing. Returns 0 if all is
-/// written, `SHORT_ROOM` if there is too little room, or the status of the refusal: 2, 4 or 5.
+/// Writes the nodes of the reduced diagram under `order` to the front of `nodes`, lowest level
+/// first, the number of each output's root to `roots`, and how many nodes there are to `count`. If
+/// `nodes` is too short only `count` is written; a call that is refused otherwise writes nothing.
+/// Returns 0 if all is written, `SHORT_ROOM` if there is too little room, or the status of the
+/// refusal: 2 if a number or a length doesn't fit, 4 if memory is refused, 5 if `order` is no order
+/// of the inputs.
 #[unsafe(no_mangle)]
 pub extern "C" fn minorder_diagram_with_lengths(
     alloc: Global,

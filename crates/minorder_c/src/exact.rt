@@ -30,9 +30,9 @@ fn searched(alloc: Global, given: &GivenTables, pairs: Pairs) -> Result<SizedOrd
     find_optimum_alone(alloc, tables.problem(), bound)
 }
 
-/// Writes the first order of the fewest nodes among those that keep the pairs to `order` and its
-/// level counts to `levels`, and returns its size. `workspace` is working memory for small
-/// problems. If memory is refused nothing is written.
+/// Writes the first order of the fewest nodes among those that keep the pairs to `order`, top
+/// first, and its level counts to `levels`, and returns its size. `workspace` is working memory for
+/// small problems. If memory is refused, `order` and `levels` stay.
 pub(crate) fn optimum(
     alloc: Global,
     given: &GivenTables,
@@ -61,9 +61,10 @@ pub(crate) fn optimum(
     Ok(best.total)
 }
 
-/// Writes the first order of the fewest nodes to `order` and its level counts to `levels`, and
-/// returns its size. Refused if the call has no truth tables, or if `order` or `levels` doesn't
-/// have a place for each input.
+/// Writes the first order of the fewest nodes to `order`, top first, and its level counts to
+/// `levels`, and returns its size. Refused if `given` has no truth tables (see `are_tables`), if
+/// the length of `order` or of `levels` isn't the number of inputs, or if memory is refused. Then
+/// nothing is written.
 fn exact(
     alloc: Global,
     given: &GivenTables,
@@ -86,9 +87,10 @@ fn exact(
     Ok(total)
 }
 
-/// Writes the first order of the fewest nodes among those that keep the pairs `above` to `order`
-/// and its level counts to `levels`, and returns its size. Refused if the call has no truth tables,
-/// if no order keeps the pairs, or if `order` or `levels` doesn't have a place for each input.
+/// Writes the first order of the fewest nodes among those that keep the pairs `above` to `order`,
+/// top first, and its level counts to `levels`, and returns its size. Refused if `given` has no
+/// truth tables (see `are_tables`), if no order keeps the pairs, if the length of `order` or of
+/// `levels` isn't the number of inputs, or if memory is refused. Then nothing is written.
 fn exact_above(
     alloc: Global,
     given: &GivenTables,
@@ -116,9 +118,9 @@ fn exact_above(
     Ok(total)
 }
 
-/// Writes the first order of the fewest nodes to `order`, its level counts to `levels` and its size
-/// to `total`. A call that is refused writes nothing. Returns 0, or the status of the refusal: 2 or
-/// 4.
+/// Writes the first order of the fewest nodes to `order`, top first, its level counts to `levels`
+/// and its size to `total`. A call that is refused writes nothing. Returns 0, or the status of the
+/// refusal: 2 if a number or a length doesn't fit, 4 if memory is refused.
 #[unsafe(no_mangle)]
 pub extern "C" fn minorder_exact_with_lengths(
     alloc: Global,
@@ -148,9 +150,9 @@ pub extern "C" fn minorder_exact_with_lengths(
 }
 
 /// Writes the first order of the fewest nodes among those that keep the pairs `above` to `order`,
-/// its level counts to `levels` and its size to `total`. Pairs that no order keeps, or of other
-/// variables, are refused; a call that is refused writes nothing. Returns 0, or the status of the
-/// refusal: 2, 4 or 8.
+/// top first, its level counts to `levels` and its size to `total`. A call that is refused writes
+/// nothing. Returns 0, or the status of the refusal: 2 if a number or a length doesn't fit, 4 if
+/// memory is refused, 8 if no order keeps the pairs or one of them has another variable.
 #[unsafe(no_mangle)]
 pub extern "C" fn minorder_exact_above_with_lengths(
     alloc: Global,

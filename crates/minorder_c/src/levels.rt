@@ -10,8 +10,9 @@ use crate::arguments::{GivenTables, arguments_of};
 use crate::status::Refusal;
 use std::alloc::Global;
 
-/// The level counts under `order` of the truth tables that a call is given. Refused if `order` is
-/// no order of the inputs, or if `counts`, the room for level counts, isn't one for each input.
+/// The level counts, top first, under `order` of the truth tables that a call is given. Refused if
+/// `given` has no truth tables (see `are_tables`), if `order` is no order of the inputs, or if
+/// `counts`, how many level counts the caller has room for, isn't the number of inputs.
 fn level_counts_of(
     alloc: Global,
     given: &GivenTables,
@@ -33,7 +34,8 @@ fn level_counts_of(
 }
 
 /// Writes the level counts under `order` to `levels`, top first. A call that is refused writes
-/// nothing. Returns 0, or the status of the refusal: 2, 4 or 5.
+/// nothing. Returns 0, or the status of the refusal: 2 if a number or a length doesn't fit, 4 if
+/// memory is refused, 5 if `order` is no order of the inputs.
 #[unsafe(no_mangle)]
 pub extern "C" fn minorder_levels_with_lengths(
     alloc: Global,

@@ -13,7 +13,8 @@ use order_model::packed::{block, words_per_table};
 use small_search::Workspace;
 use std::alloc::{AllocError, Global};
 
-/// The answers for many problems, one problem behind the other.
+/// The answers for many problems: the entries of each list are those of the first problem, then
+/// those of the second, and so on.
 #[derive(Drop)]
 struct Answers {
     /// The first order of the fewest nodes of each problem, top first.
@@ -35,8 +36,8 @@ fn is_length(length: usize, many: usize, size: usize) -> bool
 }
 
 /// Whether a call is given the truth tables of `many` problems, and both `places`, its room for the
-/// variables of orders, and `counts`, its room for level counts, are one for each input of each
-/// problem.
+/// variables of orders, and `counts`, its room for level counts, are `many` times the number of
+/// inputs.
 fn is_shape(given: &GivenTables, places: usize, counts: usize, many: usize) -> bool
     ensures { IsTrue result ↔ HasManyShape given.now places counts many }
 {
@@ -51,7 +52,7 @@ fn is_shape(given: &GivenTables, places: usize, counts: usize, many: usize) -> b
 
 /// Appends the first order of the fewest nodes of one problem, its level counts and its size to
 /// `answers`. `workspace` is working memory for small problems. Requires that `given` has the truth
-/// tables of this one problem.
+/// tables of this one problem. If memory is refused, `answers` may have got a part of these.
 fn put(
     alloc: Global,
     given: &GivenTables,
@@ -107,10 +108,11 @@ fn optima_of(alloc: Global, given: &GivenTables, many: usize) -> Result<Answers,
     Ok(answers)
 }
 
-/// Writes for each of many problems the first order of the fewest nodes to `orders`, its level
-/// counts to `levels` and its size to `totals`, which has a place for each problem. The truth
-/// tables stand one problem behind the other, and so do the answers. A call that is refused writes
-/// nothing. Returns 0, or the status of the refusal: 2 or 4.
+/// Writes for each of many problems the first order of the fewest nodes to `orders`, top first, its
+/// level counts to `levels` and its size to `totals`, whose length is the number of problems. The
+/// truth tables stand one problem behind the other, and so do the answers. A call that is refused
+/// writes nothing. Returns 0, or the status of the refusal: 2 if a number or a length doesn't fit,
+/// 4 if memory is refused.
 #[unsafe(no_mangle)]
 pub extern "C" fn minorder_exact_many_with_lengths(
     alloc: Global,

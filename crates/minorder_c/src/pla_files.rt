@@ -19,8 +19,8 @@ use truth_table::cover_words;
 /// The status of a call whose text is no PLA file: `MINORDER_BAD_PLA` in C.
 const BAD_PLA: u32 = 9;
 
-/// The kind, in C, of the fault of a text that is too long. The faults of lines have the kinds 1 to
-/// 14.
+/// The number in C of the fault of a text that is too long. The faults of lines have the numbers 1
+/// to 14.
 const TOO_LONG: u32 = 15;
 
 /// How many places a caller has for names of inputs, and how many for those of outputs.
@@ -30,9 +30,9 @@ const NAME_PLACES: usize = 16;
 #[repr(C)]
 #[derive(Clone, Copy, Debug)]
 pub(crate) struct PlaFault {
-    /// The number of the first faulty line, counted from 1; 0 if the text is empty or too long.
+    /// The number of the first faulty line, counted from 1. 0 if the text is empty or too long.
     pub line: usize,
-    /// The kind of the fault: 1 to 14 as `kind_of` gives it, or `TOO_LONG`.
+    /// Which fault it is: 1 to 14 as `kind_of` numbers the faults of a line, or `TOO_LONG`.
     pub kind: u32,
 }
 
@@ -61,15 +61,17 @@ struct PlaForC {
     inputs: u32,
     /// The number of outputs.
     outputs: u32,
-    /// Where in the text the names of the inputs stand, filled up to `NAME_PLACES` places.
+    /// Where in the text the names of the inputs stand, then places of length 0, `NAME_PLACES` in
+    /// all.
     input_names: Vec<TextPlace>,
-    /// Where in the text the names of the outputs stand, filled up to `NAME_PLACES` places.
+    /// Where in the text the names of the outputs stand, then places of length 0, `NAME_PLACES` in
+    /// all.
     output_names: Vec<TextPlace>,
     /// The packed truth tables, one output behind the other.
     words: Vec<u64>,
 }
 
-/// The kind, in C, of a line's fault: 1 to 14, in the order of the words of `minorder_fault_text`
+/// The number in C of a line's fault: 1 to 14, in the order of the words of `minorder_fault_text`
 /// in include/minorder.h.
 fn kind_of(fault: LineFault) -> u32
     ensures { result ≡ fault_kind fault }
@@ -115,7 +117,8 @@ fn cover_of(alloc: Global, text: &[u8]) -> Result<Cover, Unread>
 }
 
 /// Where in `text` the names of the inputs, or of the outputs, stand; `names` says which. The list
-/// is filled up to 16 places with empty ones. Requires that `cover` is what the text states.
+/// is filled up to 16 places with places of length 0, and has only these if the text lists no
+/// names. Requires that `cover` is what the text states.
 fn names_of(
     alloc: Global,
     text: &[u8],
@@ -138,7 +141,8 @@ fn names_of(
     Ok(places)
 }
 
-/// The numbers, names and truth tables that a text states, or why the text isn't read.
+/// The numbers of inputs and outputs, the names and the truth tables that a text states, or why the
+/// text isn't read.
 fn pla_of(alloc: Global, text: &[u8]) -> Result<PlaForC, Unread>
     ensures read { IfOk result (λ p. IsReadWith text.now p.inputs p.outputs p.input_names.items
         p.output_names.items (λ Is. Is p.words.items)) }
@@ -161,11 +165,11 @@ fn pla_of(alloc: Global, text: &[u8]) -> Result<PlaForC, Unread>
 }
 
 /// Reads the text of a PLA file, and writes its numbers of inputs and outputs, where their names
-/// stand in the text, and the truth tables. Returns 0 if all is written. If `tables` is too short,
-/// all but the truth tables is written, and `SHORT_ROOM` returned. Of a text that is no PLA file
-/// only the first fault is written, and `BAD_PLA` returned. A call that is refused otherwise writes
-/// nothing, and returns 2 unless there are 16 places for names of inputs and 16 for those of
-/// outputs, or 4 if memory is refused.
+/// stand in the text, and the truth tables, to the front of `tables`. Returns 0 if all is written.
+/// If `tables` is too short, all but the truth tables is written, and `SHORT_ROOM` returned. Of a
+/// text that is no PLA file only the first fault is written, and `BAD_PLA` returned. A call that is
+/// refused otherwise writes nothing. It returns 2 unless `input_names` and `output_names` have 16
+/// places each, or 4 if memory is refused.
 #[unsafe(no_mangle)]
 pub extern "C" fn minorder_read_pla_with_lengths(
     alloc: Global,

@@ -2,7 +2,8 @@
 
 ghost use Rattle.std.specs.Prelude.{◌≡◌, ◌≤◌, ◌++◌, drop, length};
 
-/// The status of a call that has more to write than there is room for: `MINORDER_SHORT_TEXT` in C.
+/// The status of a call that has more to write than the caller has room for: `MINORDER_SHORT_TEXT`
+/// in C.
 pub(crate) const SHORT_ROOM: u32 = 7;
 
 /// Copies `items` to the front of `buffer`; the rest of the buffer stays.

@@ -27,8 +27,9 @@ fn levels_of(alloc: Global, sifted: &Sifted) -> Result<Vec<u32>, AllocError>
 }
 
 /// The order after one pass of sifting from `order`, with its level counts and its size. Refused if
-/// `order` is no order of the inputs, or if `counts`, the caller's room for level counts, isn't one
-/// for each input.
+/// `given` has no truth tables (see `are_tables`), if `order` is no order of the inputs, if
+/// `counts`, the caller's room for level counts, isn't the number of inputs, or if memory is
+/// refused.
 fn sifted_order(
     alloc: Global,
     given: &GivenTables,
@@ -54,9 +55,10 @@ fn sifted_order(
     })
 }
 
-/// Replaces `order` by the order after one pass of sifting from it, and writes its level counts to
-/// `levels` and its size to `total`. A call that is refused writes nothing. Returns 0, or the
-/// status of the refusal: 2, 4 or 5.
+/// Replaces `order` by the order after one pass of sifting from it, and writes that order's level
+/// counts to `levels`, top first, and its size to `total`. A call that is refused writes nothing.
+/// Returns 0, or the status of the refusal: 2 if a number or a length doesn't fit, 4 if memory is
+/// refused, 5 if `order` is no order of the inputs.
 #[unsafe(no_mangle)]
 pub extern "C" fn minorder_sift_with_lengths(
     alloc: Global,

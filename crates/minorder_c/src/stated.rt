@@ -12,7 +12,8 @@ use crate::verdicts::{ReturnedVerdict, judgement_on, verdict_for_c};
 use order_model::VarIx;
 use std::alloc::Global;
 
-/// Writes the first of `pairs` to `place`, as many as there is room for.
+/// Writes the first of `pairs`, each (above, below), to the front of `place`, as many as there is
+/// room for. The rest of `place` stays.
 fn put_pairs(place: &mut [AbovePair], pairs: &[(VarIx, VarIx)])
     ensures { AreFront pairs.now place.old place.new }
 {
@@ -23,9 +24,10 @@ fn put_pairs(place: &mut [AbovePair], pairs: &[(VarIx, VarIx)])
 }
 
 /// Writes the verdict on `certificate`, a text, for the functions of `tables` to `verdict`, the
-/// certificate's total to `total`, how many pairs it has to `count`, and as many of these as fit to
-/// `pairs`. A call that is refused writes nothing. Returns 0 whatever the verdict, or the status of
-/// the refusal: 2, 3 or 4.
+/// total that the certificate states to `total`, the number of its pairs to `count`, and as many of
+/// these as fit to the front of `pairs`. A call that is refused writes nothing. Returns 0 whatever
+/// the verdict, or the status of the refusal: 2 if a number or a length doesn't fit, 3 if the text
+/// is no certificate, 4 if memory is refused.
 #[unsafe(no_mangle)]
 pub extern "C" fn minorder_check_total_with_pairs(
     alloc: Global,

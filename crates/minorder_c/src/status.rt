@@ -9,15 +9,17 @@ use std::alloc::AllocError;
 /// Why a call is refused.
 #[derive(Clone, Copy, Debug, PartialEq, Eq)]
 pub(crate) enum Refusal {
-    /// A number of inputs or outputs is out of range, or a length doesn't fit.
+    /// The number of inputs or that of outputs isn't from 1 to 16, or the length of a list doesn't
+    /// fit these numbers.
     Shape,
     /// A text is no certificate.
     Certificate,
     /// An allocation was refused.
     OutOfMemory,
-    /// A list that is to be an order doesn't have each variable once.
+    /// A list that is to be an order doesn't have each variable below the number of inputs once.
     Order,
-    /// No order keeps the pairs, or one has another variable.
+    /// No order keeps the pairs, or one of them has a variable that isn't below the number of
+    /// inputs.
     Pairs,
 }
 

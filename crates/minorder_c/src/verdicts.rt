@@ -12,9 +12,10 @@ use cert_check::{Reason, Verdict, check_alone};
 use certificate::{CertFault, Certificate};
 use std::alloc::Global;
 
-/// A verdict in C: `reason` is 0 if the certificate is good, else the number of the first reason
-/// why not, 1 to 8 in the order of `Reason`. For an edge (8) `mask` is the set from which it leads
-/// and `variable` the one that it adds; else both are 0.
+/// A verdict in C. `reason` is 0 if the certificate is good (the checker accepts it), else the
+/// number of the first reason why not: 1 to 8, in the order of `Reason`. If an edge fails (8),
+/// `mask` is the set from which the edge leads, and `variable` the variable that it adds; else both
+/// are 0.
 #[repr(C)]
 #[derive(Clone, Copy, Debug)]
 pub(crate) struct ReturnedVerdict {
@@ -23,8 +24,8 @@ pub(crate) struct ReturnedVerdict {
     pub variable: u32,
 }
 
-/// The verdict in C with the number `reason`, 0 to 7: valid, or a reason other than an edge. Its
-/// mask and its variable are 0.
+/// The verdict in C whose `reason` is given, with 0 as its mask and its variable. 0 says that the
+/// certificate is good, and 1 to 7 are the reasons without an edge.
 fn plain(reason: u32) -> ReturnedVerdict
     ensures { result ≡ record { reason = reason; mask = 0; variable = 0 } }
 {
@@ -56,7 +57,7 @@ pub(crate) fn verdict_for_c(verdict: Verdict) -> ReturnedVerdict
     }
 }
 
-/// The certificate that `text` is. Refused if the text is none.
+/// The certificate that `text` is. Refused if it is none, or if memory is refused.
 fn certificate_of(alloc: Global, text: &[u8]) -> Result<Certificate, Refusal>
     ensures spelled { IfOk result (λ cert. text.now ≡ spelling cert) }
     ensures refused { IfErr result (RefusesText (Unit {0}) text.now) }
@@ -77,7 +78,8 @@ pub(crate) struct Judgement {
 }
 
 /// The certificate that `text` is, and the verdict on it for the truth tables that a call is given.
-/// Refused if the call has no truth tables, or if the text is no certificate.
+/// Refused if `given` has no truth tables (see `are_tables`), if `text` is no certificate, or if
+/// memory is refused.
 pub(crate) fn judgement_on(
     alloc: Global,
     given: &GivenTables,
@@ -99,8 +101,8 @@ pub(crate) fn judgement_on(
 }
 
 /// Writes the verdict on `certificate`, a text, for the functions of `tables` to `verdict`. A call
-/// that is refused writes nothing. Returns 0 whatever the verdict, or the status of the refusal: 2,
-/// 3 or 4.
+/// that is refused writes nothing. Returns 0 whatever the verdict, or the status of the refusal: 2
+/// if a number or a length doesn't fit, 3 if the text is no certificate, 4 if memory is refused.
 #[unsafe(no_mangle)]
 pub extern "C" fn minorder_check(
     alloc: Global,

@@ -6,14 +6,16 @@ ghost use Rattle.definitions.specs.Orders.{IsOrder};
 ghost use Rattle.node_words.specs.Nodes.{AreNodeWords, AreUnequal, Grows};
 ghost use Rattle.node_words.specs.Meaning.{Denotes};
 
-/// Two ids that denote the same function are equal.
+/// In a list of node words, no two of which are equal, two ids that denote the same function are
+/// equal.
 pub fn equal_functions_have_equal_ids()
     ensures { (order ws : List ℕ) → IsOrder (length order) order → AreNodeWords (length order) ws →
         AreUnequal ws → (a b : ℕ) (f : Function) → Denotes order ws a f →
         Denotes order ws b f → a ≡ b }
 {}
 
-/// An id still denotes the same function when more places of the store are filled.
+/// An id keeps the function that it denotes when empty places of the list of node words are filled,
+/// and filled places keep their words.
 pub fn growth_keeps_functions()
     ensures { (order ws later : List ℕ) → AreNodeWords (length order) ws → Grows ws later →
         (id : ℕ) (f : Function) → Denotes order ws id f → Denotes order later id f }

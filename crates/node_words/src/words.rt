@@ -7,7 +7,8 @@ ghost use Rattle.node_words.specs.Entries.{code_of};
 
 use crate::operation::Operation;
 
-/// The level and the ids of the two children of a node.
+/// A node: its level, counted from 0 at the top, and the ids of its low and its high child. Ids 0
+/// and 1 are the terminals, and the node at place p of the store has the id p + 2.
 #[derive(Clone, Copy, Debug, PartialEq, Eq)]
 pub struct NodeParts {
     pub level: u8,
@@ -39,7 +40,8 @@ pub fn node_parts(word: u64) -> NodeParts
     }
 }
 
-/// The place, below `places`, at which the search for a node's word starts: a hash of the word.
+/// The place at which the search for the node word `word` starts, in a store of `places` places,
+/// counted from 0: a hash of the word.
 pub fn start(places: usize, word: u64) -> usize
     requires some { 0 < places }
     requires few { places < 2 ^ 32 }
@@ -51,8 +53,8 @@ pub fn start(places: usize, word: u64) -> usize
     (((second >> 32) * places as u64) >> 32) as usize
 }
 
-/// The place, below `places`, that a search from `start` on comes to after it passed `passed`
-/// places. The last place is followed by place 0.
+/// The place `(passed + start) % places`: the one that a search from place `start` on comes to
+/// after it passed `passed` places, in a store of `places` places.
 pub fn probe(start: usize, passed: usize, places: usize) -> usize
     requires start { start < places }
     requires passed { passed < places }
@@ -66,8 +68,9 @@ pub fn probe(start: usize, passed: usize, places: usize) -> usize
     }
 }
 
-/// The key of a cache entry: the operation and the two ids that it is applied to. A key is the word
-/// of the entry without its lowest 20 bits.
+/// The key of a cache entry: the code of the operation (1 for And, 2 for Or, 3 for Xor) from bit 40
+/// on, the id `first` in bits 20 to 39, and the id `second` in bits 0 to 19. The word of the entry
+/// is `key << 20` plus the id of the operation's result.
 pub fn entry_key(operation: Operation, first: u32, second: u32) -> u64
     requires first { first < 2 ^ 20 }
     requires second { second < 2 ^ 20 }

@@ -6,8 +6,8 @@ ghost use Rattle.unique_table.specs.Sessions.{Knows, Means, MakesStep, LiesNoHig
 use node_words::start;
 use unique_table::{NodeId, Operation, Session, Store};
 
-/// The place, in a cache of `places` places, for the result of an operation on two ids: a hash of
-/// the operation and the ids.
+/// The place, in a cache of `places` places counted from 0, for the result of `operation` on the
+/// ids `first` and `second`: a hash of the three.
 fn place_of(places: usize, operation: Operation, first: NodeId, second: NodeId) -> usize
     requires some { 0 < places }
     requires few { places < 2 ^ 32 }

@@ -14,8 +14,8 @@ use order_model::WidthRow;
 use std::alloc::{AllocError, Global};
 use subset_layers::{Block, Cell, least_cell};
 
-/// The cells of a block's sets, in the block's order. `rows` has for each set, in this order, the
-/// widths that its cell takes.
+/// The cells of a block's sets, in the block's order. `rows[i]` has the widths that the cell of set
+/// i of the block takes.
 fn cells_by_rows(
     alloc: Global,
     block: &Block,

@@ -7,8 +7,8 @@ use layer_core::Instance;
 use std::marker::Model;
 use subset_layers::{Costs, Layer};
 
-/// What the workers of a layer read: the problem instance, the layer, the costs of the layer
-/// before, and the source of widths.
+/// What the workers of a layer read: the problem instance, the layer, the costs `before` of the
+/// layer before (the sets with one variable fewer), and the source of widths.
 #[derive(Drop)]
 pub struct LayerContext<'a> {
     pub(crate) instance: &'a Instance<'a>,

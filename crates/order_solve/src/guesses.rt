@@ -7,13 +7,15 @@ use layer_core::Instance;
 use order_model::{Limit, LowerBound, Pairs, Problem, Workers};
 use subset_layers::{Costs, Layer};
 
-/// Most diagrams have about one node for this many entries of their truth tables.
+/// The estimates take it that most diagrams have about one node for this many entries of their
+/// truth tables.
 const ENTRIES_A_NODE: u64 = 16;
 
 /// An estimate, before costs are known, of the size of the largest sets whose widths are worth
-/// computing ahead. It is the number of inputs if the bound is no less than the size of most
-/// diagrams, because then almost no set is pruned. Else it is a size up to which most sets are
-/// needed, as measured, larger for the lower bound by variables, which prunes less.
+/// computing ahead. It is the number of inputs if `limit.bound` is at least one node for each
+/// `ENTRIES_A_NODE` entries of the truth tables, because then almost no set is pruned. Else it is a
+/// size up to which most sets are needed, as measured, larger for the lower bound by variables,
+/// which prunes less.
 fn first_layers(problem: &Problem, limit: Limit) -> u8 {
     let entries = u64::from(problem.outputs()) << problem.inputs();
     if u64::from(limit.bound) >= entries / ENTRIES_A_NODE {
@@ -45,8 +47,8 @@ pub(crate) fn layers_to_prepare(
 const STEP: u32 = 7;
 
 /// An estimate of the mean cost of the sets of `size` variables, from those whose masks are
-/// multiples of `STEP`. `costs` has the costs of the layer of these sets. Returns `u32::MAX` if
-/// there are no such sets.
+/// multiples of `STEP`. `costs` has the costs of the layer of these sets. Returns `u32::MAX` if no
+/// set of `size` variables has such a mask.
 fn mean_cost(costs: &Costs, size: usize) -> u64 {
     let mut sum = 0u64;
     let mut sets = 0u64;
@@ -67,8 +69,8 @@ fn mean_cost(costs: &Costs, size: usize) -> u64 {
 }
 
 /// An estimate of the lower bound on the nodes above a set, by the rule of `instance`. `outside` is
-/// the number of variables that are not in the set, and `width` the width of each member over the
-/// others.
+/// the number of variables that are not in the set, and `width` an estimate of the width of a
+/// member over the other members.
 fn likely_above(instance: &Instance<'_>, outside: usize, width: u64) -> u64 {
     let asked = match instance.limit().lower_bound {
         LowerBound::Variables => 0,
@@ -133,7 +135,8 @@ fn count_lawful(pairs: &Pairs, layer: &Layer, most: usize) -> usize
 
 /// An estimate of how many workers the layer keeps busy, at most `workers`: one, and another for
 /// each `ENTRIES_A_WORKER` entries of truth tables. The entries of the truth tables of all outputs
-/// count once for each lawful set of the layer, but for no more sets than the layer has blocks.
+/// count once for each lawful set of the layer, but for no more sets than the layer has blocks, and
+/// for at most 256.
 pub(crate) fn busy_workers(instance: &Instance<'_>, layer: &Layer, workers: Workers) -> Workers
     ensures { result ≤ workers }
 {

@@ -60,8 +60,8 @@ fn add_needs(
     Ok(())
 }
 
-/// Requests for those widths that the cells of the layer after those in `done` take and that
-/// `source` does not have.
+/// Requests for the widths that the cells of the layer after those in `done` take, in blocks for
+/// which `source` lacks some row. Nothing is requested for sets whose image has a whole row.
 fn requests_of_layer(
     alloc: Global,
     instance: &Instance<'_>,
@@ -86,9 +86,9 @@ fn requests_of_layer(
     Ok(requests)
 }
 
-/// The rows of widths to compute before the layer after those in `done`; None if all widths that
-/// the cells of that layer take are there. Larger sets with the same low bytes as the requested
-/// ones are added, up to a size at which nearly whole layers are likely to be needed.
+/// The rows of widths to compute before the layer after those in `done`; None if `prepared` has the
+/// rows for all sets of that layer whose cells take widths. Larger sets with the same low bytes as
+/// the requested ones are added, up to a size at which nearly whole layers are likely to be needed.
 pub(crate) fn look_ahead(
     alloc: Global,
     instance: &Instance<'_>,

@@ -33,8 +33,9 @@ impl<'a> Model for SearchStart<'a> {
     ghost invariant = { λ s. s.kept.inputs ≡ s.prepared.problem.inputs };
 }
 
-/// The pairs that a search with this lower bound keeps if the caller requires those in `asked`:
-/// these, or if there are none and the lower bound is by widths, pairs of symmetric variables.
+/// The pairs that a search with the lower bound `lower_bound` keeps if the caller requires those in
+/// `asked`: these, or if there are none and the lower bound is by widths, pairs of symmetric
+/// variables.
 #[tactic(auto, using(crate::proofs::Harmless::harmless_kept))]
 fn kept_pairs(
     alloc: Global,
@@ -53,11 +54,11 @@ fn kept_pairs(
     }
 }
 
-/// Prepares a search of the problem of `renaming` among the orders that keep `pairs`. Computes rows
-/// of widths for the sets up to a size at which almost no set is likely to be pruned. This size is
-/// estimated from `limit.bound`, the size of some diagram of the functions. No rows are computed if
-/// there is one worker, or if the search keeps pairs of symmetric variables, because few sets are
-/// left then.
+/// Prepares a search of the problem of `renaming` among the orders that keep `pairs`, which are of
+/// the problem before the renaming. Computes rows of widths for the sets up to a size at which
+/// almost no set is likely to be pruned. This size is estimated from `limit.bound`, the size of
+/// some diagram of the functions. No rows are computed if there is one worker, or if `pairs` is
+/// empty and the search keeps pairs of symmetric variables, because few sets are left then.
 pub fn prepare<'a, R: Threads + Sync>(
     rt: &R,
     alloc: Global,

@@ -24,7 +24,7 @@ use symmetric_pairs::pairs_to_keep;
 /// The problem instance of a search that keeps `pairs`. Its bound is the size of the sifted order.
 /// Requires that every order that keeps `pairs` keeps those of `sifted`, and that every order that
 /// keeps those of `sifted` can be sorted into one that keeps `pairs`, has as many nodes, and is not
-/// later.
+/// later when orders are compared as lists of numbers.
 fn instance_of<'a>(
     problem: &'a Problem,
     sifted: &'a Sifted,
@@ -52,8 +52,8 @@ fn instance_of<'a>(
 
 /// Finds the first order of the fewest nodes among those that keep the pairs of `sifted`. The size
 /// of the sifted order bounds the search, which uses the lower bound by widths. A worker calls
-/// `gate` before it posts the cell of a set. Requires that `start` was prepared for the problem and
-/// the pairs of `sifted`.
+/// `gate`, where a test can hold it, before it posts the cell of a set. Requires that `start` was
+/// prepared for the problem and the pairs of `sifted`.
 ///
 /// The only error is that memory is refused. The search then ends and computes nothing anew.
 pub fn find_optimum<R: Threads + Sync, G: Gate>(
@@ -94,8 +94,9 @@ pub fn find_optimum_alone(
 
 /// Finds the first order of the fewest nodes among those that keep the pairs of `sifted`, and the
 /// sets and costs that its certificate lists. The lower bound is the one by variables: one node
-/// above a set for each essential variable outside. A worker calls `gate` before it posts the cell
-/// of a set. Requires that `start` was prepared for the problem of `sifted`.
+/// above a set for each essential variable outside. A worker calls `gate`, where a test can hold
+/// it, before it posts the cell of a set. Requires that `start` was prepared for the problem of
+/// `sifted`.
 #[tactic(auto, using(crate::proofs::Harmless::harmless_kept))]
 pub fn solve<R: Threads + Sync, G: Gate>(
     rt: &R,

@@ -28,7 +28,7 @@ pub struct WorkerResult {
 }
 
 /// A worker at a board: what it reads, its number, counted from 1, and the gate that it calls
-/// before each post.
+/// before each post, where a test can hold it.
 #[derive(Drop)]
 struct Worker<'a, G> {
     board: &'a Board,

@@ -1,5 +1,5 @@
-//! ordercheck: whether a certificate proves that no variable order of a PLA file's functions has
-//! fewer nodes.
+//! ordercheck: whether a certificate proves that, of the variable orders that keep its pairs, none
+//! has fewer nodes for a PLA file's functions than its own.
 #![tactic(auto)]
 
 use check_runs::ordercheck;

@@ -11,7 +11,7 @@ use itoa::Buffer;
 use order_model::PairsFault;
 use pla_reader::LineFault as FileFault;
 
-/// The program that writes a message. Each message begins with its name.
+/// The program that writes a message. Each message begins with the program's name.
 #[derive(Clone, Copy, Debug, PartialEq, Eq)]
 pub enum Program {
     Minorder,
@@ -73,7 +73,7 @@ fn certificate_text(fault: CertificateFault) -> &'static str
     }
 }
 
-/// Appends `label` and a number.
+/// Appends `label`, and then `number` in decimal, to `text`.
 fn push_number(text: &mut Text, label: &str, number: usize)
     requires { array_string_len text.old + length label.now ≤ 32 }
     ensures words { text.new.bytes ≡ text.old.bytes ++ label.now ++ decimal number }
@@ -85,7 +85,8 @@ fn push_number(text: &mut Text, label: &str, number: usize)
     text.push_str(digits.format(number));
 }
 
-/// Appends the name of a fault in pairs, with the variable if they lead from one back to itself.
+/// Appends the name of a fault in pairs to `text`. If pairs lead from a variable back to itself,
+/// the number of this variable follows.
 fn push_pairs(text: &mut Text, fault: PairsFault)
     requires { array_string_len text.old ≤ 12 }
     ensures words { text.new.bytes ≡ text.old.bytes ++ pairs_kind fault }
@@ -98,7 +99,8 @@ fn push_pairs(text: &mut Text, fault: PairsFault)
     }
 }
 
-/// Appends the words that name a fault, with the number of the faulty line if there is one.
+/// Appends the words that name a fault to `text`, with the number of the faulty line if there is
+/// one.
 fn push_fault(text: &mut Text, fault: Fault)
     requires { array_string_len text.old ≤ 12 }
     ensures words { text.new.bytes ≡ text.old.bytes ++ fault_words fault }

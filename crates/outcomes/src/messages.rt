@@ -40,8 +40,8 @@ pub fn texts_of<'a>(alloc: Global, words: &'a [String]) -> Result<Vec<&'a str>, 
     }
 }
 
-/// Writes the line that names a fault to `err`. It takes no memory, and a failure of the writer has
-/// no effect.
+/// Writes the line that names `fault`, a fault of `program`, to `err`. Allocates no memory. A
+/// failure of the writer has no effect.
 pub fn write_fault<E: CountedWrite>(err: &mut E, program: Program, fault: Fault)
     ensures { Receives (line_of program fault) (writer (E.contents err.old) (E.failures err.old))
         (writer (E.contents err.new) (E.failures err.new)) }
@@ -51,7 +51,8 @@ pub fn write_fault<E: CountedWrite>(err: &mut E, program: Program, fault: Fault)
 }
 
 /// Writes the text that `usage` has: help to `out`, or to `err` why the words after the program's
-/// name are refused. A failure of a writer has no effect. Returns the exit status.
+/// name are refused. If memory is refused for this text, the line for `OutOfMemory` goes to `err`
+/// instead. A failure of a writer has no effect. Returns the exit status.
 pub fn write_usage<W: CountedWrite, E: CountedWrite>(
     alloc: Global,
     program: Program,

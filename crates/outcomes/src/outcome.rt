@@ -10,9 +10,10 @@ use pla_reader::{LineFault, PlaError};
 /// Why a run was refused.
 #[derive(Clone, Copy, Debug, PartialEq, Eq)]
 pub enum Fault {
-    /// The first faulty line of the file, counted from 1, and its fault.
+    /// The first faulty line of the PLA file, counted from 1, or 0 for an empty file, and its
+    /// fault.
     Line(usize, LineFault),
-    /// The file has more than 16,777,216 bytes.
+    /// The PLA file has more than 16,777,216 bytes.
     TooLong,
     /// An allocation was refused.
     OutOfMemory,
@@ -41,7 +42,7 @@ pub enum Outcome {
 
 impl Outcome {
     /// The exit status: 0 done, 1 the certificate is not valid, 3 input refused, 4 out of memory, 5
-    /// a device failed, 8 pairs refused; 6 is reserved for a store that was full.
+    /// a device failed, 8 pairs refused. 6 is the status of a full store, with which no run ends.
     pub fn status(self) -> u8
         ensures { result ≡ status_of self }
     {
@@ -57,7 +58,7 @@ impl Outcome {
         }
     }
 
-    /// Why the run was refused. None if it wasn't.
+    /// Why the run was refused. None if it wasn't, so if it ended with `Done` or `Invalid`.
     pub fn fault(self) -> Option<Fault>
         ensures refused { IfSome result (λ fault. self ≡ Outcome.Refused fault) }
         ensures done { IfNone result ((self ≡ Outcome.Done) ⊎ (self ≡ Outcome.Invalid)) }
@@ -72,7 +73,7 @@ impl Outcome {
 impl From<PlaError> for Fault {
     ghost from_gives = { λ error fault. fault ≡ refusal_of error };
 
-    /// Why a file that gives no cover is refused.
+    /// The fault of a run whose PLA file gives no cover, for the reason `error`.
     fn from(error: PlaError) -> Fault {
         match error {
             PlaError::Line(line, fault) => Fault::Line(line, fault),
@@ -86,7 +87,7 @@ impl From<PlaError> for Fault {
 impl From<CertFault> for Fault {
     ghost from_gives = { λ error fault. fault ≡ certificate_refusal error };
 
-    /// Why a text that is no certificate is refused.
+    /// The fault of a run whose text is not read as a certificate, for the reason `error`.
     fn from(error: CertFault) -> Fault {
         match error {
             CertFault::Line(line, fault) => Fault::CertificateLine(line, fault),

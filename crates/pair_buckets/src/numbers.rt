@@ -21,7 +21,7 @@ pub struct Numbered {
 }
 
 impl Numbered {
-    /// Empty lists, with room for the numbers of `pairs` pairs.
+    /// Empty lists, with room for the numbers and the masks of `pairs` pairs.
     pub fn with_room(alloc: Global, pairs: usize) -> Result<Numbered, AllocError> {
         Ok(Numbered {
             numbers: Vec::with_capacity(alloc, pairs)?,
@@ -42,8 +42,9 @@ fn low_place(x: VarIx, j: usize) -> usize
     2 * j - (j & below)
 }
 
-/// Pair j of a class table: the entry where variable x is 0, and the one where x is 1. They stand
-/// 2^x apart, because the table's set has no variable below x.
+/// Pair j of the class table `numbers`: the class number in the entry where variable x is 0, and
+/// that where x is 1, of the entries that agree otherwise. Entries of a pair stand 2^x apart,
+/// because the table's set has no variable below x.
 #[inline(always)]
 pub fn pair_at(numbers: &[u32], x: VarIx, j: usize) -> (u32, u32)
     requires paired { IsPaired numbers.now x }
@@ -58,7 +59,8 @@ pub fn pair_at(numbers: &[u32], x: VarIx, j: usize) -> (u32, u32)
 /// The odd multiplier of the hash: its multiples spread over the words of 32 bits.
 const SPREAD: u32 = 2_654_435_761;
 
-/// How many buckets are made for `pairs` pairs of numbers of `classes` classes: a power of two.
+/// How many buckets `pairs` pairs get whose class numbers are below `classes`: the smaller of
+/// `pairs + 1` and `classes * classes`, but at least 1, rounded up to a power of two.
 fn buckets_for(pairs: usize, classes: usize) -> usize
     requires pairs { pairs ≤ 2 ^ 20 }
     requires classes { classes ≤ 2 ^ 20 }
@@ -68,8 +70,9 @@ fn buckets_for(pairs: usize, classes: usize) -> usize
     most.next_power_of_two()
 }
 
-/// The factor by which the first class of a pair is multiplied to find the pair's bucket. It is the
-/// number of classes if there is then a bucket for each pair of classes, and else `SPREAD`.
+/// The factor by which the first class number of a pair is multiplied to find the pair's bucket. It
+/// is `classes`, the number of classes, if there are at least `classes * classes` buckets, so that
+/// each pair has its own. Else it is `SPREAD`.
 fn factor_for(buckets: usize, classes: usize) -> u32
     requires { classes ≤ 2 ^ 20 }
 {
@@ -80,9 +83,9 @@ fn factor_for(buckets: usize, classes: usize) -> u32
     }
 }
 
-/// Writes to `joined`, over what it has, the mask of each distinct pair of classes: that of the
-/// function whose cofactors by x = 0 and x = 1 are the two classes. `masks` has the masks of the
-/// classes.
+/// Replaces `joined` by a list of masks. Its entry k is the mask of the pair of classes with number
+/// k: that of the function whose cofactors by x = 0 and x = 1 are the two classes. Entry c of
+/// `masks` is the mask of class c.
 fn fill_masks(
     pairs: &PairNumbers,
     x: VarIx,
@@ -104,7 +107,7 @@ fn fill_masks(
     Ok(())
 }
 
-/// Whether `numbers` is 0, 1, 2 and so on, so that no two entries of the class table are equal.
+/// Whether `numbers` is 0, 1, 2 and so on. If so, no two entries of the class table are equal.
 pub fn are_own(numbers: &[u32]) -> bool
     ensures { IsTrue result → AreOwn numbers.now }
 {
@@ -116,9 +119,10 @@ pub fn are_own(numbers: &[u32]) -> bool
     true
 }
 
-/// Writes the numbers of a class table's pairs, and their masks, to `to`, over what it has.
-/// Requires all entries of the table to be different: no two pairs are then equal, and pair j gets
-/// the number j. The entries of a pair differ in x, and `masks` has the masks of the classes.
+/// Writes to `to`, in place of what it has, the numbers of a class table's pairs and the mask of
+/// each number. Requires all entries of the table to be different: no two pairs are then equal, and
+/// pair j gets the number j. The entries of a pair differ in x. Entry c of `masks` is the mask of
+/// class c.
 fn number_distinct_pairs(
     numbers: &[u32],
     x: VarIx,
@@ -141,9 +145,10 @@ fn number_distinct_pairs(
     Ok(())
 }
 
-/// Writes the number of each pair of a class table, by first occurrence, and the mask of each
-/// number to `to`, over what it has. The entries of a pair differ in x, and `masks` has the masks
-/// of the classes. `seen` is working memory.
+/// Writes to `to`, in place of what it has, the number of each pair of a class table, by first
+/// occurrence, and the mask of each number. The entries of a pair differ in x, below which the
+/// table's set has no variable. Entry c of `masks` is the mask of class c. `seen` is working
+/// memory, and may have any pairs before.
 pub fn number_pairs(
     numbers: &[u32],
     x: VarIx,
@@ -174,8 +179,8 @@ pub fn number_pairs(
 }
 
 /// The number of each pair of a class table, by first occurrence, and the mask of each number. The
-/// entries of a pair differ in x, below which the table's set has no variable, and `masks` has the
-/// masks of the classes.
+/// entries of a pair differ in x, below which the table's set has no variable. Entry c of `masks`
+/// is the mask of class c.
 pub fn numbered_pairs(
     alloc: Global,
     numbers: &[u32],

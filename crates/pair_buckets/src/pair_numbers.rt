@@ -8,22 +8,24 @@ ghost use Rattle.pair_buckets.specs.Chains.{AreChainedPairs, pairs_of, befores_o
 use std::alloc::{AllocError, Global};
 use std::marker::Model;
 
-/// A pair, and one more than the number of the pair that was put into its bucket before it, or 0 if
-/// it is the bucket's first.
+/// A pair of class numbers. `before` is one more than the number of the pair that was put into the
+/// same bucket before it, or 0 if it is the bucket's first.
 #[derive(Clone, Copy, Debug)]
 pub(crate) struct Link {
     pub(crate) pair: (u32, u32),
     pub(crate) before: u32,
 }
 
-/// Distinct pairs in the order in which they were put in; a pair's index is its number. The pairs
-/// of a bucket are chained, from the last one to the first.
+/// Distinct pairs of class numbers in the order in which they were put in. The number of a pair is
+/// its index in this order, from 0. The pairs of a bucket are chained, from the last one to the
+/// first.
 #[derive(Drop)]
 pub struct PairNumbers {
-    /// The factor by which the first class of a pair is multiplied to find the pair's bucket.
+    /// The factor by which the first class number of a pair is multiplied to find the pair's
+    /// bucket.
     factor: u32,
     links: Vec<Link>,
-    // one more than the number of the last pair of each bucket, or 0
+    // one more than the number of the last pair of each bucket, or 0 for an empty bucket
     last: Vec<u32>,
 }
 
@@ -52,8 +54,9 @@ fn bucket(factor: u32, buckets: usize, pair: (u32, u32)) -> usize
     key as usize & (buckets - 1)
 }
 
-/// The number of `pair`. None if it was not put in. Requires `home` to be the pair's bucket, whose
-/// pairs are compared from the last one to the first.
+/// The number of `pair`, its index in `links`. None if it was not put in. Requires `home` to be the
+/// pair's bucket, whose pairs are compared from the last one to the first. `last` has for each
+/// bucket one more than the number of its last pair, or 0 if it is empty.
 #[inline(always)]
 fn find(factor: u32, links: &[Link], last: &[u32], home: usize, pair: (u32, u32)) -> Option<u32>
     requires chained { AreChainedPairs factor (pairs_of links.now) (befores_of links.now) last.now }
@@ -89,7 +92,8 @@ impl PairNumbers {
     }
 
     /// Removes all pairs, and makes `buckets` buckets and room for as many pairs. `factor` is what
-    /// the first class of a pair is multiplied by to find the pair's bucket.
+    /// the first class number of a pair is multiplied by to find the pair's bucket. All pairs are
+    /// removed even if memory is refused.
     pub fn restart(&mut self, factor: u32, buckets: usize) -> Result<(), AllocError>
         requires { 0 < buckets }
         ensures { self.new ≡ [] }

@@ -1,4 +1,5 @@
-//! Numbers of pairs by first occurrence, with a cell for each possible pair of classes.
+//! Numbers of pairs by first occurrence, with a cell of 16 bits for each possible pair of classes.
+//! These cells are entries of an array; the cells of sets are something else.
 
 ghost use Rattle.std.specs.Prelude.{◌≡◌, ℕ, ◌+◌, ◌*◌, ◌/◌, ◌^◌, ◌<◌, ◌≤◌, length, slice_index, take, IfOk, IfSome};
 ghost use Rattle.pair_numbering.specs.Cells.{AreCelled};
@@ -18,10 +19,10 @@ const MOST_NUMBERS: usize = 65_535;
 /// often be mispredicted.
 const MANY_NEW: usize = 4;
 
-/// Writes the numbers of a block's pairs to `out` and to the pairs' cells, and the masks of new
-/// numbers to `joined`. `from` is how many numbers there were before; returns how many there are
-/// then. If `EVENLY` is true a mask is written for each pair, without a branch on whether it is
-/// new.
+/// Writes the numbers of the pairs of block number `block` to `out` and, plus one, to the pairs'
+/// cells, and the masks of new numbers to `joined`. `from` is how many numbers there were before;
+/// returns how many there are then. If `EVENLY` is true a mask is written for each pair, without a
+/// branch on whether it is new.
 #[inline(always)]
 fn number_block<const EVENLY: bool>(
     pairs: &MaskedPairs<'_>,

@@ -1,5 +1,6 @@
-//! Numbers of pairs by first occurrence, without hashing: the pairs with one lower class form a
-//! chain, in which equal pairs are found by a mark for each upper class.
+//! Numbers of pairs by first occurrence, without hashing. A pair has a lower class, where the
+//! variable is 0, and an upper class, where it is 1. The pairs with one lower class form a chain,
+//! in which equal pairs are found by a mark for each upper class.
 
 ghost use Rattle.std.specs.Prelude.{◌≡◌, ℕ, ◌+◌, ◌*◌, ◌/◌, ◌^◌, ◌<◌, ◌≤◌, length, slice_index, IfOk};
 ghost use Rattle.pair_numbering.specs.Chains.{AreHeads, AreLinks, AreFirsts, AreFirstsOf, AreRowsFor, KeepsOthers};
@@ -10,8 +11,9 @@ use crate::entries::EntryPairs;
 use crate::numbers::NumberedPairs;
 use std::alloc::{AllocError, Global};
 
-/// Pairs of entries, in a chain for each lower class: `heads` has the first pair of each class, and
-/// `next` the pair after each pair. The number of pairs stands for the end of a chain.
+/// Pairs of entries, in a chain for each lower class: `heads[c]` is the first pair with the lower
+/// class c, and `next[j]` the pair after pair j in its chain. The number of pairs stands for the
+/// end of a chain.
 #[derive(Drop)]
 struct Chains<'e, 'r> {
     entries: &'e EntryPairs<'e>,
@@ -40,9 +42,10 @@ impl<'e, 'r> Chains<'e, 'r> {
     }
 }
 
-/// Chains the pairs by their lower class. Writes the first pair of each class to `heads`, and to
-/// `next`, for each pair, the next one with the same lower class. The number of pairs stands for
-/// the end of a chain. Requires that all entries of `heads` are the number of pairs before.
+/// Chains the pairs by their lower class. Writes to `heads[c]` the first pair with the lower class
+/// c, and to `next[j]` the next pair after pair j with the same lower class. The number of pairs
+/// stands for the end of a chain. Requires that all entries of `heads` are the number of pairs
+/// before.
 fn chain(entries: &EntryPairs<'_>, heads: &mut [u32], next: &mut [u32])
     requires paired { IsPaired entries.now.numbers entries.now.rank }
     requires classes { AllBelow entries.now.numbers (length heads.old) }
@@ -62,7 +65,7 @@ fn chain(entries: &EntryPairs<'_>, heads: &mut [u32], next: &mut [u32])
 }
 
 /// Numbers the pairs by first occurrence: the number of each pair, and the pair of each number.
-/// `first[j]` is the first pair that is equal to pair j.
+/// `first[j]` is the least i for which pair i is equal to pair j.
 pub(crate) fn number_firsts(
     alloc: Global,
     entries: &EntryPairs<'_>,
@@ -92,9 +95,9 @@ pub(crate) fn number_firsts(
     })
 }
 
-/// Writes to `first`, for each pair whose lower class is `lower`, the first pair that is equal to
-/// it. In this chain `marks[u]` is the first pair with the upper class u if `stamps[u]` is `lower +
-/// 1`; a smaller stamp is left from another chain.
+/// For each pair j whose lower class is `lower`, writes to `first[j]` the least i for which pair i
+/// is equal to pair j. In this chain `marks[u]` is the first pair with the upper class u if
+/// `stamps[u]` is `lower + 1`; a smaller stamp is left from another chain.
 #[inline(always)]
 fn walk_chain(
     chains: &Chains<'_, '_>,
@@ -128,8 +131,8 @@ fn walk_chain(
     }
 }
 
-/// Writes to `first`, for each pair, the first pair that is equal to it, chain by chain. `stamps`
-/// and `marks` are working memory; requires that `stamps` is all 0 before.
+/// For each pair j, writes to `first[j]` the least i for which pair i is equal to pair j, chain by
+/// chain. `stamps` and `marks` are working memory; requires that `stamps` is all 0 before.
 #[inline(always)]
 fn first_occurrences(
     chains: &Chains<'_, '_>,
@@ -147,9 +150,9 @@ fn first_occurrences(
     }
 }
 
-/// Writes to `first`, for each pair, the first pair that is equal to it. `heads`, `next`, `stamps`
-/// and `marks` are working memory, which may hold anything before. Requires that all classes are
-/// below the length of `heads`.
+/// For each pair j, writes to `first[j]` the least i for which pair i is equal to pair j. `heads`,
+/// `next`, `stamps` and `marks` are working memory, which may hold anything before. Requires that
+/// all classes are below the length of `heads`.
 pub fn first_pairs(
     entries: &EntryPairs<'_>,
     heads: &mut [u32],
@@ -173,7 +176,8 @@ pub fn first_pairs(
     first_occurrences(&chains, stamps, marks, first);
 }
 
-/// For each pair the first pair that is equal to it. Requires that all classes are below `classes`.
+/// For each pair j the least i for which pair i is equal to pair j. Requires that all classes are
+/// below `classes`.
 pub(crate) fn find_first_pairs(
     alloc: Global,
     entries: &EntryPairs<'_>,

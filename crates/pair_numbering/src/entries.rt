@@ -1,4 +1,6 @@
-//! Pairs of a table's entries, wherever they stand: in a row, or in pairs of strips.
+//! Pairs of a table's entries, wherever they stand: in a row, or in pairs of strips. Pairs come in
+//! blocks of 2^rank: the entries of a block at which the variable is 0 stand one behind the other,
+//! and so do those at which it is 1. The blocks of a layer are something else.
 
 ghost use Rattle.std.specs.Prelude.{◌≡◌, ℕ, ◌+◌, ◌*◌, ◌/◌, ◌^◌, ◌<◌, ◌≤◌, length, slice_index, get_or, IfSome};
 ghost use Rattle.subfunction_classes.specs.Places as places;
@@ -42,8 +44,8 @@ pub(crate) struct BlockHalves<'a> {
     pub(crate) high: &'a [u32],
 }
 
-/// The numbers of the two strips of a block of pairs: where the variable is 0, and where it is 1.
-/// If `names` is None, they stand side by side.
+/// The numbers of the two strips of block number `block`: where the variable is 0, and where it is
+/// 1. If `names` is None, they stand side by side: strips 2 * `block` and 2 * `block` + 1.
 #[inline(always)]
 fn strips_of(names: Option<&[(u32, u32)]>, block: usize) -> (usize, usize)
     requires named { IfSome names (λ r. block < length r.now) }

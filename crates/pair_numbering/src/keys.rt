@@ -19,9 +19,9 @@ use subfunction_classes::join_mask;
 /// occurrence.
 const MOST_JOINED: usize = 16;
 
-/// A number for each pair, equal for equal pairs and no others, and the mask of each number: the
-/// variables that the functions of its pair depend on. If `all_used` is true, each entry of `masks`
-/// is that of a number that occurs.
+/// `numbers[j]` is the number of pair j, equal for equal pairs and no others, and `masks[k]` the
+/// mask of number k: the variables that the functions of its pair depend on. If `all_used` is true,
+/// each entry of `masks` is that of a number that occurs.
 #[derive(Drop)]
 pub struct PairKeys {
     pub numbers: Vec<u32>,
@@ -88,8 +88,8 @@ fn join_key_masks(alloc: Global, masks: &[Mask], x: VarIx) -> Result<Vec<Mask>, 
 }
 
 /// A number for each pair, equal for equal pairs and no others, and the mask of each number. Pairs
-/// get joined numbers if these are few, and no more than the entries, else numbers by first
-/// occurrence.
+/// get joined numbers if there are at most `MOST_JOINED` classes, and no more joined numbers than
+/// entries, else numbers by first occurrence.
 pub fn label_pairs(alloc: Global, pairs: &MaskedPairs<'_>) -> Result<PairKeys, AllocError>
     ensures tells { IfOk result
         (λ v. TellsPairs pairs.now.masks.now pairs.now.x

@@ -1,5 +1,5 @@
-//! How many pairs have each class as their lower class. A pair whose lower class no other pair has
-//! is equal to no other pair.
+//! How many pairs have each class as their lower class, the class where the variable is 0. A pair
+//! whose lower class no other pair has is equal to no other pair.
 
 ghost use Rattle.std.specs.Prelude.{◌≡◌, ◌+◌, ◌/◌, ◌^◌, ◌<◌, ◌≤◌, length, IfOk};
 ghost use Rattle.subfunction_classes.specs.PairTables.{AllBelow, IsPairTable};
@@ -13,13 +13,15 @@ use std::alloc::{AllocError, Global};
 #[derive(Drop)]
 pub(crate) struct CountedPairs<'e> {
     pub(crate) entries: &'e EntryPairs<'e>,
-    /// At each class 0, 1, or 2 for two or more pairs. All are 0 if the pairs weren't counted.
+    /// `counts[c]` is how many pairs have the lower class c: 0, 1, or 2 for two or more. All are 0
+    /// if the pairs weren't counted.
     pub(crate) counts: &'e [u8],
     ghost classes: { AllBelow entries.now.numbers (length counts.now) },
     ghost lone: { AreLone (places.pairs entries.now.numbers (2 ^ entries.now.rank)) counts.now },
 }
 
-/// Adds the pairs of a block to `counts`, each at its lower class: 0, 1, or 2 for two or more.
+/// Adds the pairs of block number `block` to `counts`, each at its lower class: 0, 1, or 2 for two
+/// or more.
 #[inline(always)]
 fn count_block(entries: &EntryPairs<'_>, block: usize, counts: &mut [u8])
     requires few { length entries.now.numbers ≤ 2 ^ 20 }

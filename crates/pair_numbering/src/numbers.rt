@@ -14,18 +14,18 @@ use crate::slots::number_pairs_by_slots;
 use definitions::Mask;
 use std::alloc::{AllocError, Global};
 
-/// The most cells for each pair with which pairs are numbered by cells.
+/// Pairs are numbered by cells if there are at most this many cells for each pair.
 const MOST_CELLS_PER_PAIR: usize = 16;
 
-/// The number of each pair, and the mask of each number: the variables that its functions depend
-/// on.
+/// `numbers[j]` is the number of pair j, and `masks[k]` the mask of number k: the variables that
+/// the functions of its pair depend on.
 #[derive(Drop)]
 pub struct MaskedNumbers {
     pub numbers: Vec<u32>,
     pub masks: Vec<Mask>,
 }
 
-/// The number of each pair, and the pair of each number.
+/// `numbers[j]` is the number of pair j, and `pairs[k]` the pair with the number k.
 #[derive(Drop)]
 pub struct NumberedPairs {
     pub numbers: Vec<u32>,
@@ -33,8 +33,8 @@ pub struct NumberedPairs {
 }
 
 /// Numbers the pairs by first occurrence: the number of each pair, and the pair of each number. It
-/// does so by slots, or by chains if slots are crowded. Requires that all classes are below
-/// `classes`.
+/// does so by slots, or by chains if slots are crowded or too few. Requires that all classes are
+/// below `classes`.
 pub fn number_entries(
     alloc: Global,
     entries: &EntryPairs<'_>,
@@ -54,7 +54,8 @@ pub fn number_entries(
 }
 
 /// Numbers the pairs by first occurrence: the number of each pair, and the mask of each number. It
-/// does so by a cell for each pair of classes if these are few, else by slots or chains.
+/// does so by a cell for each pair of classes if there are at most `MOST_CELLS_PER_PAIR` cells for
+/// each pair and the numbers fit into them, else by slots or chains.
 pub fn number_with_masks(
     alloc: Global,
     pairs: &MaskedPairs<'_>,

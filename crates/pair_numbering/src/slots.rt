@@ -14,7 +14,7 @@ use std::alloc::{AllocError, Global};
 /// The most slots that are tried for a pair.
 const TRIES: usize = 64;
 
-/// How many slots there are for each pair.
+/// How many slots there are for each pair, beside the `TRIES` slots at the end.
 const SLOTS_PER_PAIR: usize = 4;
 
 /// The factor of Fibonacci hashing: 2^64 divided by the golden ratio, rounded down.
@@ -33,9 +33,9 @@ fn home(homes: usize, pair: (u32, u32)) -> usize
     ((high * homes as u64) >> 32) as usize
 }
 
-/// The first of the `TRIES` slots from `home` on that has `pair` or is free; None if there is none.
-/// `keys` has the pair of each of the `count` numbers, and next to them `pair` itself, which is
-/// what a free slot is taken to have.
+/// The first of the `TRIES` slots from `home` on that has the number of `pair` or is free; None if
+/// there is none. `keys[k]` is the pair of number k for each k below `count`, and `keys[count]` is
+/// `pair` itself: a free slot is taken to have the number `count`.
 #[inline(always)]
 fn find_slot(
     slots: &[u16],
@@ -57,9 +57,9 @@ fn find_slot(
     None
 }
 
-/// Writes the numbers of a block's pairs to `out`, and new pairs to `keys` and their numbers to
-/// `slots`. `count` is how many numbers there were before; returns how many there are then, or None
-/// if a pair finds no slot.
+/// Writes the numbers of the pairs of block number `block` to `out`, and new pairs to `keys` and
+/// their numbers to `slots`. `count` is how many numbers there were before; returns how many there
+/// are then, or None if a pair finds no slot.
 #[inline(always)]
 fn number_block(
     pairs: &CountedPairs<'_>,
@@ -97,8 +97,9 @@ fn number_block(
     Some(count)
 }
 
-/// Writes the number of each pair to `out`, and the pair of each number to `keys`. Returns how many
-/// numbers there are, or None if a pair finds no slot.
+/// Writes the number of each pair to `out`, and the pair of each number to `keys`. Requires that
+/// all `slots` are free before: they have the number of pairs. Returns how many numbers there are,
+/// or None if a pair finds no slot.
 #[inline(always)]
 fn number_blocks(
     pairs: &CountedPairs<'_>,

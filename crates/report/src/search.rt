@@ -28,7 +28,7 @@ pub(crate) struct Sifting {
     pub(crate) sifted: Order,
     /// The number of nodes under the order after one pass.
     pub(crate) size: u32,
-    /// The order whose size bounds the search.
+    /// The order that sifting on found, whose size bounds the search.
     pub(crate) bound: Sifted,
 }
 
@@ -53,7 +53,7 @@ fn sift<R: Threads + Sync>(
     })
 }
 
-/// Makes a manager of `starting`, ready to be sifted among the orders that keep the pairs. Requires
+/// Makes the manager by which `starting` is sifted among the orders that keep the pairs. Requires
 /// that `starting` is the diagram under the starting order.
 fn manager_of(
     alloc: Global,
@@ -69,8 +69,8 @@ fn manager_of(
     Ok(manager)
 }
 
-/// Prepares the search. `size` is the number of nodes under the starting order and serves as the
-/// bound, because sifting has found none yet.
+/// Prepares the search. `size` is the number of nodes under the starting order; it serves as the
+/// bound, cut to 2^20, because sifting has found none yet.
 fn prepare_below<'a, R: Threads + Sync>(
     rt: &R,
     alloc: Global,

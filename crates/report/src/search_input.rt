@@ -24,11 +24,11 @@ pub(crate) struct SearchInput<'a> {
     pub ghost are_its_pairs: { pairs.now.inputs ≡ cover.now.inputs },
 }
 
-/// The fewest entries of truth tables that are worth threads.
+/// The fewest entries of truth tables, of all outputs together, that are worth threads.
 const ENTRIES_WORTH_THREADS: usize = 1 << 14;
 
 impl SearchInput<'_> {
-    /// The workers for sifting and preparing, before the search: `self.workers`, or one if the
+    /// The workers for building diagrams and preparing the search: `self.workers`, or one if the
     /// truth tables are too small for threads.
     pub(crate) fn busy_workers(&self) -> Workers {
         let problem = self.tables.problem();

@@ -10,8 +10,8 @@ use order_model::{VarIx, total};
 use std::alloc::{AllocError, Global};
 use std::fmt::Write;
 
-/// The bytes that are reserved for a report, or for that of `--count`, besides the names of its
-/// inputs. They suffice for the fixed words and at most 51 numbers.
+/// How many bytes are reserved for a report, or for that of `--count`, besides those for the names
+/// of its inputs. They suffice for the fixed words and at most 51 numbers.
 const LONGEST: usize = 1024;
 
 /// Appends `numbers` to `text`, each after a space.

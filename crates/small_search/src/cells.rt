@@ -27,10 +27,11 @@ fn cheaper(best: Option<Cell>, next: Cell) -> Cell
     }
 }
 
-/// The cell of `set`, as if the set were lawful: the least sum, over its members, of the cost of
-/// the set without the member and the member's width, and the smallest member that gives it.
-/// Members without which the cost exceeds `NO_BOUND` don't count. None if no member counts. `cells`
-/// has the cells of all smaller masks, and `subfunctions` are those over the set.
+/// The cell of `set`, as if the set were lawful: the least sum, over its members x, of the cost of
+/// the set without x and the width of x over that set, and the smallest x that gives it. An x for
+/// which the set without x costs more than `NO_BOUND` doesn't count. None if no member counts.
+/// `cells[m]` is the cell of the set with the mask m, for all masks below `set`, and `subfunctions`
+/// are those over `set`.
 #[inline(always)]
 fn best_cell(
     search: &SmallSearch<'_>,
@@ -65,10 +66,10 @@ fn best_cell(
     best
 }
 
-/// The cell of `set`. `cells` has the cells of all smaller masks, and `subfunctions` are those over
-/// the set. Requires that `lawful` is true exactly if the set is lawful. If it is not, or if the
-/// cost exceeds `NO_BOUND` without each of its members, the cell has a cost above `NO_BOUND` and
-/// the smallest member.
+/// The cell of `set`. `cells[m]` is the cell of the set with the mask m, for all masks below `set`,
+/// and `subfunctions` are those over `set`. Requires that `lawful` is true exactly if the set is
+/// lawful. If it is not, or if for each member x the set without x costs more than `NO_BOUND`, the
+/// cell has a cost above `NO_BOUND` and the smallest member.
 pub(crate) fn cell_of_set(
     search: &SmallSearch<'_>,
     cells: &[Cell],

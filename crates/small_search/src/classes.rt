@@ -21,7 +21,8 @@ const SPREAD: u32 = 2_654_435_761;
 /// first of their bucket.
 const BUCKETS_EACH: usize = 8;
 
-/// For each value over three variables, the places of the variables that it depends on, as a mask.
+/// `PLACES[v]`, for each value v over three variables, has the places of the variables that v
+/// depends on, as a mask.
 const PLACES: [u8; 256] = [
     0, 7, 7, 6, 7, 5, 7, 7, 7, 7, 5, 7, 6, 7, 7, 4, 7, 3, 7, 7, 7, 7, 7, 7, 7, 7, 7, 7, 7, 7, 7, 7,
     7, 7, 3, 7, 7, 7, 7, 7, 7, 7, 7, 7, 7, 7, 7, 7, 6, 7, 7, 2, 7, 7, 7, 7, 7, 7, 7, 7, 6, 7, 7, 6,
@@ -108,8 +109,9 @@ fn masks_by_places(variables: &[VarIx; 4]) -> [Mask; 16]
     masks
 }
 
-/// Overwrites `masks` with a mask for each of `pairs`, in the order of their numbers: those of the
-/// four `variables` on which the function depends whose two halves, as truth tables, are the pair.
+/// Overwrites `masks` with a mask for each of `pairs`, in the order of their numbers. A pair is the
+/// two halves of a function's truth table over the four `variables`, and its mask has those of the
+/// four on which the function depends.
 fn write_masks(
     pairs: &PairNumbers,
     variables: &[VarIx; 4],
@@ -144,8 +146,8 @@ fn value_pair(values: &[u8], x: VarIx, j: usize) -> (u32, u32)
 }
 
 /// Writes the class table of `set` to `to`, over what was there. Requires that `set` has four
-/// variables. `values` are those over the set without its lowest variable x. `seen` is working
-/// memory.
+/// variables. `values` are those of all subfunctions over the set without its lowest variable x.
+/// `seen` is working memory.
 pub(crate) fn number_values(
     values: &[u8],
     x: VarIx,

@@ -11,8 +11,8 @@ use order_model::{Mask, Pairs, Problem};
 use std::alloc::{AllocError, Global};
 use std::marker::Model;
 
-/// A bound that exceeds any cost: a cost is at most 16 widths of at most 2^20 each, and 16 nodes
-/// may stand above.
+/// A bound that exceeds the cost of each lawful set: such a cost is at most 16 widths of at most
+/// 2^20 each, and at most 16 nodes are counted above the set.
 pub(crate) const NO_BOUND: u32 = 1 << 25;
 
 /// The input of a search: the truth tables of some functions, packed in words of 64 points, one

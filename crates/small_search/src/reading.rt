@@ -11,8 +11,8 @@ use order_model::{Mask, VarIx};
 use subset_layers::Cell;
 
 /// Writes to `order` the order that `cells` gives, from the top down: the variable in the cell of
-/// the set of all variables, then the one in the cell of the set without it, and so on. `cells` has
-/// the cell of each set, at its mask.
+/// the set of all variables, then the one in the cell of the set without it, and so on. `cells[m]`
+/// is the cell of the set with the mask m.
 fn read_variables(search: &SmallSearch<'_>, cells: &[Cell], order: &mut [VarIx])
     requires cells { AreFlatCells search.now cells.now }
     requires long { length order.old ≡ search.now.problem.inputs }

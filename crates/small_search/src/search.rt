@@ -91,10 +91,10 @@ fn subfunctions_in<'a>(
     }
 }
 
-/// Finds the cell of `set`. `cells` has the cells of all smaller masks. Requires that `tables` are
-/// those on the way to the set whose mask is smaller by 1, and turns them into those on the way to
-/// `set`. If `all_lawful` is true, the set counts as lawful without a test; this requires that
-/// there are no pairs.
+/// Finds the cell of `set`. `cells[m]` is the cell of the set with the mask m, for all masks below
+/// `set`. Requires that `tables` are those on the way to the set whose mask is smaller by 1, and
+/// turns them into those on the way to `set`. If `all_lawful` is true, the set counts as lawful
+/// without a test; this requires that there are no pairs.
 #[inline(always)]
 fn next_cell(
     search: &SmallSearch<'_>,
@@ -118,8 +118,8 @@ fn next_cell(
     Ok(cell_of_set(search, cells, &subfunctions, set, lawful))
 }
 
-/// Overwrites `cells` with the cells of all sets, each at its set's mask. `tables` is working
-/// memory.
+/// Overwrites `cells` with the cells of all sets: `cells[m]` becomes that of the set with the mask
+/// m. `tables` is working memory.
 fn find_cells(
     alloc: Global,
     search: &SmallSearch<'_>,
@@ -169,8 +169,8 @@ pub fn write_optimum(
     Ok(read_optimum(search, &workspace.cells, order, levels))
 }
 
-/// The cells of all sets of `problem`'s variables, each at its set's mask. Requires that `pairs`
-/// are of these variables.
+/// The cells of all sets of `problem`'s variables: at index m that of the set with the mask m.
+/// Requires that `pairs` are of these variables.
 fn all_cells(alloc: Global, problem: &Problem, pairs: &Pairs) -> Result<Vec<Cell>, AllocError>
     requires { pairs.now.inputs ≡ problem.now.inputs }
     ensures { IfOk result (λ v. AreFlatCells (plain_instance problem.now pairs.now) v.items) }

@@ -21,8 +21,9 @@ use std::alloc::{AllocError, Global};
 /// over more as its class number.
 pub(crate) const MOST_VALUE_VARIABLES: u32 = 3;
 
-/// The tables of the subfunctions over the sets on the way to a set: the sets of its k highest
-/// variables, for each k. Their memory is used again for the next sets and searches.
+/// The tables of the subfunctions over the sets on the way to a set S: for each k from 0 to the
+/// size of S, those over the k highest variables of S. Their memory is used again for the next sets
+/// and searches.
 #[derive(Drop)]
 pub(crate) struct PathTables {
     /// How many values there are over no variable: one for each function and point.
@@ -67,8 +68,9 @@ pub(crate) fn values_over(values: &[u8], entries: usize, size: u32) -> &[u8]
 }
 
 /// Writes to `values` the values over `size` variables, of which x is the lowest. Each joins two
-/// values over the others: the lower bits are the one where x is 0. `values` has the values over 0,
-/// 1, 2 and 3 variables, one size after the other, with `entries` of size 0. Other sizes stay.
+/// values over the other variables: the one where x is 0 becomes its lower bits, the one where x is
+/// 1 its upper bits. `values` has the values over 0, 1, 2 and 3 variables, one size after the
+/// other, with `entries` of size 0. Other sizes stay.
 #[inline(always)]
 fn make_values(values: &mut [u8], entries: usize, x: VarIx, size: u32)
     requires some { 1 ≤ size }

@@ -28,8 +28,8 @@ fn push_values(values: &mut Vec<u8>, words: &[u64], inputs: u8) -> Result<(), Al
     Ok(())
 }
 
-/// Writes to `values` the values of all functions of `search` at all points, function by function.
-/// Requires that `values` is empty before.
+/// Writes to `values` the value, 0 or 1, of each function of `search` at each point, function by
+/// function. Requires that `values` is empty before.
 pub(crate) fn push_points(values: &mut Vec<u8>, search: &SmallSearch<'_>) -> Result<(), AllocError>
     requires { values.old.items ≡ [] }
     ensures { OnOk result (values.new.items ≡ map weight (values_of search.now.problem)) }
@@ -41,8 +41,8 @@ pub(crate) fn push_points(values: &mut Vec<u8>, search: &SmallSearch<'_>) -> Res
 }
 
 /// Writes to `values` one value for each pair of values in `before` whose assignments differ in
-/// variable x alone: the one where x is 0 in the lowest `shift` bits, and the one where x is 1
-/// above them. Requires that `step` is 2^x, the distance of the two.
+/// variable x alone. Its lowest `shift` bits are the one where x is 0, its upper bits the one where
+/// x is 1. Requires that `step` is 2^x, the distance of the two in `before`.
 #[inline(always)]
 fn join_blocks(before: &[u8], x: VarIx, step: usize, shift: u32, values: &mut [u8])
     requires paired { IsPaired before.now x }
@@ -62,8 +62,9 @@ fn join_blocks(before: &[u8], x: VarIx, step: usize, shift: u32, values: &mut [u
 }
 
 /// Writes to `values` one value for each pair of values in `before` whose assignments differ in
-/// variable x alone: the one where x is 0 in the lowest `shift` bits, and the one where x is 1
-/// above them. The two stand 2^x apart. Each x below 3 has a loop of its own, which is faster.
+/// variable x alone. Its lowest `shift` bits are the one where x is 0, its upper bits the one where
+/// x is 1. The two stand 2^x apart in `before`. Each x below 3 has a loop of its own, which is
+/// faster.
 pub(crate) fn join_values(before: &[u8], x: VarIx, shift: u32, values: &mut [u8])
     requires paired { IsPaired before.now x }
     requires shift { shift ≤ 4 }

@@ -21,9 +21,9 @@ pub(crate) enum Subfunctions<'a> {
     Classes(&'a [Mask]),
 }
 
-/// For each place the values over three variables that depend on the variable there. Value v has
-/// bit v % 64 of word v / 64. A value over fewer variables depends on the same places if it is read
-/// as one over three.
+/// At index p the values over three variables that depend on the variable at place p, where place 0
+/// has the highest: bit v % 64 of word v / 64 is 1 if value v does. A value over fewer variables
+/// depends on the same places if it is read as one over three.
 const DEPENDENT: [[u64; 4]; 3] = [
     [
         0x6ff6ffffffff6ff6,
@@ -45,8 +45,8 @@ const DEPENDENT: [[u64; 4]; 3] = [
     ],
 ];
 
-/// The values over three variables that depend on the variable at `place`. Value v has bit v % 64
-/// of word v / 64.
+/// The values over three variables that depend on the variable at `place`, counted from the highest
+/// variable: bit v % 64 of word v / 64 is 1 if value v does.
 fn dependent_values(place: u32) -> [u64; 4]
     requires { place < 3 }
     ensures { AreDependent place result }
@@ -54,8 +54,8 @@ fn dependent_values(place: u32) -> [u64; 4]
     DEPENDENT[place as usize]
 }
 
-/// How many of the values in `occurring` depend on the variable at `place`. Value v has bit v % 64
-/// of word v / 64.
+/// How many of the values in `occurring` depend on the variable at `place`. In `occurring` bit v %
+/// 64 of word v / 64 is 1 if value v occurs.
 #[inline(always)]
 pub(crate) fn count_dependent(occurring: &[u64; 4], place: u32) -> u32
     requires { place < 3 }

@@ -18,14 +18,14 @@ use subset_layers::{Cell, Costs};
 /// How the cells of all sets are stored.
 #[derive(Drop)]
 enum Storage {
-    /// By layers: at index k the cells of the sets of k variables.
+    /// By layers: at index k the cells of the sets of k variables, from 0 to all of them.
     Layers(Vec<Costs>),
     /// The cell of each set, at the index that is the set's mask.
     Flat(Vec<Cell>),
 }
 
 /// The cells of all sets of a problem instance's variables. Some order that keeps the instance's
-/// pairs has at most the instance's bound as its size.
+/// pairs has no more nodes than the instance's bound.
 #[derive(Drop)]
 pub struct AllCells<'a> {
     instance: &'a Instance<'a>,
@@ -43,8 +43,8 @@ impl<'a> Model for AllCells<'a> {
     ghost invariant = { λ a. HoldsCells a.instance.now a.storage };
 }
 
-/// The layer in `layers` that has the sets of `size` variables. `layers` has all layers by rising
-/// size.
+/// The layer in `layers` that has the sets of `size` variables. Requires that `layers` has all
+/// layers, from size 0 on.
 fn layer_of<'c>(instance: &Instance<'_>, layers: &'c [Costs], size: u32) -> &'c Costs
     requires layers { AreAllLayers instance.now layers.now }
     requires few { size ≤ instance.now.problem.inputs }
@@ -57,8 +57,9 @@ fn layer_of<'c>(instance: &Instance<'_>, layers: &'c [Costs], size: u32) -> &'c 
 impl<'a> AllCells<'a> {
     ghost use Rattle.solutions.specs.Bounded.{IsBounded};
 
-    /// The cells of all sets, from `layers`, all layers by rising size. Requires that some order
-    /// that keeps the instance's pairs has at most the instance's bound as its size.
+    /// The cells of all sets, from `layers`: `layers[k]` has those of the sets of k variables.
+    /// Requires that some order that keeps the instance's pairs has no more nodes than the
+    /// instance's bound.
     pub fn of_layers(instance: &'a Instance<'a>, layers: Vec<Costs>) -> AllCells<'a>
         requires bounded { IsBounded instance.now }
         requires layers { AreAllLayers instance.now layers.items }
@@ -70,9 +71,8 @@ impl<'a> AllCells<'a> {
         }
     }
 
-    /// The cells of all sets, from `cells`, which has the cell of each set at the index that is the
-    /// set's mask. Requires that some order that keeps the instance's pairs has at most the
-    /// instance's bound as its size.
+    /// The cells of all sets, from `cells`: `cells[m]` is that of the set with the mask m. Requires
+    /// that some order that keeps the instance's pairs has no more nodes than the instance's bound.
     pub fn of_cells(instance: &'a Instance<'a>, cells: Vec<Cell>) -> AllCells<'a>
         requires bounded { IsBounded instance.now }
         requires cells { AreFlatCells instance.now cells.items }

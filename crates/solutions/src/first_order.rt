@@ -44,8 +44,9 @@ pub(crate) fn read_order(alloc: Global, cells: &AllCells<'_>) -> Result<Order, A
     Ok(Order::from_variables(variables))
 }
 
-/// The level counts of `order`, top first: by how much the cost falls when each variable is taken
-/// off the top. Requires that `order` is the one that `read_order` returns for `cells`.
+/// The level counts of `order`, top first. That of a variable is the cost of the set of it and all
+/// below it, less the cost of the set of those below it. Requires that `order` is the one that
+/// `read_order` returns for `cells`.
 pub(crate) fn level_counts(
     alloc: Global,
     cells: &AllCells<'_>,

@@ -8,8 +8,9 @@ ghost use Rattle.subfunction_classes.specs.Dependence.{joined_mask};
 
 use definitions::{Mask, VarIx, contains};
 
-/// The mask of the function whose cofactors by x = 0 and x = 1 are the two classes of `pair`: the
-/// union of the masks of both, with x added if they differ. `masks` has the mask of each class.
+/// The mask of the function whose cofactors by x = 0 and x = 1 are the classes `pair.0` and
+/// `pair.1`: the union of the masks of both, with x added if they differ. Entry c of `masks` is the
+/// mask of class c.
 #[inline(always)]
 pub fn join_mask(masks: &[Mask], x: VarIx, pair: (u32, u32)) -> Mask
     requires variable { x < 16 }

@@ -22,8 +22,8 @@ pub struct Cell {
     pub variable: VarIx,
 }
 
-/// A finished layer: its sets and their cells. The layer of the empty set has the cost 0, and no
-/// cell.
+/// A finished layer: its sets, each with its cell. The layer of the empty set has no cell, and the
+/// cost of the empty set is 0.
 #[derive(Drop)]
 pub struct Costs {
     layer: Layer,
@@ -59,7 +59,8 @@ impl Costs {
         })
     }
 
-    /// A finished layer, with a cell for each of its sets, in the layer's order.
+    /// The finished layer `layer`, whose sets have the cells `cells`, in the layer's order.
+    /// Requires a cell for each set, and that the layer is not that of the empty set.
     pub fn of(layer: Layer, cells: Vec<Cell>) -> Costs
         requires inputs { layer.inputs ≤ 16 }
         requires size { 0 < layer.size }
@@ -98,7 +99,8 @@ impl Costs {
         }
     }
 
-    /// The cost of a set of the layer. None for a set of another layer.
+    /// The cost of a set of the layer: that of its cell, or 0 for the empty set. None for a set of
+    /// another layer.
     pub fn cost_of(&self, mask: Mask) -> Option<u32>
         ensures value { result ≡ cost_at self.now mask }
         ensures some { IsSome result ↔ IsTrue

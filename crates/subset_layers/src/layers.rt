@@ -35,15 +35,15 @@ impl Model for Layer {
         (layer_with l.inputs l.size) l.masks.numbers.items l.lows.numbers.items };
 }
 
-/// The sets of a layer whose masks have one low byte: they have the same members among the
-/// variables 0 to 7.
+/// The sets of a layer whose masks have one low byte, so the same members among the variables 0 to
+/// 7.
 #[derive(Drop)]
 pub struct Block {
     inputs: u8,
     size: u8,
-    /// The low byte of all masks.
+    /// The low byte that all masks of the block have.
     low: u8,
-    /// How many masks there are.
+    /// How many masks the block has.
     count: usize,
     /// The masks, rising, in the first `count` entries.
     masks: [u16; 256],
@@ -62,7 +62,7 @@ impl Model for Block {
         × (b.low < 2 ^ b.inputs) };
 }
 
-/// For each mask below 2^`inputs`, whether it has `size` members.
+/// Entry k of 2^`inputs`: whether the mask k has `size` members.
 fn size_flags(alloc: Global, inputs: u8, size: u8) -> Result<Vec<bool>, AllocError>
     requires { inputs ≤ 16 }
     ensures { IfOk result
@@ -76,7 +76,7 @@ fn size_flags(alloc: Global, inputs: u8, size: u8) -> Result<Vec<bool>, AllocErr
     Ok(flags)
 }
 
-/// For each number below `limit`, whether it is the low byte of one of the masks. Requires `limit`
+/// Entry k: whether k is the low byte of one of the masks. Requires `limit`, the number of entries,
 /// to be 256.
 fn low_flags(alloc: Global, masks: &[u16], limit: usize) -> Result<Vec<bool>, AllocError>
     requires { limit ≡ 256 }
@@ -150,7 +150,7 @@ impl Layer {
         self.masks.numbers.len()
     }
 
-    /// The mask at place `i` of the layer.
+    /// The mask at place `i`, counted from 0, of the layer's masks in rising order.
     pub fn mask_at(&self, i: usize) -> Mask
         requires { i < length (masks_of self.now) }
         ensures { slice_get (masks_of self.now) i ≡ Some result }
@@ -158,7 +158,8 @@ impl Layer {
         self.masks.numbers[i]
     }
 
-    /// The place of `mask` in the layer, counted from 0. None if the layer doesn't have it.
+    /// The place of `mask`, counted from 0, among the layer's masks in rising order. None if the
+    /// layer doesn't have it.
     pub fn position(&self, mask: Mask) -> Option<usize>
         ensures found { IfSome result (λ i. slice_get (masks_of self.now) i ≡ Some mask) }
         ensures none { IsNone result ↔ IsFalse (has (masks_of self.now) mask) }
@@ -173,8 +174,8 @@ impl Layer {
         self.lows.numbers.len()
     }
 
-    /// The place, among the blocks by rising low byte, of the block that has the mask at place `i`
-    /// of the layer.
+    /// The place, counted from 0, of the block that has the mask at place `i` of the layer. Blocks
+    /// are arranged by rising low byte.
     pub fn block_place(&self, i: usize) -> usize
         requires { i < length (masks_of self.now) }
         ensures place { result ≡ block_place self.now i }
@@ -253,7 +254,7 @@ impl Block {
         &self.masks[..self.count]
     }
 
-    /// The mask at place `i` of the block.
+    /// The mask at place `i`, counted from 0, of the block's masks in rising order.
     pub fn mask(&self, i: usize) -> Mask
         requires { i < length (block_masks self.now) }
         ensures { slice_get (block_masks self.now) i ≡ Some result }

@@ -18,7 +18,7 @@ struct Sum {
     variable: VarIx,
 }
 
-/// `best` if there is one and its sum is no larger than that of `next`, else `next`.
+/// `best` if it is not None and its sum is at most that of `next`, else `next`.
 fn smaller(best: Option<Sum>, next: Sum) -> Sum
     ensures none { best ≡ None → result ≡ next }
     ensures some { IfSome best
@@ -30,9 +30,9 @@ fn smaller(best: Option<Sum>, next: Sum) -> Sum
     }
 }
 
-/// The least sum `below[x] + widths[x]` over the members x of a set, with the smallest x that gives
-/// it. `below[x]` is the cost of the set without x, and `widths[x]` the width of x. Members with
-/// `below[x]` above the bound are left out; None if all are.
+/// The least sum `below[x] + widths[x]` over the members x of a set with `below[x]` at most the
+/// bound, and the smallest x that gives it. `below[x]` is the cost of the set without x, and
+/// `widths[x]` the width of x. None if each `below[x]` exceeds the bound.
 fn best_sum(mask: Mask, inputs: u8, below: &[u32; 16], widths: &WidthRow, bound: u32) -> Option<Sum>
     requires few { inputs ≤ 16 }
     requires within { mask < 2 ^ inputs }
@@ -68,9 +68,10 @@ fn clipped_cell(mask: Mask, bound: u32) -> Cell
 }
 
 /// The cell of a lawful set that isn't empty: the least sum `below[x] + widths[x]` over its members
-/// x, and the smallest x that gives this sum. `below[x]` is the cost of the set without x, and
-/// `widths[x]` the width of x. The set is pruned if each `below[x]` exceeds the bound, or the sum
-/// plus the lower bound on the nodes above does.
+/// x with `below[x]` at most the bound, and the smallest x that gives this sum. `below[x]` is the
+/// cost of the set without x, and `widths[x]` the width of x. If there is no such x, or the sum
+/// plus the lower bound on the nodes above exceeds the bound, the set is pruned: its cell has the
+/// bound plus 1 and the smallest member.
 fn lawful_cell(
     mask: Mask,
     inputs: u8,
@@ -104,9 +105,10 @@ fn lawful_cell(
     }
 }
 
-/// The cell of a set that is not empty. `below[x]` is the cost of the set without its member x, and
-/// `widths[x]` the width of x. Only the widths of members with `below[x]` at most the bound are
-/// needed, or those of all members if the lower bound is by widths.
+/// The cell of a set that is not empty; a set that is not lawful is pruned. `below[x]` is the cost
+/// of the set without its member x, and `widths[x]` the width of x. Only the widths of members with
+/// `below[x]` at most the bound are needed, or those of all members if the lower bound is by
+/// widths.
 pub fn cell_from(
     mask: Mask,
     below: &[u32; 16],

@@ -10,7 +10,8 @@ use std::alloc::{AllocError, Global};
 pub(crate) struct Selection {
     /// The chosen numbers, rising.
     pub numbers: Vec<u16>,
-    /// Entry k: the place of k in `numbers`, if k is chosen.
+    /// Entry k: the place of k in `numbers`, counted from 0, if k is chosen. Other entries have no
+    /// meaning.
     pub places: Vec<u16>,
     ghost placed: { ArePlaced numbers.items places.items },
 }
@@ -18,7 +19,7 @@ pub(crate) struct Selection {
 impl Selection {
     ghost use Rattle.subset_layers.specs.Selections.{chosen};
 
-    /// The numbers k for which `flags[k]` is true.
+    /// The numbers k for which `flags[k]` is true, rising, with the table of their places.
     pub fn of(alloc: Global, flags: &[bool]) -> Result<Selection, AllocError>
         requires { length flags.now ≤ 2 ^ 16 }
         ensures { IfOk result (λ s. s.numbers.items ≡ chosen flags.now) }
@@ -44,7 +45,7 @@ impl Selection {
         })
     }
 
-    /// The place of a number among those chosen. None if it isn't chosen.
+    /// The place, counted from 0, of `number` in `numbers`. None if it isn't chosen.
     pub fn position(&self, number: u16) -> Option<usize>
         ensures found { IfSome result (λ i. slice_get self.now.numbers.items i ≡ Some number) }
         ensures none { IsNone result → (i : ℕ) → i < length self.now.numbers.items →

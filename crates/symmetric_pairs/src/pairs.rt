@@ -39,8 +39,8 @@ fn next_symmetric(problem: &Problem, a: VarIx) -> Option<VarIx>
     None
 }
 
-/// For each variable the pair with the next larger one such that all functions are symmetric in
-/// both, if there is one; the smaller variable comes first.
+/// For each variable a the pair (a, b) in which b is the smallest variable above a such that all
+/// functions are symmetric in both; no pair for a if there is no such b.
 fn symmetric_pairs(alloc: Global, problem: &Problem) -> Result<Pairs, AllocError>
     ensures inputs { IfOk result (λ p. p.inputs ≡ problem.now.inputs) }
     ensures pairs { IfOk result
@@ -60,7 +60,7 @@ fn symmetric_pairs(alloc: Global, problem: &Problem) -> Result<Pairs, AllocError
 }
 
 /// The pairs that a search keeps if the caller requires those in `asked`: these, or, if there are
-/// none, pairs of variables in which all functions are symmetric, the smaller one first.
+/// none, pairs (a, b) with a < b such that all functions are symmetric in a and b.
 pub fn pairs_to_keep(alloc: Global, problem: &Problem, asked: &Pairs) -> Result<Pairs, AllocError>
     requires { asked.now.inputs ≡ problem.now.inputs }
     ensures inputs { IfOk result (λ p. p.inputs ≡ problem.now.inputs) }

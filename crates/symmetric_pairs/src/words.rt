@@ -23,8 +23,9 @@ fn changes_inside(word: u64, a: VarIx, b: VarIx) -> bool
     ((word >> apart) ^ word) & with_a != 0
 }
 
-/// Whether at some point where `a` is 1 the bit of `lower` differs from the bit of `upper` at the
-/// point that has 0 instead for `a`.
+/// Whether exchanging `a` with a variable that is 0 at the points of `lower` and 1 at those of
+/// `upper` changes these words: whether, for some k below 64 in which bit `a` is 1, bit k of
+/// `lower` differs from bit k - 2^a of `upper`.
 #[inline(always)]
 fn changes_across(lower: u64, upper: u64, a: VarIx) -> bool
     requires { a < 6 }
@@ -94,8 +95,8 @@ fn is_symmetric_between(words: &[u64], r: u8, s: u8) -> bool
     true
 }
 
-/// Whether the function with the packed truth table `words` is symmetric in `a` and `b`: equal at
-/// each two points that differ only in which of `a` and `b` is 1.
+/// Whether the function of `inputs` variables with the packed truth table `words` is symmetric in
+/// `a` and `b`: equal at each two points that differ only in which of `a` and `b` is 1.
 pub(crate) fn is_symmetric_in(words: &[u64], inputs: u8, a: VarIx, b: VarIx) -> bool
     requires few { inputs ≤ 16 }
     requires long { length words.now ≡ words_per_table inputs }

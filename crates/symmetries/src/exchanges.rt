@@ -17,9 +17,9 @@ use std::marker::Model;
 /// image of each set, which has the partners of the set's members.
 #[derive(Drop)]
 pub struct Exchange {
-    /// The partner of each variable, at the variable's number.
+    /// `partners[x]` is the partner of the variable x.
     partners: Vec<VarIx>,
-    /// The image of each set, at the set's mask.
+    /// `images[m]` is the image of the set with the mask m.
     images: Vec<Mask>,
 }
 
@@ -34,9 +34,9 @@ impl Model for Exchange {
 impl Exchange {
     ghost use Rattle.definitions.specs.Problems.{TruthTables};
 
-    /// The exchange that `partners` lists: at each variable's number its partner. None if the list
-    /// has not one of the `inputs` variables for each of them, or if a variable isn't its partner's
-    /// partner.
+    /// The exchange that `partners` lists: `partners[x]` is the partner of x. None if the list
+    /// hasn't exactly one of the `inputs` variables for each of them, or if a variable isn't its
+    /// partner's partner.
     pub(crate) fn of(
         alloc: Global,
         inputs: u8,
@@ -55,8 +55,8 @@ impl Exchange {
     }
 
     /// The exchange that `partners` lists, if no function changes under it. None if some function
-    /// changes, or if the list is no exchange. `points` has at each point's number the values of
-    /// all functions there, as one number.
+    /// changes, or if the list is no exchange. `points[p]` has the values of all functions at point
+    /// p, as one number.
     fn if_alike(
         alloc: Global,
         inputs: u8,
@@ -77,14 +77,15 @@ impl Exchange {
         Ok(Some(exchange))
     }
 
-    /// The partner of each variable, at the variable's number.
+    /// The partners of all variables: entry x is the partner of x.
     pub fn partners(&self) -> &[VarIx]
         ensures { result.now ≡ self.now.partners }
     {
         &self.partners
     }
 
-    /// The image of each set, at the set's mask: the partners of its members.
+    /// The images of all sets: at index m that of the set with the mask m, which has the partners
+    /// of its members.
     pub fn images(&self) -> &[Mask]
         ensures { result.now ≡ self.now.images }
     {
@@ -96,7 +97,7 @@ impl Exchange {
 /// exchanges, or pairs that orders must keep, lead from one to the other.
 #[derive(Clone, Copy)]
 struct Groups {
-    /// For each variable the representative of its group.
+    /// `representative[x]` is the representative of the group of x.
     representative: [VarIx; 16],
 }
 
@@ -131,8 +132,8 @@ impl Groups {
         }
     }
 
-    /// Unites the group of each variable with that of its partner. `partners` has the partners at
-    /// the variables' numbers; partners above 15 are ignored.
+    /// Unites the group of each variable with that of its partner. `partners[x]` is the partner of
+    /// x; partners above 15 are ignored.
     fn join_partners(&mut self, partners: &[VarIx; 16]) {
         for x in 0..16 {
             let partner = partners[x as usize];
@@ -150,8 +151,8 @@ impl Groups {
         self.representative[x as usize] != self.representative[y as usize]
     }
 
-    /// Whether two of the `inputs` variables have equal marks and are in different groups. `marks`
-    /// has each variable's mark at its number.
+    /// Whether two of the `inputs` variables have equal marks and are in different groups.
+    /// `marks[x]` is the mark of x.
     fn have_equal_marks(&self, inputs: u8, marks: &[u32; 16]) -> bool
         requires { inputs ≤ 16 }
     {
@@ -173,7 +174,7 @@ const MOST_FAILURES: u8 = 8;
 #[derive(Drop)]
 struct Search<'a> {
     problem: &'a Problem,
-    /// At each point's number the values of all functions there, as one number.
+    /// `points[p]` has the values of all functions at point p, as one number.
     points: Vec<u16>,
     marks: Marks,
     /// The groups of variables so far. No exchange is sought of two variables in one group.
@@ -236,12 +237,14 @@ impl<'a> Search<'a> {
 
 /// Finds exchanges of `problem`'s variables under which no function changes. Chains of them should
 /// lead from each variable to any other that it may be exchanged with, but some exchanges may be
-/// missed. None are sought of two variables that `pairs` connect.
+/// missed. None are sought of two variables that `pairs` connect, directly or through other
+/// variables.
 ///
 /// At most n - 1 exchanges of n variables are found, and after `MOST_FAILURES` tried ones that
 /// change a function the search ends. The test of one takes a step for each point. If no two
-/// variables have equal marks by `quick_marks`, none is tried. Each variable is tried with near
-/// smaller ones first, so that few sets have no greater image.
+/// variables that `pairs` don't connect have equal marks by `quick_marks`, none is tried. Each
+/// variable is tried with the nearest smaller ones first: then there are few sets that no found
+/// exchange takes to a greater mask.
 pub fn exchanges_of(
     alloc: Global,
     problem: &Problem,

@@ -40,7 +40,8 @@ fn add_variable(images: &mut Vec<Mask>, partner: VarIx) -> Result<(), AllocError
     Ok(())
 }
 
-/// The image of each set of the `inputs` variables, at the set's mask: the partners of its members.
+/// The images of all sets of the `inputs` variables: at index m that of the set with the mask m,
+/// which has the partners of its members.
 pub(crate) fn images_of(
     alloc: Global,
     inputs: u8,
@@ -58,8 +59,8 @@ pub(crate) fn images_of(
     Ok(images)
 }
 
-/// Whether each point has the same entry in `values` as its image. `images` has each point's image,
-/// at the point's number.
+/// Whether each point has the same entry in `values` as its image. `images[p]` is the image of
+/// point p.
 pub(crate) fn are_alike(values: &[u16], images: &[Mask]) -> bool
     requires long { length images.now ≡ length values.now }
     requires inside { (p : ℕ) → p < length images.now →

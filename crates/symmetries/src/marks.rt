@@ -90,8 +90,8 @@ fn copy_upper(sums: &[u32], half: usize, upper: &mut [u32])
 }
 
 /// For each variable y below x the mark of x and y: the sum of the hashes of the points at which
-/// both are 1. `sums` has for each assignment of the variables below x the sum over the points with
-/// this assignment at which x is 1; it is overwritten.
+/// both are 1. The other entries are 0. `sums` has for each assignment of the variables below x the
+/// sum over the points with this assignment at which x is 1; it is overwritten.
 fn marks_below(sums: &mut [u32], x: VarIx) -> [u32; 16]
     requires variable { x < 16 }
     requires sums { 2 ^ x ≤ length sums.old }
@@ -109,15 +109,15 @@ fn marks_below(sums: &mut [u32], x: VarIx) -> [u32; 16]
 /// of all functions' values there.
 #[derive(Drop)]
 pub(crate) struct Marks {
-    /// The mark of each variable.
+    /// `own[x]` is the mark of x.
     own: [u32; 16],
-    /// For each variable, and each smaller one, the mark of the two.
+    /// `below[x][y]`, for each y below x, is the mark of x and y.
     below: [[u32; 16]; 16],
 }
 
 impl Marks {
-    /// The marks of `inputs` variables. `points` has at each point's number the values of all
-    /// functions there, as one number.
+    /// The marks of `inputs` variables. `points[p]` has the values of all functions at point p, as
+    /// one number.
     pub(crate) fn of(alloc: Global, inputs: u8, points: &[u16]) -> Result<Marks, AllocError>
         requires few { inputs ≤ 16 }
         requires points { length points.now ≡ 2 ^ inputs }

@@ -12,9 +12,9 @@ use order_model::{Mask, VarIx, contains};
 struct Matching {
     /// The number of variables.
     inputs: u8,
-    /// The variables that have a partner.
+    /// The variables that have a partner, as a mask.
     placed: Mask,
-    /// At each variable's number its partner, if it has one.
+    /// `of[x]` is the partner of x if x is in `placed`; else it has no meaning.
     of: [VarIx; 16],
     ghost few: { inputs ≤ 16 },
     ghost variables: { (x : ℕ) → x < 16 → slice_index of x < 16 },
@@ -74,8 +74,9 @@ impl Matching {
         found
     }
 
-    /// Of the variables without a partner, the one with the fewest candidates for a partner, and
-    /// the mask of these candidates. None if each variable has a partner.
+    /// Of the variables without a partner, the one with the fewest candidates for a partner (the
+    /// lowest of several), and the mask of these candidates, which may be empty. None if each
+    /// variable has a partner.
     fn next(&self, marks: &Marks) -> Option<(VarIx, Mask)>
         ensures { IfSome result (λ r. r.0 < 16) }
     {
@@ -109,9 +110,10 @@ fn chosen(x: VarIx, candidates: Mask) -> Option<VarIx>
     Some(candidates.trailing_zeros() as VarIx)
 }
 
-/// Guesses an exchange of x with y: at each variable's number its partner. The marks suggest the
-/// partners, and the variable with the fewest candidates gets its partner first. None if the marks
-/// don't allow x and y as partners, or if a variable is left without candidates.
+/// Guesses an exchange of x with y: entry z of the result is the partner of z, for each of the
+/// `inputs` variables. The marks suggest the partners, and the variable with the fewest candidates
+/// gets its partner first. None if the marks don't allow x and y as partners, or if a variable is
+/// left without candidates.
 pub(crate) fn partners_of(marks: &Marks, inputs: u8, x: VarIx, y: VarIx) -> Option<[VarIx; 16]>
     requires few { inputs ≤ 16 }
     requires first { x < 16 }

@@ -10,15 +10,15 @@ use order_model::{Mask, Pairs, Problem, VarIx};
 use std::alloc::{AllocError, Global};
 use std::marker::Model;
 
-/// The image of a set under exchanges: the set to which they take it, and at each variable's number
-/// the variable to which they take it.
+/// The image of a set under exchanges: `set` is the set to which they take it, and `variables[x]`
+/// the variable to which they take x.
 #[derive(Clone, Copy)]
 pub struct Image {
     pub set: Mask,
     pub variables: [VarIx; 16],
 }
 
-/// The list in which each variable stands at its number.
+/// The list in which entry x is x.
 fn own_variables() -> [VarIx; 16]
     ensures { (x : ℕ) → x < 16 → slice_index result x ≡ x }
 {
@@ -39,8 +39,8 @@ fn partner_of(partners: &[VarIx], x: VarIx) -> VarIx
     }
 }
 
-/// The partner of each of `variables`, in the same places. `partners` has the partners at the
-/// variables' numbers; where it has none the result is 0.
+/// The partner of each of `variables`, in the same order. `partners[x]` is the partner of x; for
+/// variables that `partners` doesn't have, the result has 0.
 fn moved(variables: &[VarIx; 16], partners: &[VarIx]) -> [VarIx; 16]
     ensures { (x : ℕ) → x < 16 →
         slice_index result x ≡ slice_index partners.now (slice_index variables.now x) }
@@ -106,7 +106,7 @@ impl Image {
 struct Reached {
     /// The sets of the present orbit, in the order in which they were reached.
     sets: Vec<Mask>,
-    /// For each set, at its mask, whether it was seen, in the present orbit or one before.
+    /// `seen[m]`: whether the set with the mask m was seen, in the present orbit or one before.
     seen: Vec<bool>,
 }
 
@@ -121,8 +121,8 @@ impl Reached {
         })
     }
 
-    /// Marks `set` as seen. Returns true if it was not seen before, false if it was or if it is no
-    /// set of the variables.
+    /// Marks `set` as seen. Returns true if it was not seen before, false if it was, or if the
+    /// problem lacks one of its variables.
     fn see(&mut self, set: Mask) -> bool {
         match self.seen.get_mut(usize::from(set)) {
             Some(seen) if !*seen => {
@@ -134,7 +134,8 @@ impl Reached {
     }
 }
 
-/// The image of each set of `inputs` variables under no exchange, at the set's mask.
+/// The images of all sets of `inputs` variables under no exchange: at index m that of the set with
+/// the mask m.
 fn own_images(alloc: Global, inputs: u8) -> Result<Vec<Image>, AllocError>
     requires { inputs ≤ 16 }
     ensures { (p : TruthTables) → p.inputs ≤ 16 →
@@ -155,7 +156,8 @@ pub struct Orbits<'a> {
     problem: &'a Problem,
     /// The exchanges that were found. The number of one is its index.
     exchanges: Vec<Exchange>,
-    /// The image of each set, at its mask, in the first set of its orbit.
+    /// `images[m]` says where exchanges take the set with the mask m, and each variable along with
+    /// it: to the first set of its orbit.
     images: Vec<Image>,
 }
 
@@ -291,7 +293,8 @@ impl<'a> Orbits<'a> {
         Ok(())
     }
 
-    /// Whether `set` is the first set of its orbit. True of each set that isn't lawful.
+    /// Whether `set` is the first set of its orbit. True of each set that isn't lawful, or that has
+    /// a variable which the problem lacks.
     pub fn is_first(&self, set: Mask) -> bool {
         match self.images.get(usize::from(set)) {
             Some(image) => image.set == set,

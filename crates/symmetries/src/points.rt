@@ -26,8 +26,8 @@ fn append_bits(values: &mut Vec<u16>, words: &[u64], before: u8)
     }
 }
 
-/// At each point's number the values of all functions there, as one number with a bit for each
-/// function.
+/// The values of all functions at each point p, at index p, as one number: the last function's
+/// value is its lowest bit, the one before that the next bit, and so on.
 pub(crate) fn values_by_point(alloc: Global, problem: &Problem) -> Result<Vec<u16>, AllocError>
     ensures long { IfOk result (λ v. length v.items ≡ 2 ^ problem.now.inputs) }
     ensures labels { IfOk result (λ v. TellValues problem.now v.items) }

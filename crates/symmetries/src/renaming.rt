@@ -52,8 +52,8 @@ fn set_values(renamed: &mut Problem, problem: &Problem, images: &[Mask], output:
     }
 }
 
-/// The problem whose functions have at each point the values that those of `problem` have at the
-/// point's image. `images` has each point's image, at the point's number.
+/// The problem whose functions have at each point p the values that those of `problem` have at
+/// `images[p]`.
 fn renamed_problem(alloc: Global, problem: &Problem, images: &[Mask]) -> Result<Problem, AllocError>
     requires long { length images.now ≡ 2 ^ problem.now.inputs }
     requires inside { (k : ℕ) → k < 2 ^ problem.now.inputs →
@@ -71,9 +71,9 @@ fn renamed_problem(alloc: Global, problem: &Problem, images: &[Mask]) -> Result<
     Ok(renamed)
 }
 
-/// The partners, at the variables' numbers, by which the k members of `set` become the k lowest
-/// variables: each member from k on is exchanged with a variable below k that is outside the set.
-/// All other variables are their own partners.
+/// An exchange by which the k members of `set` become the k lowest variables: entry x of the result
+/// is the partner of x. Each member from k on is exchanged with a variable below k that is outside
+/// the set. All other variables are their own partners.
 fn partners_to_lower(inputs: u8, set: Mask) -> [VarIx; 16]
     requires { inputs ≤ 16 }
 {
@@ -202,8 +202,8 @@ impl<'a> Renaming<'a> {
         }
     }
 
-    /// `pairs` with each variable replaced by its partner; no pairs if no order keeps the replaced
-    /// ones.
+    /// `pairs` with each variable replaced by the one to which the renaming takes it; no pairs if
+    /// no order keeps the replaced ones.
     pub fn pairs(&self, alloc: Global, pairs: &Pairs) -> Result<Pairs, AllocError> {
         let Some(renamed) = &self.renamed else {
             return Ok(pairs.copied());

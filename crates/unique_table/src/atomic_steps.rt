@@ -6,7 +6,10 @@ use crate::plan::Plan;
 use crate::session::View;
 use atomic_table::{Join, Play, Split, TableRule};
 
-/// The invariant of a store's words, which every step of every session keeps.
+/// The invariant of a store's words, which every step of every session keeps: no two nodes are
+/// equal, and each node's children are in the store and lie below it; each filled cache entry has
+/// the right result, and each published id denotes its piece's function; what a session saw still
+/// stands.
 pub struct Words;
 
 impl TableRule<(), View, Plan> for Words {
@@ -29,7 +32,7 @@ impl Play<(), View> for Puts {
     ghost then = { puts };
 }
 
-/// The step that stores the id of a piece's function in the word of the piece.
+/// The step that stores the id of a piece's function, plus 1, in the word of the piece.
 pub(crate) struct Publishes;
 
 impl Play<(), View> for Publishes {
@@ -57,7 +60,8 @@ impl Play<(), View> for Remembers {
     ghost then = { remembers };
 }
 
-/// How the view of a seat is split in two, and how the views of two seats are joined.
+/// How the view of a seat is split in two, each with half of its stake, and how the views of two
+/// seats are joined into one, with the sum of their stakes.
 pub(crate) struct Both;
 
 impl Split<View> for Both {

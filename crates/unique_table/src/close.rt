@@ -1,4 +1,4 @@
-//! Closing a store.
+//! Closing a store, and the diagram of a closed store.
 
 ghost use Rattle.std.specs.Prelude.{◌≡◌, ◌^◌, ◌<◌, ◌≤◌, length, slice_index, IfOk, IfErr, OnOk, map};
 ghost use Rattle.std.specs.Slots.{slots_len};
@@ -25,15 +25,16 @@ pub enum CloseFault {
     OutOfMemory,
 }
 
-/// A store that was closed, so that no session writes to it any more: the words that it ended with.
+/// A store that was closed: the words that it ended with. No session writes to them any more.
 pub struct ClosedStore {
     /// The words that the store ended with.
     pub(crate) closed: Closed<(), Global>,
-    /// How many of the words, the first ones, are places for nodes.
+    /// How many places for nodes the store has. Their words are the first ones.
     pub(crate) places: usize,
-    /// The index of the word of output 0; the words of the other outputs follow it.
+    /// The index, among all words, of the word of the root of output 0. The words of the other
+    /// roots follow, by rising output.
     pub(crate) first: usize,
-    /// How many outputs there are.
+    /// How many outputs, and so roots, there are.
     pub(crate) roots: u8,
     /// The order of the variables.
     pub(crate) order: Order,
@@ -61,9 +62,9 @@ impl Drop for ClosedStore {
 }
 
 impl ClosedStore {
-    /// Makes the reduced diagram of the store's functions: their published roots and the nodes that
-    /// the roots reach. The error gives the closed store back, with the reason: the least output
-    /// whose root was not published, or `OutOfMemory`.
+    /// Makes the reduced diagram, under the store's order, of its functions, from their published
+    /// roots and the nodes that the roots reach. The error gives the closed store back, with the
+    /// reason: the least output whose root was not published, or `OutOfMemory`.
     pub fn diagram(self, alloc: Global) -> Result<Diagram, (ClosedStore, CloseFault)>
         ensures roots { OnOk result (HasAllRoots self) }
         ensures order { IfOk result (λ d. d.order ≡ order_of self.plan) }

@@ -18,7 +18,7 @@ const CACHE_PLACES: usize = 65_536;
 /// The number of words of the largest store, which has 1,024 parts of outputs and 16 outputs.
 const MOST_WORDS: usize = NODE_PLACES + CACHE_PLACES + 1_024 + 16;
 
-/// The words of an empty store, all 0. No page of them is made while they are only read.
+/// The words of an empty store, all 0. No page of memory is made for them while they are only read.
 static BLANK: [u64; MOST_WORDS] = [0; MOST_WORDS];
 
 /// How many places for nodes a store has.
@@ -43,8 +43,7 @@ pub(crate) fn blank_words(count: usize) -> &'static [u64]
     &BLANK[..count]
 }
 
-/// Turns `pieces`, by which the caller says what the parts of outputs are, into the form of a
-/// store's plan. Terms are copied.
+/// The kind of parts that a store's plan has if its caller gives `pieces`. Terms are copied.
 pub(crate) fn kind_of(alloc: Global, pieces: Pieces<'_>) -> Result<PieceKind, AllocError>
     ensures { IfOk result (λ kind. IsKind kind pieces.entry) }
 {
@@ -68,9 +67,9 @@ fn top_assignments(order: &Order) -> usize
     if order.len() < 2 { 2 } else { 4 }
 }
 
-/// How many parts all outputs together have, of which there are `outputs`. A part is a cofactor by
-/// the two variables on top (by one if there is no other), or the disjunction of some terms of an
-/// output.
+/// How many parts the `outputs` outputs of a store have together. By `kind`, the parts of an output
+/// are its cofactors by the top two variables of `order` (by the only one if there is no other), or
+/// `TERM_SHARES` disjunctions of its terms.
 pub(crate) fn parts_count(kind: &PieceKind, order: &Order, outputs: u8) -> usize
     requires { outputs ≤ 16 }
     ensures is { (t : TruthTables) → outputs ≡ outputs_of t →

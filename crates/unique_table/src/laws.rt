@@ -12,8 +12,10 @@ pub fn equal_functions_have_equal_ids()
     ensures functions { EqualIdsHaveEqualFunctions }
 {}
 
-/// Each step on a word keeps the store's invariant, changes the words as its kind allows, and adds
-/// to its session's view what its kind allows.
+/// Each step keeps the store's invariant, writes no word but its own, and adds to its session's
+/// view what it read or wrote. `look`, `collect` and `recall` write no word. `put` fills an empty
+/// place and leaves a filled one as it is. `publish` changes no id that was published before.
+/// `remember` writes a cache entry, so nodes and pieces stay.
 pub fn steps_are_of_their_kinds()
     ensures look { Looks }
     ensures put { Puts }
@@ -23,17 +25,18 @@ pub fn steps_are_of_their_kinds()
     ensures remember { Remembers }
 {}
 
-/// A seat with the whole stake in a store is the store's only one, and stays so while it makes
-/// steps. If two sessions have at least the two halves of a stake, the session joined from them has
-/// at least that stake.
+/// A seat with the whole stake in a store is the store's only one. A session with the whole stake
+/// still has it after it made steps. If two sessions have at least the two halves of a stake, the
+/// session joined from them has at least that stake.
 pub fn whole_stakes_are_alone()
     ensures only { WholesAreAlone }
     ensures stays { AloneStaysAlone }
     ensures joined { HalvesJoin }
 {}
 
-/// If the words of a closed store have no root for an output, and this is the least such output,
-/// then the session that closed the store did not know this root to be published.
+/// If a closed store lacks the roots of some outputs, the session that closed it did not know the
+/// root of the least of them to be published. If the session was the store's only one, it knew the
+/// roots of all lesser outputs.
 pub fn sessions_lack_what_is_empty()
     ensures { SessionsLackWhatIsEmpty }
 {}

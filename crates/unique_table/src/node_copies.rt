@@ -21,8 +21,8 @@ fn word_at(closed: &Closed<(), Global>, places: usize, place: usize) -> u64
     closed.word(place)
 }
 
-/// Appends to `nodes` the copy `node` of the store's node at `place`, and returns the ref to the
-/// copy. Sets the number of `place` in `numbers` to the copy's index plus 1.
+/// Appends `node`, the copy of the store's node at place `place`, to `nodes`, and returns the ref
+/// to it. Sets the number of `place` in `numbers` to the copy's index in `nodes` plus 1.
 fn add(
     numbers: &mut Numbers,
     nodes: &mut Vec<Node>,
@@ -44,10 +44,10 @@ fn add(
 }
 
 /// Copies the node with id `id` and all nodes that it reaches to the end of `nodes`, children
-/// first, and returns the ref to the copy; a terminal's id gives the terminal. Nodes that have a
-/// copy are not copied again: `numbers` has for each place of the store 0, or the index of the copy
-/// in `nodes` plus 1, and gets those of the new copies. The first `places` words of `closed` are
-/// node words, and `order` has the variable of each level.
+/// first, and returns the ref to the copy of the node. A terminal's id gives the terminal. Nodes
+/// that have a copy are not copied again: `numbers` has for each place of the store 0, or the index
+/// of the copy in `nodes` plus 1, and gets those of the new copies. The first `places` words of
+/// `closed` are node words, and `order` has the variable of each level.
 pub(crate) fn copy(
     closed: &Closed<(), Global>,
     places: usize,

@@ -9,15 +9,17 @@ use std::marker::Model;
 /// How many places a page has.
 const PAGE: usize = 64;
 
-/// A number for each place, 0 at first. The places in use stand on pages that are allocated, and
-/// all others share a page of zeros, so that memory is taken for the pages in use alone.
+/// A number for each place, counted from 0. All numbers are 0 at first. Places stand on pages of
+/// 64. Pages on which a number was set have memory of their own, and all others share one page of
+/// zeros.
 #[derive(Drop)]
 pub(crate) struct Numbers {
     /// How many places there are.
     places: usize,
-    /// Entry k: the page of the places from 64 k on; page 0 is the one of zeros.
+    /// Entry k: which page of `numbers` has the places from 64 * k to 64 * k + 63. Page 0 is the
+    /// shared page of zeros.
     pages: Vec<usize>,
-    /// The numbers on all pages, page by page.
+    /// The numbers of all pages, 64 for each, page by page.
     numbers: Vec<u32>,
 }
 
@@ -33,9 +35,9 @@ impl Model for Numbers {
         × (n.places ≤ length n.pages.items * 64) };
 }
 
-/// Returns the index of the page that has the places from 64 * `part` to 64 * `part` + 63. If this
-/// was the shared page of zeros, a page of their own is first appended to `numbers` and entered in
-/// `pages`.
+/// Returns the index of the page that has the places from 64 * `part` to 64 * `part` + 63. If these
+/// places have the shared page of zeros, a new page of zeros is first appended to `numbers` for
+/// them, and entered in `pages`. The number of each place stays.
 fn open_page(
     pages: &mut Vec<usize>,
     numbers: &mut Vec<u32>,
@@ -71,7 +73,7 @@ impl Numbers {
         })
     }
 
-    /// The number of `place`.
+    /// The number of the place `place`: 0 if none was set.
     pub fn get(&self, place: usize) -> u32
         requires { place < length self.now }
         ensures { result ≡ slice_index self.now place }

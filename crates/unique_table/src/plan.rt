@@ -24,8 +24,9 @@ pub struct Plan {
     pub kind: PieceKind,
 }
 
-/// How many parts each output of a cover has. Part i has those of the output's terms whose number
-/// leaves the remainder i when divided by `TERM_SHARES`.
+/// How many parts each output of a cover has. Part i is the disjunction of those of the output's
+/// terms whose index in the cover's list of terms leaves the remainder i when divided by
+/// `TERM_SHARES`.
 pub const TERM_SHARES: usize = 64;
 
 /// What the parts of a store's outputs are.
@@ -33,8 +34,8 @@ pub const TERM_SHARES: usize = 64;
 pub enum Pieces<'a> {
     /// Each part is an output with the top two variables, or the only one, fixed.
     Tables,
-    /// Part i of an output is the disjunction of those of its terms whose number leaves the
-    /// remainder i when divided by `TERM_SHARES`.
+    /// Part i of an output is the disjunction of those of its terms whose index in this list leaves
+    /// the remainder i when divided by `TERM_SHARES`. The list has the terms of all outputs.
     Terms(&'a [Term]),
 }
 
@@ -58,7 +59,7 @@ impl Model for TermList {
 pub enum PieceKind {
     /// Each part is an output with the top two variables, or the only one, fixed.
     Restrictions,
-    /// Part i of an output is the disjunction of those of its terms whose number leaves the
-    /// remainder i when divided by `TERM_SHARES`.
+    /// Part i of an output is the disjunction of those of its terms whose index in this list leaves
+    /// the remainder i when divided by `TERM_SHARES`. The list has the terms of all outputs.
     Products(Snapshot<TermList>),
 }

@@ -13,7 +13,7 @@ use atomic_table::Closed;
 use order_model::{Node, Ref, VarIx};
 use std::alloc::{AllocError, Global};
 
-/// Nodes, each after its children, and a ref for each root.
+/// Nodes, each after its children, and a ref for each id that was given, in the order of the ids.
 #[derive(Drop)]
 pub(crate) struct Reached {
     pub nodes: Vec<Node>,

@@ -4,7 +4,8 @@ use crate::plan::Plan;
 use atomic_table::Seat;
 use std::marker::Model;
 
-/// The id of a node: 0 and 1 are the terminals, and the node at place p has p + 2.
+/// The id of a node or terminal: 0 and 1 are the terminals, and the node at place p of the store
+/// has p + 2.
 pub type NodeId = u32;
 
 /// A thread's own view of a store: what it knows of the store's words.
@@ -36,26 +37,26 @@ pub struct Stake {
 
 /// What a session knows. Only contracts see it, and no value of it is made.
 pub struct View {
-    /// Whether the session was not joined into another one.
+    /// False once the session was joined into another one.
     pub live: bool,
-    /// Whether a step followed the last join into the session, if there was one.
+    /// False from a join into the session until the session's next step.
     pub current: bool,
     /// The session's stake in the store.
     pub stake: Stake,
     /// The store's plan.
     pub plan: Plan,
-    /// The words of nodes as the session saw them.
+    /// The node word of each place as the session saw it. 0 if it saw no node there.
     pub seen: [u64; 0],
-    /// The words of nodes as the session saw them that was joined into this one. Empty from the
-    /// next step on.
+    /// The node words that the session knew that was joined into this one. Empty from the next step
+    /// on.
     pub received: [u64; 0],
-    /// The words of nodes that this session put into the store, or that a session did from which
-    /// this one was split or joined.
+    /// The words of nodes that this session put into the store, or a session from which it was
+    /// split or joined.
     pub made: [u64; 0],
-    /// The words of pieces as the session saw them.
+    /// The word of each piece as the session saw it: the published id plus 1. 0 if it saw none.
     pub pieces: [u64; 0],
-    /// The words of pieces as the session saw them that was joined into this one. Empty from the
-    /// next step on.
+    /// The words of pieces that the session knew that was joined into this one. Empty from the next
+    /// step on.
     pub pieces_received: [u64; 0],
     /// How many atomic steps the session made, with those of sessions that were joined into it.
     pub steps: u64,

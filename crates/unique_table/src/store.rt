@@ -58,9 +58,9 @@ impl Model for Store {
 pub struct StoreFull;
 
 impl Store {
-    /// An empty store for the functions of a problem under an order, and its first session.
-    /// `pieces` says what the parts of outputs are. If it has terms, requires them to give the
-    /// problem's functions.
+    /// An empty store for the functions of a problem under an order, and its first session, which
+    /// has the whole stake. `pieces` says what the parts of outputs are. If `pieces` has terms,
+    /// requires these terms to give the problem's functions.
     pub fn new(
         alloc: Global,
         order: Order,
@@ -135,10 +135,11 @@ impl Store {
         self.entries
     }
 
-    /// States what holds of each session of the store, and does nothing. The words that the session
-    /// knows are words of nodes, no two of them equal, so two ids are equal if they denote the same
-    /// function, and no id lies below the terminals. A session that is alone made all nodes that it
-    /// knows.
+    /// States what holds of each session of the store, and does nothing. No two of the node words
+    /// that the session knows are equal, so two ids are equal if they denote the same function. The
+    /// level of each id is at most the number of levels, which is the level of the terminals. If
+    /// the session is the store's only one, each node that it knows was made by it or by a session
+    /// that it was split or joined from.
     pub fn canonical_ids(&self, session: &Session)
         requires { session.now.store ≡ self.now }
         ensures unique { HasUniqueIds session.now }
@@ -291,7 +292,8 @@ impl Store {
     }
 
     /// Splits a session in two, each of which knows what `session` knew and has half of its stake.
-    /// The first one keeps the counts of steps and writes; those of the second one begin at 0.
+    /// Makes one atomic step, which the first session counts. The first one keeps the counts of
+    /// steps and writes, and those of the second one begin at 0.
     pub fn split(&self, session: Session) -> (Session, Session)
         requires { session.store ≡ self.now }
         ensures first { result.0 ≡
@@ -324,8 +326,8 @@ impl Store {
         Session { seat }
     }
 
-    /// Closes the store, and uses up `session`, which is one of its sessions. The words stay as
-    /// they are then. Other sessions may have published roots that `session` doesn't know of.
+    /// Closes the store, and uses up `session`, which is one of its sessions. No word changes from
+    /// then on. Other sessions may have published roots that `session` doesn't know of.
     pub fn into_closed(self, session: Session) -> ClosedStore
         requires { session.store ≡ self }
         ensures plan { result.plan ≡ self.plan }

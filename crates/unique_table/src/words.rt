@@ -19,7 +19,7 @@ use node_words::{probe, start};
 /// The words of a store as its sessions share them.
 type SharedWords = Shared<(), View, Plan, Words>;
 
-/// Loads the node word at `place`, 0 if the place is empty, and enters it in the seat's view.
+/// Loads the node word at `place`, 0 if the place is empty. The seat knows this word from then on.
 pub(crate) fn look(shared: &SharedWords, seat: &mut Seat<(), View>, place: usize) -> u64
     requires seat { IsSeatOf shared.now seat.old }
     requires place { IsNodePlace shared.now place }
@@ -61,8 +61,8 @@ pub(crate) fn take(shared: &SharedWords, seat: &mut Seat<(), View>, place: usize
     found == 0 || found == word
 }
 
-/// Stores `id` plus 1 in the word of piece `piece`, which stands at `place`. Requires `id` to
-/// denote the piece's function.
+/// Stores `id` plus 1 as the word of piece `piece`, which has the index `place` among the store's
+/// words. Requires `id` to denote the piece's function.
 pub(crate) fn publish(
     shared: &SharedWords,
     seat: &mut Seat<(), View>,
@@ -81,8 +81,8 @@ pub(crate) fn publish(
     shared.store::<Publishes>(seat, place, u64::from(id) + 1);
 }
 
-/// Loads the word of piece `piece`, which stands at `place`: 0 until the id of the piece's function
-/// is published, then this id plus 1.
+/// Loads the word of piece `piece`, which has the index `place` among the store's words. It is 0
+/// until the id of the piece's function is published, then this id plus 1.
 pub(crate) fn collect(
     shared: &SharedWords,
     seat: &mut Seat<(), View>,
@@ -97,8 +97,9 @@ pub(crate) fn collect(
     shared.load::<Collects>(seat, place)
 }
 
-/// Loads the word of entry `entry` of the operation cache, which stands at `place`: 0 if the entry
-/// is empty, else an operation with its operands, and the id of its result.
+/// Loads the word of entry `entry` of the operation cache, which has the index `place` among the
+/// store's words. It is 0 if the entry is empty, else has an operation, its two operands, and the
+/// id of its result.
 pub(crate) fn recall(
     shared: &SharedWords,
     seat: &mut Seat<(), View>,
@@ -113,8 +114,8 @@ pub(crate) fn recall(
     shared.load::<Recalls>(seat, place)
 }
 
-/// Stores `word` in entry `entry` of the operation cache, which stands at `place`. Requires the
-/// word to have an operation with its operands, and the id of the operation's result.
+/// Stores `word` in entry `entry` of the operation cache, which has the index `place` among the
+/// store's words. Requires `word` to have an operation, its two operands, and the id of its result.
 pub(crate) fn remember(
     shared: &SharedWords,
     seat: &mut Seat<(), View>,
@@ -130,9 +131,9 @@ pub(crate) fn remember(
     shared.store::<Remembers>(seat, place, word);
 }
 
-/// Searches the store for the node word `word` and returns its place, after storing it at the first
-/// empty place that the search comes to. None if each of the `places` places is taken by another
-/// word.
+/// Searches the store's `places` places for the node word `word`, and stores it at the first empty
+/// place that the search comes to if it wasn't found before. Returns the place that has the word
+/// then. None if each of the places is taken by another word.
 pub(crate) fn find_or_put(
     shared: &SharedWords,
     seat: &mut Seat<(), View>,

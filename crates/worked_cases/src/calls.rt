@@ -59,7 +59,7 @@ fn put_files<R: Files>(rt: &R, case: &Case<'_>, length: usize) -> Result<()> {
     Ok(())
 }
 
-/// Removes all files that the case names.
+/// Removes all files that the case names, as far as they are there.
 fn remove_files<R: Files>(rt: &R, case: &Case<'_>) {
     for text in case.texts.iter() {
         if let Place::File(name) | Place::After(name) | Place::Absent(name) = text.place {

@@ -40,7 +40,8 @@ pub struct Case<'a> {
     pub lengths: (usize, usize),
     /// The exit status of each call.
     pub status: u8,
-    /// The stream to which clap, the parser of the command line, writes a text of its own.
+    /// The stream to which clap, the parser of the command line, writes a text of its own; None if
+    /// it writes none.
     pub by_clap: Option<Place<'a>>,
 }
 
