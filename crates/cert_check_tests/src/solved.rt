@@ -6,8 +6,8 @@ use crate::plain::Plain;
 use crate::sixteen::tables_of;
 use cert_check::{Verdict, check, check_alone};
 use certificate::{Certificate, CertificateParts};
-use order_model::{ListedCell, NoGate, Pairs, VarIx, Workers};
-use order_solve::{Preparation, Solution, renaming_of, solve};
+use order_model::{Limit, ListedCell, LowerBound, NoGate, Pairs, VarIx, Workers};
+use order_solve::{Solution, prepare, renaming_of, solve};
 use sifting::laws::diagrams_have_their_problems_tables;
 use sifting::{Manager, Sifted};
 use std::alloc::Global;
@@ -105,10 +105,13 @@ fn solution_of<R: Abort + Threads + Sync>(
 {
     let workers = Workers::new(2).expect(rt, "two workers");
     let renaming = renaming_of(alloc, tables.problem()).expect(rt, "memory");
-    let prepared = Preparation::by_workers(rt, alloc, &renaming, &pairs, 16, workers);
-    let prepared = prepared.expect(rt, "memory");
+    let limit = Limit {
+        bound: 1 << 20,
+        lower_bound: LowerBound::Variables,
+    };
+    let start = prepare(rt, alloc, &renaming, &pairs, limit, workers).expect(rt, "memory");
     let sifted = sifted_of(rt, alloc, tables, pairs);
-    solve(rt, alloc, prepared, sifted, workers, &NoGate).expect(rt, "memory")
+    solve(rt, alloc, start, sifted, workers, &NoGate).expect(rt, "memory")
 }
 
 /// Functions, the pairs that are kept, and what the solver finds of them.
