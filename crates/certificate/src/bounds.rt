@@ -1,4 +1,4 @@
-//! The bounds of a certificate's parts, within which it can be written as text.
+//! The bounds of what a certificate states, within which it can be written as text.
 
 ghost use Rattle.std.specs.Prelude.{◌≡◌, ◌≤◌, ◌^◌, ◌-◌, ◌↔◌, ℕ, None, IsTrue, IsFalse, length};
 ghost use Rattle.std.specs.List.{All};
@@ -23,8 +23,9 @@ pub(crate) fn sets_below_all(n: u8) -> u32
     (1 << n) - 1
 }
 
-/// Whether `key` is larger than `last`, the key of the entry before, or there is no entry before. A
-/// pair has the key that `key_of_pair` gives, and a listed set its mask.
+/// Whether `key` is larger than `last`, the key of the pair or listed set before. True if `last` is
+/// None, that is for the first one. A pair has the key that `key_of_pair` gives, and a listed set
+/// its mask.
 pub(crate) fn is_above(last: Option<u32>, key: u32) -> bool
     ensures { result ≡ above last key }
 {
@@ -42,7 +43,8 @@ pub(crate) fn key_of_pair(a: VarIx, b: VarIx) -> u32
     u32::from(a) * 16 + u32::from(b)
 }
 
-/// Whether all pairs (a, b) are of variables below n, and rise by a and then by b.
+/// Whether all pairs (a, b) are of variables below n, and each pair is larger than the one before,
+/// compared by a and then by b.
 fn pairs_rise(n: u8, pairs: &[(VarIx, VarIx)]) -> bool
     ensures { result ≡ fit (is_pair_of n) pair_key None pairs.now }
 {
@@ -60,7 +62,7 @@ fn pairs_rise(n: u8, pairs: &[(VarIx, VarIx)]) -> bool
 }
 
 /// Whether all listed sets are proper subsets of n variables with costs of at most `MOST_NODES`,
-/// and their masks rise.
+/// and each mask is larger than the one before.
 fn cells_rise(n: u8, cells: &[ListedCell]) -> bool
     requires { n ≤ 16 }
     ensures { result ≡ fit (is_cell_of n) mask_in None cells.now }
@@ -85,7 +87,8 @@ fn count_fits(count: u8) -> bool
     1 <= count && count <= 16
 }
 
-/// Whether a list has n variables, each below 16. One may stand in it twice.
+/// Whether `order` has n entries, each from 0 to 15. It need not be an order: an entry may repeat,
+/// or be n or more.
 fn order_fits(n: u8, order: &[VarIx]) -> bool
     ensures { IsTrue result ↔ ((length order.now ≡ n) × All (λ x. x ≤ 15) order.now) }
 {
@@ -119,8 +122,8 @@ fn cells_fit(n: u8, cells: &[ListedCell]) -> bool
     cells.len() <= sets_below_all(n) as usize && cells_rise(n, cells)
 }
 
-/// Whether a certificate with these parts can be written as text: each number is within its bounds,
-/// and pairs and listed sets rise.
+/// Whether a certificate with these parts can be written as text: each list has as many entries as
+/// it should, each number is within its bounds, and pairs and listed sets rise.
 pub(crate) fn have_spelling(parts: &CertificateParts) -> bool
     ensures spelled { IsTrue result → HasSpelling (contents parts.now) }
     ensures unspelled { IsFalse result → HasSpelling (contents parts.now) → ⊥ }

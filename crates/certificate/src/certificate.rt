@@ -9,18 +9,18 @@ use crate::bounds::have_spelling;
 use order_model::{ListedCell, VarIx};
 use std::marker::Model;
 
-/// The parts of a certificate.
+/// The parts of a certificate, which may be out of the bounds of its text.
 #[derive(Debug, Drop)]
 pub struct CertificateParts {
     /// The number of inputs.
     pub inputs: u8,
     /// The number of outputs.
     pub outputs: u8,
-    /// The order, top first.
+    /// The order, top first. It need not be one: the checker tests this.
     pub order: Vec<VarIx>,
-    /// The level counts, top first.
+    /// The level counts that the certificate states for the order, top first.
     pub levels: Vec<u32>,
-    /// The number of nodes.
+    /// The number of nodes that the certificate states for the order.
     pub total: u32,
     /// The pairs (a, b) of variables, of which a has to stand above b. `None` in format 1; in
     /// format 2 there is a list, which may be empty.
@@ -30,7 +30,7 @@ pub struct CertificateParts {
 }
 
 impl CertificateParts {
-    /// The pairs (a, b), of which a has to stand above b. Format 1 has none.
+    /// The pairs (a, b), of which a has to stand above b. Empty in format 1.
     pub(crate) fn kept_pairs(&self) -> &[(VarIx, VarIx)]
         ensures { result.now ≡ pairs_in self.now.pairs }
     {
@@ -42,8 +42,8 @@ impl CertificateParts {
 }
 
 /// A certificate: an order with its level counts and their total, and the least costs of sets of
-/// variables by which a checker sees that no order that keeps the pairs has fewer nodes. It can
-/// always be written as text.
+/// variables. From these a checker concludes that no order that keeps the pairs has fewer nodes. A
+/// certificate may be wrong, but its numbers are within the bounds of its text.
 #[derive(Debug, Drop)]
 pub struct Certificate {
     parts: CertificateParts,
@@ -62,9 +62,9 @@ impl Model for Certificate {
 }
 
 impl Certificate {
-    /// The certificate with these parts. `None` if it can't be written as text: a number is out of
-    /// its bounds, pairs don't rise by first and then second variable, or listed sets don't rise by
-    /// mask.
+    /// The certificate with these parts. `None` if it can't be written as text: a list has a wrong
+    /// length, a number is out of its bounds, pairs don't rise by first and then second variable,
+    /// or listed sets don't rise by mask.
     pub fn from_parts(parts: CertificateParts) -> Option<Certificate>
         ensures some { IfSome result (λ c. c ≡ contents parts) }
         ensures none { IfNone result (HasSpelling (contents parts) → ⊥) }
@@ -75,8 +75,8 @@ impl Certificate {
         Some(Certificate { parts })
     }
 
-    /// A certificate in format 1, which has no pairs. `None` if it can't be written as text: a
-    /// number is out of its bounds, or listed sets don't rise by mask.
+    /// A certificate in format 1, which has no pairs. `None` if it can't be written as text: a list
+    /// has a wrong length, a number is out of its bounds, or listed sets don't rise by mask.
     pub fn new(
         inputs: u8,
         outputs: u8,
@@ -103,8 +103,8 @@ impl Certificate {
     }
 
     /// A certificate in format 2, with pairs (a, b), of which a has to stand above b. `None` if it
-    /// can't be written as text: a number is out of its bounds, pairs don't rise by first and then
-    /// second variable, or listed sets don't rise by mask.
+    /// can't be written as text: a list has a wrong length, a number is out of its bounds, pairs
+    /// don't rise by first and then second variable, or listed sets don't rise by mask.
     pub fn new2(
         inputs: u8,
         outputs: u8,
@@ -157,8 +157,8 @@ impl Certificate {
         self.parts.outputs
     }
 
-    /// The order, top first. It may lack a variable and have another one twice: the checker tests
-    /// for this.
+    /// The order, top first: as many variables from 0 to 15 as there are inputs. It need not be an
+    /// order: the checker tests whether it has each variable once.
     pub fn order(&self) -> &[VarIx]
         ensures { result.now ≡ self.now.order }
     {
@@ -179,8 +179,9 @@ impl Certificate {
         self.parts.total
     }
 
-    /// The pairs (a, b) of variables, of which a has to stand above b, rising; none in format 1. A
-    /// certificate can always be written as text, so its numbers are within the format's bounds.
+    /// The pairs (a, b) of variables, of which a has to stand above b, by rising a and then rising
+    /// b. Format 1 has none. `HasSpelling` says that all numbers of the certificate are within the
+    /// bounds of its text.
     pub fn pairs(&self) -> &[(VarIx, VarIx)]
         ensures pairs { result.now ≡ self.now.pairs }
         ensures spelled { HasSpelling self.now }
@@ -188,8 +189,8 @@ impl Certificate {
         self.parts.kept_pairs()
     }
 
-    /// The listed sets with their costs, by rising mask. A certificate can always be written as
-    /// text, so its numbers are within the format's bounds.
+    /// The listed sets with their costs, by rising mask. `HasSpelling` says that all numbers of the
+    /// certificate are within the bounds of its text.
     pub fn cells(&self) -> &[ListedCell]
         ensures cells { map listed result.now ≡ self.now.cells }
         ensures spelled { HasSpelling self.now }

@@ -9,7 +9,7 @@ pub enum LineFault {
     /// The text ends before this line, or the line has no line feed.
     #[error("MissingLine")]
     MissingLine,
-    /// A fixed word or the number of words is wrong.
+    /// A fixed word of the line is wrong, or the line has more or fewer words than it should.
     #[error("BadLine")]
     BadLine,
     /// A number or mask isn't written as the format has it, or is out of its bounds.
@@ -19,7 +19,7 @@ pub enum LineFault {
     /// compared by first and then second variable.
     #[error("NotRising")]
     NotRising,
-    /// Something follows the last line.
+    /// Text follows the last line, `end`. The faulty line is the one after `end`.
     #[error("TrailingText")]
     TrailingText,
 }
@@ -27,7 +27,7 @@ pub enum LineFault {
 /// Why a text is not read as a certificate.
 #[derive(Clone, Copy, Debug, PartialEq, Eq, Error)]
 pub enum CertFault {
-    /// The first faulty line, counted from 1, and its fault.
+    /// The number of the first faulty line, counted from 1, and its fault.
     #[error("line {0}: {1}")]
     Line(usize, LineFault),
     /// The text has more than 1,048,576 bytes.

@@ -1,4 +1,4 @@
-//! What holds of all texts of certificates.
+//! Laws of the texts of certificates. Each law is the contract of a function that does nothing.
 
 ghost use Rattle.std.specs.Prelude.{◌≡◌, ◌+◌, ◌*◌, ◌⊎◌, ◌≤◌, ℕ, List, [], length};
 ghost use Rattle.definitions.specs.Certificates.{Certificate, certificate_of};
@@ -10,13 +10,13 @@ ghost use Rattle.certificate.specs.Spelling.{HasSpelling, spelling};
 ghost use Rattle.certificate.specs.Faults.{Spells, FirstCertFault, faults};
 ghost use Rattle.certificate.specs.Heads.{most_bytes};
 
-/// A text is that of at most one certificate.
+/// Two different certificates have different texts.
 pub fn texts_have_one_certificate()
     ensures { (a b : Certificate) → HasSpelling a → HasSpelling b →
         spelling a ≡ spelling b → a ≡ b }
 {}
 
-/// The text of a certificate has no fault.
+/// The text of a certificate has no fault, if the certificate can be written as text.
 pub fn spellings_have_no_fault()
     ensures { (cert : Certificate) → HasSpelling cert → faults (spelling cert) ≡ [] }
 {}
@@ -42,8 +42,9 @@ pub fn spellings_are_short()
         length text ≤ most_bytes }
 {}
 
-/// The certificate that the tool makes for an order can be written as text, if it is of 1 to 16
-/// functions of 1 to 16 variables, with at most 240 sorted pairs.
+/// The certificate that `minorder` makes for an order can be written as text. Requires 1 to 16
+/// functions of 1 to 16 variables, and at most 240 pairs of these variables, by rising a and then b
+/// and each once.
 pub fn orders_have_certificates()
     ensures { (n : ℕ) (F : List Function) (P : List Pair) (order : List ℕ) → 1 ≤ n → n ≤ 16 →
         1 ≤ length F → length F ≤ 16 → IsOrder n order →

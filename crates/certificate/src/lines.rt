@@ -28,8 +28,9 @@ fn two_words(line: &[u8]) -> Option<(&[u8], &[u8])>
     }
 }
 
-/// Reads the number from a line of two words, `name` and a number from `least` to `most`. The fault
-/// is `BadNumber` if the second word is no such number, and `BadLine` for any other line.
+/// Reads a number from a line of two words: `name`, and the number, from `least` to `most`. The
+/// fault is `BadNumber` if the line has two words, of which the first is `name` and the second no
+/// such number, and `BadLine` for any other line.
 pub(crate) fn number_line(line: &[u8], name: &[u8], least: u32, most: u32) -> Result<u32, LineFault>
     requires { most ≤ most_nodes }
     ensures { Says (field_fault name.now 1 least most) line.now
@@ -47,8 +48,10 @@ pub(crate) fn number_line(line: &[u8], name: &[u8], least: u32, most: u32) -> Re
     }
 }
 
-/// Reads the pair (a, b) of variables below n from a line of two numbers. The fault is `NotRising`
-/// if its key isn't above `last`, the key of the pair before, if there is one.
+/// Reads the pair (a, b) of variables below n from a line of two numbers. `last` is the key of the
+/// pair on the line before, if there is one. The fault is `BadLine` if the line hasn't two words,
+/// else `BadNumber` if one of them is no variable below n, else `NotRising` if the pair's key isn't
+/// above `last`.
 pub(crate) fn pair_line(line: &[u8], n: u8, last: Option<u32>) -> Result<(VarIx, VarIx), LineFault>
     requires some { 1 ≤ n }
     requires few { n ≤ 16 }
@@ -74,8 +77,10 @@ pub(crate) fn pair_line(line: &[u8], n: u8, last: Option<u32>) -> Result<(VarIx,
     Ok(pair)
 }
 
-/// Reads a set of n variables and its cost from a line of a mask and a number. The fault is
-/// `NotRising` if the mask isn't above `last`, the mask of the set before, if there is one.
+/// Reads a listed set of n variables from a line of its mask and its cost. `last` is the mask on
+/// the line before, if there is one. The fault is `BadLine` if the line hasn't two words. It is
+/// `BadNumber` if they are no mask of a proper subset and no cost of at most `MOST_NODES`, else
+/// `NotRising` if the mask isn't above `last`.
 pub(crate) fn cell_line(line: &[u8], n: u8, last: Option<u32>) -> Result<ListedCell, LineFault>
     requires { n ≤ 16 }
     ensures { Says (entry_fault (is_cell n) (λ a b. above last (cell_key_of a b))) line.now

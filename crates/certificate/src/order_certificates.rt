@@ -13,8 +13,8 @@ use order_model::{ListedCell, Pairs, Problem, SizedOrder};
 use std::alloc::{AllocError, Global};
 
 /// The text, in format 2, of the certificate that the order in `found` has the fewest nodes among
-/// those that keep `pairs`. `found` has its level counts and their sum, too. Requires that `cells`
-/// are the sets that this certificate lists, with their costs.
+/// those that keep `pairs`. Requires `found` to have the level counts and the size of its order,
+/// and `cells` to be the sets that this certificate lists, with their least costs.
 pub fn certificate_text(
     alloc: Global,
     problem: &Problem,

@@ -17,7 +17,7 @@ use std::alloc::Global;
 /// The most bytes of a text that is read as a certificate.
 pub const MOST_BYTES: usize = 1_048_576;
 
-/// `numbers` as variables. Requires that each is at most 15.
+/// Turns numbers into variables. Requires each to be at most 15. The only error is `OutOfMemory`.
 fn variables(alloc: Global, numbers: &[u32]) -> Result<Vec<VarIx>, CertFault>
     requires { All (λ k. k ≤ 15) numbers.now }
     ensures same { IfOk result (λ v. v.items ≡ numbers.now) }
@@ -41,7 +41,8 @@ pub(crate) struct Head {
     total: u32,
 }
 
-/// Takes the first six lines of a text off `lines`, and returns what they state.
+/// Takes the first six lines of a text off `lines`, and returns what they state. The error is the
+/// first fault, with the number of its line, or `OutOfMemory`.
 fn read_head(alloc: Global, lines: &mut Lines<'_>) -> Result<Head, CertFault>
     requires { FitsCount lines.old }
     ensures head { TakesHead lines.old.number lines.old.rest.now lines.new.number lines.new.rest.now
@@ -65,8 +66,9 @@ fn read_head(alloc: Global, lines: &mut Lines<'_>) -> Result<Head, CertFault>
     })
 }
 
-/// Takes the line with the number of listed sets, a line for each and the last line off `lines`,
-/// and returns the sets of n variables with their costs.
+/// Takes the line with the number of listed sets, a line for each, and the last line off `lines`.
+/// Returns the listed sets, which are of n variables, with their costs. The error is the first
+/// fault, with the number of its line, or `OutOfMemory`.
 fn read_sets(alloc: Global, lines: &mut Lines<'_>, n: u8) -> Result<Vec<ListedCell>, CertFault>
     requires small { FitsCount lines.old }
     requires few { n ≤ 16 }
@@ -77,8 +79,9 @@ fn read_sets(alloc: Global, lines: &mut Lines<'_>, n: u8) -> Result<Vec<ListedCe
     Ok(cells)
 }
 
-/// Takes all lines after the first six off `lines`, and returns the pairs of variables below n,
-/// `None` in format 1, and the listed sets with their costs.
+/// Takes all lines after the first six off `lines`. Returns the pairs of variables below n, which
+/// are `None` in format 1, and then the listed sets with their costs. The error is the first fault,
+/// with the number of its line, or `OutOfMemory`. `format` is 1 or 2.
 fn read_body(
     alloc: Global,
     lines: &mut Lines<'_>,
@@ -101,8 +104,9 @@ fn read_body(
 }
 
 impl Certificate {
-    /// The certificate with this text, in either format, or why there is none: the text's first
-    /// fault, more than 1,048,576 bytes, or no memory. Time and memory are linear in the text.
+    /// Reads the certificate, in either format, whose text is `text`. The error is the first faulty
+    /// line, or `TooLong` for more than 1,048,576 bytes, or `OutOfMemory`. Time and memory are
+    /// linear in the length of the text.
     pub fn parse(alloc: Global, text: &[u8]) -> Result<Certificate, CertFault>
         ensures spelled { IfOk result (λ cert. text.now ≡ spelling cert) }
         ensures short { IfOk result (λ _. length text.now ≤ most_bytes) }

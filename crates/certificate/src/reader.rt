@@ -32,8 +32,8 @@ pub(crate) fn add<T: Drop>(items: &mut Vec<T>, item: T) -> Result<(), CertFault>
     }
 }
 
-/// Appends to `numbers` the number of at most `most` that a word states. Any other word is a
-/// `BadNumber` of line `line`, in which it stands.
+/// Appends to `numbers` the number of at most `most` that a word states. The error is `BadNumber`
+/// at line `line`, in which the word stands, if the word states none, or `OutOfMemory`.
 fn push_number(numbers: &mut Vec<u32>, word: &[u8], most: u32, line: usize) -> Result<(), CertFault>
     requires { most ≤ most_nodes }
     ensures added { OnOk result (numbers.new.items ≡ numbers.old.items ++ number_of word.now ∷ []) }
@@ -48,8 +48,8 @@ fn push_number(numbers: &mut Vec<u32>, word: &[u8], most: u32, line: usize) -> R
     add(numbers, value)
 }
 
-/// The numbers of at most `most` that the words of a text state. Any other word is a `BadNumber` of
-/// line `line`, in which the text stands.
+/// The numbers of at most `most` that the words of a text state. The error is `BadNumber` at line
+/// `line`, in which the text stands, if a word states none, or `OutOfMemory`.
 fn numbers_in(alloc: Global, text: &[u8], most: u32, line: usize) -> Result<Vec<u32>, CertFault>
     requires { most ≤ most_nodes }
     ensures numbers { IfOk result (λ v. v.items ≡ map number_of (words text.now)) }
@@ -79,7 +79,7 @@ pub(crate) struct Lines<'a> {
 }
 
 impl<'a> Lines<'a> {
-    /// All lines of a text.
+    /// The lines of `text`, none of which has been taken yet.
     pub(crate) fn of(text: &'a [u8]) -> Lines<'a>
         ensures rest { result.rest.now ≡ text.now }
         ensures number { result.number ≡ 1 }
@@ -105,8 +105,9 @@ impl<'a> Lines<'a> {
         Some(line)
     }
 
-    /// Takes the next line, and returns what `read` makes of it. A fault of the line is reported
-    /// with its number; if there is no next line, the fault is `MissingLine`.
+    /// Takes the next line, and returns what `read` makes of it. If `read` returns a fault, the
+    /// error is this fault with the line's number. If there is no next line, nothing is taken, and
+    /// the fault is `MissingLine`.
     fn take<V, F: FnOnce(&[u8]) -> Result<V, LineFault>>(&mut self, read: F) -> Result<V, CertFault>
         requires small { FitsCount self.old }
         requires readable { F.IsAlwaysCallable read }
@@ -123,8 +124,9 @@ impl<'a> Lines<'a> {
         }
     }
 
-    /// Takes a line with two words, `name` and a number from `least` to `most`, and returns the
-    /// number.
+    /// Takes the next line, and returns the number that it states. The line has two words: `name`,
+    /// and a number from `least` to `most`. The faults are `MissingLine` and those of
+    /// `number_line`.
     pub(crate) fn number(&mut self, name: &[u8], least: u32, most: u32) -> Result<u32, CertFault>
         requires small { FitsCount self.old }
         requires bounds { most ≤ most_nodes }
@@ -136,7 +138,8 @@ impl<'a> Lines<'a> {
         self.take(|line| number_line(line, name, least, most))
     }
 
-    /// Takes the first line, and returns the format that it states.
+    /// Takes the next line, which has to be the first of a certificate, and returns the format that
+    /// it states, 1 or 2. The fault is `MissingLine` or `BadLine`.
     pub(crate) fn title(&mut self) -> Result<u8, CertFault>
         requires { FitsCount self.old }
         ensures line { TakesLine title_fault self.old self.new
@@ -146,7 +149,8 @@ impl<'a> Lines<'a> {
         self.take(title_line)
     }
 
-    /// Takes the last line, `end`. If any text follows it, the fault is `TrailingText`.
+    /// Takes the next line, which has to be the last, `end`. The fault is `MissingLine` or
+    /// `BadLine`. If any text follows, it is `TrailingText`, at the line after.
     pub(crate) fn end(&mut self) -> Result<(), CertFault>
         requires { FitsCount self.old }
         ensures passed { OnOk result
@@ -162,8 +166,9 @@ impl<'a> Lines<'a> {
         Ok(())
     }
 
-    /// Takes a line of the word `name` and `count` numbers of at most `most`, and returns the
-    /// numbers.
+    /// Takes the next line, which has the word `name` and then `count` numbers of at most `most`,
+    /// and returns the numbers. The error is `MissingLine`, `BadLine` or `BadNumber` of this line,
+    /// or `OutOfMemory`.
     pub(crate) fn numbers(
         &mut self,
         alloc: Global,
@@ -188,8 +193,9 @@ impl<'a> Lines<'a> {
         numbers_in(alloc, digits, most, number)
     }
 
-    /// Takes the line that states the number of pairs and a line for each pair, and returns the
-    /// pairs. Variables are below n.
+    /// Takes the line that states the number of pairs, and a line for each pair of variables below
+    /// n. Returns the pairs (a, b), which rise by a and then by b. The error is the first fault, or
+    /// `OutOfMemory`.
     pub(crate) fn pairs(&mut self, alloc: Global, n: u8) -> Result<Vec<(VarIx, VarIx)>, CertFault>
         requires small { FitsCount self.old }
         requires some { 1 ≤ n }
@@ -209,8 +215,9 @@ impl<'a> Lines<'a> {
         Ok(pairs)
     }
 
-    /// Takes the line that states the number of listed sets and a line for each, and returns the
-    /// sets of n variables with their costs.
+    /// Takes the line that states the number of listed sets, and a line for each. Returns the
+    /// listed sets, which are proper subsets of n variables and rise by mask, with their costs. The
+    /// error is the first fault, or `OutOfMemory`.
     pub(crate) fn cells(&mut self, alloc: Global, n: u8) -> Result<Vec<ListedCell>, CertFault>
         requires small { FitsCount self.old }
         requires few { n ≤ 16 }

@@ -15,13 +15,13 @@ use std::fmt::Write;
 /// most 6 digits, and the fixed words.
 const LONGEST_HEAD: usize = 512;
 
-/// The most bytes of the line of a pair.
+/// The most bytes of the line of a pair, with its line feed.
 const LONGEST_PAIR: usize = 6;
 
-/// The most bytes of the line of a listed set.
+/// The most bytes of the line of a listed set, with its line feed.
 const LONGEST_CELL: usize = 12;
 
-/// Appends a line of the word `name` and a number.
+/// Appends a line of the word `name`, a space and `number`.
 fn push_number(text: &mut String, name: &str, number: usize) -> Result<(), AllocError>
     ensures { OnOk result
         (string_bytes text.new ≡ string_bytes text.old
@@ -31,7 +31,7 @@ fn push_number(text: &mut String, name: &str, number: usize) -> Result<(), Alloc
     Ok(())
 }
 
-/// Appends a line of the word `name` and numbers.
+/// Appends a line of the word `name` and then `numbers`, with spaces between.
 fn push_numbers(text: &mut String, name: &str, numbers: &[u32]) -> Result<(), AllocError>
     ensures { OnOk result
         (string_bytes text.new ≡ string_bytes text.old ++ text_line (field name.now numbers.now)) }
@@ -44,7 +44,7 @@ fn push_numbers(text: &mut String, name: &str, numbers: &[u32]) -> Result<(), Al
     Ok(())
 }
 
-/// Appends a line of the word `name` and variables.
+/// Appends a line of the word `name` and then `variables`, with spaces between.
 fn push_variables(text: &mut String, name: &str, variables: &[VarIx]) -> Result<(), AllocError>
     ensures { OnOk result
         (string_bytes text.new ≡ string_bytes text.old
@@ -58,7 +58,7 @@ fn push_variables(text: &mut String, name: &str, variables: &[VarIx]) -> Result<
     Ok(())
 }
 
-/// Appends a line for each pair (a, b): its two variables.
+/// Appends a line for each pair (a, b): `a`, a space and `b`.
 fn push_pairs(text: &mut String, pairs: &[(VarIx, VarIx)]) -> Result<(), AllocError>
     ensures { OnOk result
         (string_bytes text.new ≡ string_bytes text.old
@@ -70,7 +70,7 @@ fn push_pairs(text: &mut String, pairs: &[(VarIx, VarIx)]) -> Result<(), AllocEr
     Ok(())
 }
 
-/// Appends the line of a listed set: its mask in hexadecimal, and its cost.
+/// Appends the line of a listed set: its mask as four hexadecimal digits, a space, and its cost.
 fn push_cell(text: &mut String, cell: ListedCell) -> Result<(), AllocError>
     ensures { OnOk result
         (string_bytes text.new ≡ string_bytes text.old ++ text_line (cell_words (listed cell))) }

@@ -74,8 +74,8 @@ fn hex_digit(b: u8) -> Option<Mask>
     }
 }
 
-/// The mask of a proper subset of n variables that a word of four hexadecimal digits states. None
-/// for any other word.
+/// The mask of a proper subset of n variables that a word of four hexadecimal digits, with letters
+/// in lower case, states. None for any other word.
 pub(crate) fn mask(word: &[u8], n: u8) -> Option<Mask>
     requires { n ≤ 16 }
     ensures some { IfSome result (λ mask. (is_mask n word.now ≡ true) × (mask_of word.now ≡ mask)) }

@@ -10,7 +10,7 @@ use clap::error::ErrorKind;
 use clap::{Arg, Command};
 use std::alloc::Global;
 
-/// The required argument `name`, which is the path of a file and has the line of help `help`.
+/// The required argument `name`, the path of a file. `help` is its line in the program's help.
 pub(crate) fn required_path<'a>(alloc: Global, name: &'a str, help: &'a str) -> Arg<'a>
     ensures rule { rule_of result ≡ required_rule name.entry.now }
     ensures local { result.global ≡ false }
@@ -18,8 +18,8 @@ pub(crate) fn required_path<'a>(alloc: Global, name: &'a str, help: &'a str) -> 
     Arg::new(alloc, name).required(true).help(help)
 }
 
-/// The fault of a command line without the argument that `what` names. It doesn't occur, because
-/// clap refuses such a command line first.
+/// The fault of a command line that lacks an argument, which `what` names in words, or
+/// `OutOfMemory`. No words lead to it, because clap refuses such a command line first.
 pub(crate) fn missing_argument<'a>(mut command: Command<'a>, what: &str) -> Usage
     ensures { IsNoHelp result }
 {

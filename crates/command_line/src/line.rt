@@ -35,7 +35,7 @@ pub struct Line<'a> {
     pub cert: Option<&'a str>,
 }
 
-/// The option `--workers W`.
+/// The option `--workers W`, with a number from 1 to 64, and 4 if it isn't given.
 fn workers_option<'a>(alloc: Global) -> Arg<'a>
     ensures rule { rule_of result ≡ workers_rule }
     ensures local { result.global ≡ false }
@@ -60,7 +60,7 @@ fn option<'a>(alloc: Global, name: &'a str, value: &'a str, help: &'a str) -> Ar
         .help(help)
 }
 
-/// The option `--count`.
+/// The option `--count`, which takes no value.
 fn count_option<'a>(alloc: Global) -> Arg<'a>
     ensures rule { rule_of result ≡ count_rule }
     ensures local { result.global ≡ false }
@@ -94,7 +94,7 @@ fn with_options<'a>(alloc: Global, command: Command<'a>) -> Result<Command<'a>, 
         ))
 }
 
-/// The command line of minorder, as clap matches it.
+/// The arguments and options of minorder, as clap's `Command`: all options, and the required FILE.
 fn command<'a>(alloc: Global) -> Result<Command<'a>, AllocError>
     ensures { IfOk result (λ c. app_of c ≡ minorder) }
 {
@@ -135,8 +135,8 @@ fn line_of<'a>(matches: &ArgMatches<'a>) -> Option<Line<'a>>
 }
 
 impl<'a> Line<'a> {
-    /// Parses the words after the program's name, by clap's rules. The error is help, if the words
-    /// request it, or a fault.
+    /// Parses `words`, those after the program's name, by clap's rules. The error is `Help` if the
+    /// words request help, and otherwise says why they are refused.
     ///
     /// Options stand before or after the file, each at most once. An option's value may stand in
     /// the same word, as in `--workers=2`.

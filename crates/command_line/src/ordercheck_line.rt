@@ -19,7 +19,7 @@ pub struct CheckLine<'a> {
     pub cert: &'a str,
 }
 
-/// The command line of ordercheck, as clap matches it.
+/// The arguments of ordercheck, as clap's `Command`: FILE and CERT, both required.
 fn command<'a>(alloc: Global) -> Result<Command<'a>, AllocError>
     ensures { IfOk result (λ c. app_of c ≡ ordercheck) }
 {
@@ -50,8 +50,8 @@ fn line_of<'a>(matches: &ArgMatches<'a>) -> Option<CheckLine<'a>>
 }
 
 impl<'a> CheckLine<'a> {
-    /// Parses the words after the program's name, by clap's rules. The error is help, if the words
-    /// request it, or a fault.
+    /// Parses `words`, those after the program's name, by clap's rules. The error is `Help` if the
+    /// words request help, and otherwise says why they are refused.
     pub fn of_words(alloc: Global, words: &'a [&'a str]) -> Result<CheckLine<'a>, Usage>
         ensures line { IfOk result (IsCheckLineOf (texts words.now)) }
         ensures refused { IfErr result (Explains ordercheck LacksPaths (texts words.now)) }

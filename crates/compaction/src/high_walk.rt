@@ -209,9 +209,10 @@ fn with_members<'a>(
     Ok(made)
 }
 
-/// Writes the rows of the wanted sets, those of which `request` needs some width, to `rows`, each
-/// at its set's high byte. The walk begins at a shared table, and adds the other members of the low
-/// byte first. Returns how many class tables were compacted after that of the low byte.
+/// Writes a row for each set with the low byte of `request` of which some width is needed, to
+/// `rows[h]` if h is the set's high byte: the widths of its needed members, and 0 elsewhere. Other
+/// rows stay. The walk begins at a shared table, and first adds the low variables that it lacks.
+/// Returns how many class tables were made by adding high variables.
 fn fill_rows(
     alloc: Global,
     shared: &SharedTables<'_>,

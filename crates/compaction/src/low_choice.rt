@@ -195,8 +195,8 @@ impl Tables {
     }
 }
 
-/// Exchanges the variables at the places `low` and `high` in the packed truth tables `words`.
-/// `high` is meant to be 8 or above.
+/// Exchanges the variables at the places `low` and `high` in the packed truth tables `words`, in
+/// place. Callers pass a `high` of 8 or above; what a smaller one gives serves nobody.
 fn exchange(words: &mut [u64], low: VarIx, high: VarIx)
     requires low { low < 8 }
     requires high { high < 16 }

@@ -55,8 +55,9 @@ impl<'a> WidthSource<'a> {
         }
     }
 
-    /// The row of `set`: the widths of its members in `needed`, and 0 elsewhere, read from the row
-    /// of its image. None if one of these widths was not found ahead.
+    /// The row of `set`, a set of the problem before the renaming: the widths of its members in
+    /// `needed`, and 0 elsewhere. It is read from the row of its image in the renamed problem. None
+    /// if one of these widths was not found ahead.
     fn row_of(&self, set: Mask, needed: Mask) -> Option<WidthRow>
         requires set { set < 2 ^ self.now.inputs }
         requires members { AreMembersOf self.now.inputs set needed }

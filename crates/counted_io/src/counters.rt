@@ -10,7 +10,7 @@ use std::io;
 use std::io::{Read, Write};
 use std::marker::Model;
 
-/// A reader with a count of its failed calls.
+/// A reader that counts its failed calls: those that return an error.
 pub trait CountedRead {
     // The bytes that reads will give from here on, if they are known.
     ghost remaining: { Self → Option (List ℕ) } = { λ _. None };
@@ -25,8 +25,8 @@ pub trait CountedRead {
             ≡ (if is_ok result then failures self.old else one_more (failures self.old)) };
 }
 
-/// A writer with a count of its failed calls. A call that takes no byte of a text that isn't empty
-/// has failed.
+/// A writer that counts its failed calls: those that return an error, or take no byte of a text
+/// that isn't empty.
 pub trait CountedWrite {
     // The bytes that the writer holds, if they are known.
     ghost contents: { Self → Option (List ℕ) } = { λ _. None };
@@ -46,7 +46,7 @@ pub trait CountedWrite {
 pub struct Counting<T> {
     /// The reader or writer.
     inner: T,
-    /// How many of its calls failed.
+    /// How many of its calls failed. The count stays at the greatest value of a u64.
     failed: u64,
 }
 
@@ -69,7 +69,7 @@ impl<T> Counting<T> {
         Counting { inner, failed: 0 }
     }
 
-    /// The reader or writer itself.
+    /// Returns the reader or writer without its count.
     pub fn into_inner(self) -> T
         ensures { result ≡ self.device }
     {

@@ -19,13 +19,14 @@ pub enum Refused {
     OutOfMemory,
 }
 
-/// The first allocation for a file's bytes, enough for most files. Pages of it that are never
-/// written cost nothing, and once it is freed the C library keeps memory of that size for the next
-/// table.
+/// The first allocation for a file's bytes: 4 MiB, enough for most files. Pages of it that are
+/// never written cost nothing, and once it is freed the C library keeps memory of that size for
+/// later allocations.
 const FIRST_ROOM: usize = 1 << 22;
 
-/// Reads a device to its end, and returns the bytes read. An error if there are more than `limit`
-/// bytes, if a call of the device fails, or if an allocation is refused.
+/// Reads a device to its end, and returns the bytes read. The error is `TooLong` if there are more
+/// than `limit` bytes, `Device` if a call of the device fails, and `OutOfMemory` if an allocation
+/// is refused. After an error the bytes that were read are lost.
 pub fn read_all<R: CountedRead>(
     alloc: Global,
     device: &mut R,
@@ -59,7 +60,8 @@ pub fn read_all<R: CountedRead>(
     }
 }
 
-/// Writes the whole of `text`. After an error the device has taken a beginning of the text.
+/// Writes the whole of `text`. The only error is `Device`: a call of the device failed or took no
+/// byte. The device has then taken a beginning of the text, which may be empty.
 pub fn write_whole<W: CountedWrite>(device: &mut W, text: &[u8]) -> Result<(), Refused>
     ensures ok { OnOk result (Appends (W.contents device.old) (W.contents device.new) text.now) }
     ensures ok_calls { OnOk result (W.failures device.new ≡ W.failures device.old) }

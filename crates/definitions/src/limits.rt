@@ -1,7 +1,7 @@
 //! What prunes a search.
 
-/// The rule of the lower bound on the number of nodes above a set of variables, where the set is
-/// the bottom part of an order.
+/// The rule of the lower bound on the number of nodes above a set of variables. These are the nodes
+/// of the variables outside the set, if the set's variables are the lowest in the order.
 #[derive(Clone, Copy, Debug, PartialEq, Eq)]
 pub enum LowerBound {
     /// One node for each variable outside the set on which some function depends.
@@ -17,7 +17,8 @@ pub enum LowerBound {
 #[derive(Clone, Copy, Debug, PartialEq, Eq)]
 pub struct Limit {
     /// The upper bound. A set is pruned if its least cost plus the lower bound on the nodes above
-    /// it exceeds this.
+    /// it exceeds this. The least cost is the least number of nodes of the set's variables, if
+    /// these are the lowest in an order that keeps the pairs.
     pub bound: u32,
     /// The rule of the lower bound on the nodes above a set.
     pub lower_bound: LowerBound,

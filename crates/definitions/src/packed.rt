@@ -7,7 +7,8 @@ ghost use Rattle.definitions.specs.Problems.{IsClean, packed_bit, table_in, word
 
 use crate::variables::VarIx;
 
-/// How many words of 64 points the truth table of a function of n variables takes.
+/// How many words of 64 points the truth table of a function of n variables takes: `2^n / 64`, but
+/// at least 1.
 pub fn words_per_table(n: u8) -> usize
     requires { n ≤ 16 }
     ensures value { result ≡ size_of n }
@@ -28,7 +29,8 @@ pub fn block(words: &[u64], size: usize, table: usize) -> &[u64]
     block
 }
 
-/// The value of a packed truth table at a point. Bit x of `point` is the value of variable x.
+/// The value of a packed truth table at a point: bit `point % 64` of word `point / 64`. Bit x of
+/// `point` is the value of variable x.
 pub fn bit_of(words: &[u64], point: usize) -> bool
     requires { point / 64 < length words.now }
     ensures { result ≡ packed_bit words.now point }
@@ -67,7 +69,8 @@ fn halves_differ(word: u64, x: VarIx) -> bool
 }
 
 /// Whether a function depends on variable r + 6: whether two words of its packed truth table differ
-/// whose indexes differ in bit `r` alone.
+/// whose indexes differ in bit `r` alone. Requires `words` to have, with each index i whose bit `r`
+/// is 0, the index i + 2^r too.
 fn rows_differ(words: &[u64], r: u8) -> bool
     requires few { length words.now ≤ 1024 }
     requires small { r < 10 }
@@ -88,6 +91,7 @@ fn rows_differ(words: &[u64], r: u8) -> bool
 }
 
 /// Whether the function of n variables whose packed truth table is `words` depends on variable x.
+/// Requires `words_per_table(n)` words, whose bits past the last point are 0.
 pub fn depends_on(n: u8, words: &[u64], x: VarIx) -> bool
     requires few { n ≤ 16 }
     requires variable { x < n }

@@ -16,9 +16,11 @@ use std::marker::Model;
 /// value of variable i.
 #[derive(Debug, Drop)]
 pub struct Problem {
+    /// The number of variables.
     inputs: u8,
+    /// The number of functions.
     outputs: u8,
-    /// The packed truth tables, one after the other.
+    /// The packed truth tables, one after the other, each of `words_per_table(inputs)` words.
     words: Vec<u64>,
 }
 
@@ -50,7 +52,8 @@ impl Problem {
     }
 
     /// The problem of `inputs` variables and `outputs` functions whose packed truth tables stand
-    /// one after the other in `words`. Requires the bits past a table's last point to be 0.
+    /// one after the other in `words`. Requires `words_per_table(inputs)` words for each function,
+    /// and the bits past a table's last point to be 0.
     pub fn from_words(inputs: u8, outputs: u8, words: Vec<u64>) -> Problem
         requires { IsPacked inputs outputs words.items }
         ensures { result ≡ packed_tables inputs outputs words.items }
@@ -90,8 +93,8 @@ impl Problem {
         bit_of(self.words(output), point as usize)
     }
 
-    /// Sets the value of function `output`, counted from 0, at a point to 1. Bit x of `point` is
-    /// the value of variable x.
+    /// Sets function `output`, counted from 0, to 1 at a point; all other values stay. Bit x of
+    /// `point` is the value of variable x.
     pub fn set(&mut self, output: u8, point: u32)
         requires output { output < outputs_of self.old }
         requires point { point < 2 ^ self.old.inputs }
@@ -103,7 +106,8 @@ impl Problem {
         self.words[place] |= 1 << (point % 64);
     }
 
-    /// The truth table of function `output`, packed in words of 64 points.
+    /// The packed truth table of function `output`, counted from 0. The bits past the last point
+    /// are 0.
     pub fn words(&self, output: u8) -> &[u64]
         requires { output < outputs_of self.now }
         ensures long { length result.now ≡ size_of self.now.inputs }
@@ -139,7 +143,7 @@ impl Problem {
         false
     }
 
-    /// The set of the variables on which function `output` depends.
+    /// The set of the variables on which function `output`, counted from 0, depends.
     pub fn support(&self, output: u8) -> Mask
         requires { output < outputs_of self.now }
         ensures { result ≡ mask_of (filter

@@ -2,11 +2,12 @@
 
 use crate::variables::VarIx;
 
-/// What a child of a node, or a root of a diagram, refers to: a terminal, or the place of a node in
-/// the diagram's list of nodes.
+/// What a child of a node, or a root of a diagram, refers to.
 #[derive(Clone, Copy, Debug, PartialEq, Eq)]
 pub enum Ref {
+    /// The terminal 0 (`false`) or 1 (`true`).
     Terminal(bool),
+    /// The node at this index, counted from 0, in the diagram's list of nodes.
     Place(usize),
 }
 

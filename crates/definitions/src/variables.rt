@@ -12,7 +12,7 @@ pub type VarIx = u8;
 pub type Mask = u16;
 
 /// The widths of a set's members, as far as they are needed: entry x is the width of member x over
-/// the set without x.
+/// the set without x. All other entries may have any value.
 pub type WidthRow = [u32; 16];
 
 /// Whether variable x is in `set`.
@@ -24,7 +24,7 @@ pub fn contains(set: Mask, x: VarIx) -> bool
     (set >> x) & 1 == 1
 }
 
-/// The smallest member of a set that is at least `from`. None if all members are smaller.
+/// The smallest of the members of `set` that are at least `from`. None if there is no such member.
 #[inline(always)]
 pub fn next_member(set: Mask, from: VarIx) -> Option<VarIx>
     requires { from ≤ 16 }

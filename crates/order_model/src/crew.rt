@@ -11,13 +11,14 @@ pub struct Crew<'a, R, G> {
     pub rt: &'a R,
     /// The number of workers.
     pub workers: Workers,
-    /// What each worker calls between the claim of an item and its result.
+    /// What each worker calls after it claimed an item of work, such as a set, and before it hands
+    /// in the result.
     pub gate: &'a G,
 }
 
 impl<'a, R, G> Crew<'a, R, G> {
-    /// A crew of `workers` workers, whose threads `rt` starts and each of which calls `gate`
-    /// between the claim of an item and its result.
+    /// A crew of `workers` workers. `rt` starts their threads, and each worker calls `gate` between
+    /// the claim of an item of work and its result.
     pub fn new(rt: &'a R, workers: Workers, gate: &'a G) -> Crew<'a, R, G>
         ensures starts { result.rt.now ≡ rt.now }
         ensures workers { result.workers ≡ workers }

@@ -44,7 +44,7 @@ pub fn eval(variables: u8, nodes: &[Node], root: Ref, point: u32) -> bool
     }
 }
 
-/// The number of nodes of each variable: entry x is that of variable x.
+/// How many nodes each variable has: entry x is the number of nodes of variable x.
 fn counts_by_variable(nodes: &[Node]) -> [u32; 16]
     requires few { length nodes.now < 2 ^ 32 }
     requires variables { All (λ (node : Node). node.variable < 16) nodes.now }
@@ -58,9 +58,9 @@ fn counts_by_variable(nodes: &[Node]) -> [u32; 16]
     counts
 }
 
-/// Turns node counts by variable into node counts by level: entry i is the count of the variable at
-/// place i of `order`, and entries past the length of `order` are 0. Entry x of `counts` is the
-/// count of variable x.
+/// Turns node counts by variable into node counts by level, top first: entry i is
+/// `counts[order[i]]`, and the entries past the last level are 0. Entry x of `counts` is the count
+/// of variable x.
 fn in_order(order: &[VarIx], counts: [u32; 16]) -> [u32; 16]
     requires few { length order.now ≤ 16 }
     requires variables { All (λ x. x < 16) order.now }
@@ -75,12 +75,16 @@ fn in_order(order: &[VarIx], counts: [u32; 16]) -> [u32; 16]
     levels
 }
 
-/// A decision diagram with one root per function, and the order of its variables. The size of the
-/// diagram is the number of its nodes, whether a root reaches them or not.
+/// A decision diagram with one root per function, and an order of its variables. Neither does it
+/// have to be reduced, nor do its nodes have to follow the order: calls that need this require it.
+/// The size of the diagram is the number of its nodes, whether a root reaches them or not.
 #[derive(Debug, Drop)]
 pub struct Diagram {
+    /// The order of the variables, top first.
     order: Order,
+    /// The nodes, each after its children.
     nodes: Vec<Node>,
+    /// The roots, one per function.
     roots: Vec<Ref>,
 }
 
@@ -101,8 +105,9 @@ impl Model for Diagram {
 }
 
 impl Diagram {
-    /// The diagram of these parts. Requires each node to stand in `nodes` after its children, and
-    /// each node's variable to be one of `order`. `roots` has one root per function.
+    /// The diagram of these parts. Requires each node to stand in `nodes` after its children, each
+    /// node's variable to be one of `order`, and each root to be a terminal or one of the nodes.
+    /// `roots` has one root per function.
     pub fn new(order: Order, nodes: Vec<Node>, roots: Vec<Ref>) -> Diagram
         requires few { length nodes.items < 2 ^ 32 }
         requires diagram { IsDiagramUnder order nodes.items roots.items }
@@ -117,7 +122,7 @@ impl Diagram {
         }
     }
 
-    /// The order of the variables, top first.
+    /// The order that belongs to the diagram, top first.
     pub fn order(&self) -> &Order
         ensures value { result.now ≡ self.now.order }
         ensures diagram { IsOrderedGraph self.now }
@@ -180,7 +185,8 @@ impl Diagram {
     }
 }
 
-/// The sum of a diagram's level counts, which is the size of the diagram. There are at most 16.
+/// The sum of `counts`, which are a diagram's level counts. The sum is the size of the diagram.
+/// Requires at most 16 counts.
 pub fn total(counts: &[u32]) -> u64
     requires { length counts.now ≤ 16 }
     ensures { result ≡ sum counts.now }

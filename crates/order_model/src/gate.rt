@@ -4,8 +4,8 @@
 /// which does nothing; other gates are for callers who hold workers there, as tests do.
 pub trait Gate: Sync {
     /// Called by worker number `worker`, counted from 1, after it claimed `item` and before it
-    /// hands in the result. In a search the item is the mask of a set, and in building a diagram
-    /// the number of a piece.
+    /// hands in the result. In a search the item is the mask of a set. In building a diagram it is
+    /// the number, counted from 0, of a piece: an output, or a part of one, that one worker builds.
     fn between(&self, worker: u8, item: u32);
 }
 

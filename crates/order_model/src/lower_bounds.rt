@@ -12,9 +12,11 @@ ghost use Rattle.definitions.specs.LowerBounds.{support};
 use definitions::{LowerBound, Mask, Problem, VarIx, WidthRow, contains, next_member};
 use std::marker::Model;
 
-/// Lower bounds on the nodes above the sets of a problem's variables.
+/// Lower bounds, by one rule, on the nodes above each set of a problem's variables. These are the
+/// nodes of the other variables, if the set's variables are the lowest in the order.
 #[derive(Drop)]
 pub struct LowerBounds<'a> {
+    /// The functions of the variables, as truth tables.
     problem: &'a Problem,
     /// The rule that gives the bounds.
     lower_bound: LowerBound,
@@ -130,9 +132,9 @@ impl<'a> LowerBounds<'a> {
         self.lower_bound
     }
 
-    /// The lower bound on the number of nodes above the set `mask`. Under the rule `Widths` it
-    /// follows from `widths`, the widths of all members. Under the rule `Variables`, `widths` is
-    /// not read.
+    /// The lower bound on the number of nodes above the set `mask`. Under the rule `Widths`, entry
+    /// x of `widths` has to be the width of x over the other members, for each member x of the set.
+    /// Under the rule `Variables`, `widths` is not read.
     pub fn above(&self, mask: Mask, widths: &WidthRow) -> u64
         requires { mask < 2 ^ self.now.problem.inputs }
         ensures few { result < 2 ^ 33 }
@@ -148,8 +150,8 @@ impl<'a> LowerBounds<'a> {
         }
     }
 
-    /// The largest number of nodes above the set `mask` that the width of one of its members
-    /// requires, or `least` if that is larger. `widths` has the width of each member.
+    /// The maximum of `least` and, over the members x of the set `mask`, of `nodes_for_width` of x.
+    /// Entry x of `widths` is the width of member x over the other members.
     fn most_asked(&self, mask: Mask, widths: &WidthRow, least: u64) -> u64
         requires within { mask < 2 ^ self.now.problem.inputs }
         requires least { least < 2 ^ 33 }

@@ -3,7 +3,8 @@
 ghost use Rattle.std.specs.Prelude.{◌≡◌, IsTrue, IfSome, IfNone, false};
 ghost use Rattle.definitions.specs.Texts.{is_number, number_of};
 
-/// The value of a word of one to nine decimal digits, or None for any other word.
+/// The value of a word of one to nine decimal digits, or None for any other word. Leading zeros are
+/// allowed.
 #[tactic(auto, using(definitions::proofs::Lists::Digits::digit_is, definitions::proofs::Lists::Digits::pow_small))]
 pub fn decimal_number(word: &[u8]) -> Option<u32>
     ensures some { IfSome result

@@ -64,8 +64,8 @@ fn place_in_list(variables: &[VarIx], x: VarIx) -> usize
 }
 
 impl Order {
-    /// The order with these variables, top first. If the list is no order, the error says why:
-    /// `OutOfRange` is reported before `NotEach`.
+    /// The order with these variables, top first. The error says why the list is no order, where
+    /// `OutOfRange` is reported before `NotEach`, or that an allocation was refused.
     pub fn try_from_slice(alloc: Global, variables: &[VarIx]) -> Result<Order, BadOrder>
         ensures accepted { OnOk result (Accepts variables.now) }
         ensures value { IfOk result (λ order. order ≡ variables.now) }

@@ -12,10 +12,11 @@ use definitions::{Mask, PairsFault, VarIx, contains};
 use std::alloc::{AllocError, Global};
 use std::marker::Model;
 
-/// Pairs (a, b) of variables. An order keeps the pairs if a stands above b for each pair. Some
-/// order keeps them: they lead from no variable back to itself.
+/// Pairs (a, b) of variables. An order keeps the pairs if a stands above b for each pair. At least
+/// one order keeps them, because they lead from no variable back to itself.
 #[derive(Debug, Drop)]
 pub struct Pairs {
+    /// The number of variables.
     inputs: u8,
     // bit b of below[a] stands for the pair (a, b)
     below: [Mask; 16],
@@ -89,8 +90,8 @@ fn are_within(below: &[Mask; 16], n: u8) -> bool
     true
 }
 
-/// One step of Warshall's transitive closure: each variable that reaches k gets all variables that
-/// k reaches. Bit b of `reached[a]` says that a reaches b.
+/// One step of Warshall's transitive closure. If a reaches k, then `reached[a]` gets all variables
+/// that k reaches. Bit b of `reached[a]` is 1 if a reaches b.
 fn join_through(reached: &mut [Mask; 16], k: VarIx)
     requires { k < 16 }
     ensures { IsJoined reached.old k reached.new }
@@ -103,8 +104,8 @@ fn join_through(reached: &mut [Mask; 16], k: VarIx)
     }
 }
 
-/// The smallest variable from which the pairs lead back to itself. None if there is no such
-/// variable. Bit b of `below[a]` stands for the pair (a, b).
+/// The smallest variable from which the pairs lead, by one or more of them, back to itself. None if
+/// there is no such variable. Bit b of `below[a]` stands for the pair (a, b).
 fn least_on_cycle(below: &[Mask; 16]) -> Option<VarIx>
     ensures found { IfSome result (λ v. IsPairCycle (pairs_in 16 below.now) v) }
     ensures none { IfNone result (HasNoCycle (pairs_in 16 below.now)) }
@@ -138,9 +139,9 @@ fn masks_of(pairs: &[(VarIx, VarIx)]) -> Option<[Mask; 16]>
     Some(below)
 }
 
-/// The pairs of n variables that `below` has: bit b of `below[a]` stands for the pair (a, b).
-/// Refused if a variable of a pair isn't below n, or else if the pairs lead from a variable back to
-/// itself.
+/// The pairs of n variables that `below` has: bit b of `below[a]` stands for the pair (a, b). The
+/// error is `PairOutOfRange` if a variable of a pair isn't below n. Otherwise it is `PairCycle` if
+/// the pairs lead from a variable back to itself.
 fn of_masks(below: [Mask; 16], n: u8) -> Result<Pairs, PairsFault>
     requires some { 1 ≤ n }
     requires few { n ≤ 16 }
@@ -170,8 +171,8 @@ impl Pairs {
     }
 
     /// The pairs of n variables that a text such as `2,0:1,0` lists, in decimals from 0 to 15
-    /// without leading zeros. The error is the reason for which the text is refused. Duplicates are
-    /// ignored.
+    /// without leading zeros. The error is the reason for which the text is refused; an empty text
+    /// is a `BadPair`. Duplicates are ignored.
     pub fn parse(text: &[u8], n: u8) -> Result<Pairs, PairsFault>
         requires some { 1 ≤ n }
         requires few { n ≤ 16 }
@@ -257,8 +258,8 @@ impl Pairs {
         true
     }
 
-    /// Whether `set` is lawful, that is downward closed: for each pair (a, b), if it has a it has
-    /// b.
+    /// Whether `set` is lawful, that is downward closed: for each pair (a, b), the set contains b
+    /// if it contains a.
     pub fn lawful(&self, set: Mask) -> bool
         ensures { result ≡ is_lawful self.now.pairs (members self.now.inputs set) }
     {

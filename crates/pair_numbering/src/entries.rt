@@ -76,8 +76,9 @@ fn strip_at(numbers: &[u32], rank: u32, name: usize) -> &[u32]
 }
 
 impl<'a> EntryPairs<'a> {
-    /// The pairs of entries of the table `numbers` by one variable: entries 2^rank apart are a
-    /// pair. `rank` is how many variables outside the table's set are below that one.
+    /// The pairs of entries of the table `numbers` that differ in one variable. `rank` is how many
+    /// variables outside the table's set are below that one: entry i, if bit `rank` of i is 0, is
+    /// paired with entry i + 2^rank.
     #[inline(always)]
     pub fn of_table(numbers: &'a [u32], rank: u32) -> EntryPairs<'a>
         requires { IsPaired numbers.now rank }

@@ -49,8 +49,9 @@ fn join_blocks(entries: &EntryPairs<'_>, rank: u32, base: u32, joined: &mut [u32
     }
 }
 
-/// The joined number of each pair, low + base * high. Requires that all entries are below `base`.
-/// The small ranks, which are frequent, have a loop each.
+/// The joined number of each pair, low + base * high, block by block: low is the pair's entry where
+/// the variable is 0, and high that where it is 1. Requires that all entries are below `base`.
+/// Blocks of 1, 2, 4 and 8 pairs, which are frequent, have a loop each.
 fn join_keys(alloc: Global, entries: &EntryPairs<'_>, base: u32) -> Result<Vec<u32>, AllocError>
     requires below { AllBelow entries.now.numbers base }
     requires base { base ≤ 256 }

@@ -32,7 +32,8 @@ impl Model for Cover {
 }
 
 impl Cover {
-    /// The cover with the given numbers of inputs and outputs, their names, and terms.
+    /// The cover with the given numbers of inputs and outputs, one name for each input and for each
+    /// output, and `terms`. Requires that no term has a bit of an input or output that isn't there.
     pub(crate) fn new(
         inputs: u8,
         outputs: u8,

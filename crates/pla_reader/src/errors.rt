@@ -10,7 +10,7 @@ pub enum LineFault {
     /// description ends without these numbers.
     #[error("MissingHead")]
     MissingHead,
-    /// A directive that may occur only once comes again.
+    /// A directive that may occur only once comes again: `.i`, `.o`, `.ilb`, `.ob` or `.type`.
     #[error("RepeatedHead")]
     RepeatedHead,
     /// The number of inputs isn't 1 to 16.
@@ -19,11 +19,11 @@ pub enum LineFault {
     /// The number of outputs isn't 1 to 16.
     #[error("OutputCount")]
     OutputCount,
-    /// A directive that takes one number, of one to nine decimal digits, is followed by something
-    /// else.
+    /// A directive that takes one number (`.i`, `.o` or `.p`) isn't followed by exactly one word of
+    /// one to nine decimal digits.
     #[error("BadNumber")]
     BadNumber,
-    /// A directive lists more or fewer names than there are inputs, or outputs.
+    /// `.ilb` lists more or fewer names than there are inputs, or `.ob` than there are outputs.
     #[error("NameCount")]
     NameCount,
     /// A name with a byte outside 33 to 126.
@@ -55,8 +55,9 @@ pub enum LineFault {
 /// Why an input is not read as a cover.
 #[derive(Clone, Copy, Debug, PartialEq, Eq, Error)]
 pub enum PlaError {
-    /// The number of the first faulty line, counted from 1, and its fault. If the input has no
-    /// line, the number is 0.
+    /// The number of the first faulty line, counted from 1, and its fault. A description that ends
+    /// without the numbers of inputs and outputs is faulty at its last line, or at line 0 if it has
+    /// no line.
     #[error("line {0}: {1}")]
     Line(usize, LineFault),
     /// The input has more than 16,777,216 bytes.

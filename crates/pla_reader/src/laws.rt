@@ -20,8 +20,9 @@ pub fn inputs_have_one_reading()
         FirstFault bytes i e → FirstFault bytes j f → (i ≡ j) × (e ≡ f) }
 {}
 
-/// A cover that is read has 1 to 16 inputs and 1 to 16 outputs, with a name for each, and each of
-/// its products has an entry for each input and each output.
+/// A cover that is read has 1 to 16 inputs and 1 to 16 outputs, with a name for each. Each of its
+/// products states for each input which literal it has, if any, and for each output whether it
+/// belongs to the ON-set.
 pub fn covers_are_well_formed()
     ensures { (bytes : List ℕ) (cover : NamedCover) → Reads bytes cover → IsCover cover }
 {}

@@ -1,4 +1,5 @@
-//! The lines of a text, and the words of a line.
+//! The lines of a text, and the words of a line. Blanks separate words: spaces, tabs and carriage
+//! returns.
 
 ghost use Rattle.std.specs.Prelude.{◌≡◌, ◌<◌, ◌≤◌, ◌==◌, ◌||◌, ◌∷◌, ◌++◌, [], List, ℕ, length, IfSome, IfNone, Some, None};
 ghost use Rattle.std.specs.List.{position_or_len, list_all};
@@ -36,8 +37,8 @@ fn word_len(text: &[u8]) -> usize
     memchr3(b' ', b'\t', b'\r', text).unwrap_or(text.len())
 }
 
-/// The first line of `text`, without its line feed, and the text after the line feed. Requires
-/// `text` not to be empty.
+/// The first line of `text`, without its line feed, and the text after the line feed, which is
+/// empty if there is no line feed. Requires `text` not to be empty.
 #[tactic(auto, using(crate::proofs::TextLemmas::first_line_lem))]
 pub(crate) fn first_line(text: &[u8]) -> (&[u8], &[u8])
     requires { 0 < length text.now }
@@ -106,7 +107,7 @@ pub(crate) fn count_words(text: &[u8]) -> usize
     count
 }
 
-/// Whether each word of a text may be a name: all its bytes are from 33 to 126.
+/// Whether all words of a text may be names: all their bytes are from 33 to 126.
 pub(crate) fn has_names(text: &[u8]) -> bool
     ensures { result ≡ list_all is_name (words text.now) }
 {

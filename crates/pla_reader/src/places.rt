@@ -12,11 +12,13 @@ use crate::lines::{content, first_line, next_word};
 use crate::statements::{Statement, statement_of};
 use std::alloc::{AllocError, Global};
 
-/// A part of a text: the place of its first byte, and how many bytes it has.
+/// A part of a text.
 #[repr(C)]
 #[derive(Clone, Copy, Debug, PartialEq, Eq)]
 pub struct TextPlace {
+    /// The index of the part's first byte in the text, counted from 0.
     pub start: usize,
+    /// How many bytes the part has.
     pub length: usize,
 }
 
@@ -27,7 +29,8 @@ pub enum Names {
     Outputs,
 }
 
-/// Whether a statement lists the names of the inputs, or else of the outputs, as `names` says.
+/// Whether a statement lists the names that `names` asks for: those of the inputs, or those of the
+/// outputs.
 fn gives(statement: &Statement<'_>, names: Names) -> bool
     ensures { result ≡ is_some (naming_by names (line_of statement.now)) }
 {
@@ -37,7 +40,8 @@ fn gives(statement: &Statement<'_>, names: Names) -> bool
     }
 }
 
-/// The places of the words of `text` in a longer text, in which `text` begins at byte `start`.
+/// The words of `text`, as parts of a longer text. `start` is the index, in the longer text, of the
+/// first byte of `text`.
 fn word_places(alloc: Global, text: &[u8], start: usize) -> Result<Vec<TextPlace>, AllocError>
     requires { start + length text.now < 2 ^ 64 }
     ensures spell { IfOk result (λ v. (front back : List ℕ) → length front ≡ start →
@@ -56,8 +60,9 @@ fn word_places(alloc: Global, text: &[u8], start: usize) -> Result<Vec<TextPlace
     Ok(places)
 }
 
-/// The places of the names that `line` lists, in a longer text, in which the line begins at byte
-/// `start`. The first word of the line is the directive. Empty if the line has no word.
+/// The names that a line lists, as parts of a longer text. The first word of `line` is the
+/// directive, and the names are the other words. `start` is the index, in the longer text, of the
+/// first byte of `line`. Empty if the line has no word.
 fn given_places(alloc: Global, line: &[u8], start: usize) -> Result<Vec<TextPlace>, AllocError>
     requires { start + length line.now < 2 ^ 64 }
     ensures given { IfOk result (λ v. (front back : List ℕ) (names : Names) → length front ≡ start →
@@ -71,8 +76,9 @@ fn given_places(alloc: Global, line: &[u8], start: usize) -> Result<Vec<TextPlac
     }
 }
 
-/// The places in the description `bytes` of the names that it lists for its inputs, or for its
-/// outputs, as `names` says. Empty if it lists none.
+/// The names that the description `bytes` lists for its inputs, or for its outputs, as `names`
+/// says. Each is a part of `bytes`. If several lines list such names, the first line counts, and
+/// lines after the description's end do not. Empty if no line lists them.
 pub fn name_places(alloc: Global, bytes: &[u8], names: Names) -> Result<Vec<TextPlace>, AllocError>
     ensures { IfOk result (λ v. AreNamesAt names bytes.now v.items) }
 {

@@ -21,17 +21,19 @@ use crate::terms::row;
 use order_model::{Term, decimal_number};
 use std::alloc::{AllocError, Global};
 
-/// The logical type of a description, f or fd.
+/// The logical type of a description, f or fd, as espresso(5) defines them.
 #[derive(Clone, Copy)]
 pub(crate) enum LogicalType {
     F,
     Fd,
 }
 
-/// Why a line was not recorded: an allocation was refused, or the line has a fault.
+/// Why a line was not recorded.
 #[derive(Clone, Copy)]
 pub(crate) enum LineError {
+    /// An allocation was refused.
     Memory,
+    /// The line has this fault.
     Fault(LineFault),
 }
 
@@ -89,9 +91,10 @@ fn is_number_alone(text: &[u8]) -> bool
     }
 }
 
-/// Checks the names that the text after a directive lists, and returns their fault if they have
-/// one. `count` is the stated number of inputs or outputs, None if it wasn't stated yet, and
-/// `repeated` says whether names were listed before.
+/// Checks the names that the text after a directive lists. The error is their first fault, in this
+/// order: the number of names is unknown (`count` is None), names were listed before (`repeated`),
+/// there are more or fewer than `count`, or one of them has a byte outside 33 to 126. `count` is
+/// the number of inputs or outputs that an earlier line stated.
 fn check_names(count: Option<u8>, repeated: bool, text: &[u8]) -> Result<(), LineFault>
     ensures { MatchResult result
         (λ done. (naming_fault (is_some count) repeated (unwrap_or count 0) (words text.now) ≡ None)
@@ -131,7 +134,8 @@ fn logical_type(repeated: bool, late: bool, text: &[u8]) -> Result<LogicalType, 
     }
 }
 
-/// The names `given` or, if there are none, `count` names: `front` followed by 0, 1, 2 and so on.
+/// The names `given`. If this is None, `count` names instead: `front` followed by 0, 1, 2 and so
+/// on.
 fn given_or_default_names(
     alloc: Global,
     given: Option<Vec<String>>,
@@ -207,8 +211,8 @@ impl Progress {
         Ok(())
     }
 
-    /// Records the names of the inputs that the text after the directive `.ilb` lists, or returns
-    /// the fault.
+    /// Records the names of the inputs that the text after the directive `.ilb` lists. The error is
+    /// the fault of the names, or `Memory`.
     fn take_input_names(&mut self, alloc: Global, text: &[u8]) -> Result<(), LineError>
         ensures { Takes self.old (InputNames (words text.now)) self.new result }
     {
@@ -217,8 +221,8 @@ impl Progress {
         Ok(())
     }
 
-    /// Records the names of the outputs that the text after the directive `.ob` lists, or returns
-    /// the fault.
+    /// Records the names of the outputs that the text after the directive `.ob` lists. The error is
+    /// the fault of the names, or `Memory`.
     fn take_output_names(&mut self, alloc: Global, text: &[u8]) -> Result<(), LineError>
         ensures { Takes self.old (OutputNames (words text.now)) self.new result }
     {
@@ -237,7 +241,8 @@ impl Progress {
         Ok(())
     }
 
-    /// Records the term that a line states, or returns the fault.
+    /// Records the term that a line states. `text` is the line without its comment. The error is
+    /// the first fault of the line, or `Memory`.
     fn take_row(&mut self, text: &[u8]) -> Result<(), LineError>
         requires { IsSoundState (state_of self.old) }
         ensures { Takes self.old (Row (positions text.now)) self.new result }
@@ -252,7 +257,8 @@ impl Progress {
         }
     }
 
-    /// Records what the next line states, or returns the fault of the line.
+    /// Records what the next line states. The error is the fault of the line, or `Memory`. A
+    /// correct `.p`, the end of the description, and a line without a word change nothing.
     pub(crate) fn take(&mut self, alloc: Global, statement: Statement) -> Result<(), LineError>
         requires { IsSoundState (state_of self.old) }
         ensures { Takes self.old (line_of statement.entry) self.new result }
@@ -276,8 +282,10 @@ impl Progress {
         }
     }
 
-    /// Makes the cover that the lines state. If no line stated the number of inputs, or of outputs,
-    /// the fault is `MissingHead` at line `number`, the last line of the description.
+    /// Makes the cover that the lines state, and uses up the progress. Inputs without stated names
+    /// get the names x0, x1 and so on, outputs y0, y1 and so on. If no line stated the number of
+    /// inputs, or of outputs, the fault is `MissingHead` at line `number`, the last line of the
+    /// description. Otherwise the only error is `OutOfMemory`.
     pub(crate) fn finish(self, alloc: Global, number: usize) -> Result<Cover, PlaError>
         requires { IsSoundState (state_of self) }
         ensures ok { IfOk result (IsCoverOf (state_of self)) }

@@ -16,7 +16,8 @@ use std::alloc::Global;
 /// The most bytes that an input may have: 16 MiB.
 pub const MOST_BYTES: usize = 16_777_216;
 
-/// The cover that the bytes of an input describe. The error is the first fault.
+/// The cover that the bytes of an input describe. The error is the first faulty line with its
+/// fault, or `OutOfMemory`. `bytes` may be longer than `MOST_BYTES`.
 pub fn read_bytes(alloc: Global, bytes: &[u8]) -> Result<Cover, PlaError>
     ensures { Answers bytes.now result }
 {

@@ -8,8 +8,8 @@ ghost use Rattle.pla_reader.specs.Statements.{line_of};
 
 use crate::lines::{content, next_word};
 
-/// What a line states: a directive with the text after its first word, or a term with the text of
-/// the line.
+/// What a line states. Directives with arguments have the text after their first word, without the
+/// line's comment.
 #[derive(Drop)]
 pub(crate) enum Statement<'a> {
     /// The line has no word.
@@ -22,7 +22,7 @@ pub(crate) enum Statement<'a> {
     InputNames(&'a [u8]),
     /// `.ob`, the names of the outputs.
     OutputNames(&'a [u8]),
-    /// `.p`, the number of terms.
+    /// `.p`, a number of terms, which is not compared with the terms.
     Products(&'a [u8]),
     /// `.type`, the logical type.
     Type(&'a [u8]),
@@ -30,7 +30,7 @@ pub(crate) enum Statement<'a> {
     End,
     /// Any other directive.
     Unknown,
-    /// A term.
+    /// A term. The text is the line without its comment.
     Row(&'a [u8]),
 }
 

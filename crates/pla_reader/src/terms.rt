@@ -20,8 +20,9 @@ pub(crate) struct Masks {
     outs: Mask,
 }
 
-/// Adds to a term's masks its input position `at`, which has byte `b`, and returns the new masks,
-/// or the fault of this byte. `masks` are those of the positions before.
+/// Returns `masks` with one more input position, which has byte `b`. Position `at`, counted from 0,
+/// is that of input `at`: `0` and `1` are its literals, `-` and `2` are none. The error is the
+/// fault of any other byte.
 fn with_input(masks: Masks, at: u8, b: u8) -> Result<Masks, LineFault>
     requires small { at < 16 }
     requires fresh { bit_at masks.value at ≡ 0 }
@@ -43,9 +44,9 @@ fn with_input(masks: Masks, at: u8, b: u8) -> Result<Masks, LineFault>
     Ok(new)
 }
 
-/// Adds to a term's masks its output position `at`, which has byte `b`, and returns the new masks,
-/// or the fault of this byte. `masks` are those of the positions before. `takes_dont_cares` says
-/// whether `-` and `2` are allowed.
+/// Returns `masks` with one more output position, which has byte `b`. Position `at`, counted from
+/// 0, is that of output `at`: `1` puts the term in its ON-set, `0` and `~` don't. `-` and `2` don't
+/// either, and are a fault unless `takes_dont_cares`. The error is the fault of the byte.
 fn with_output(masks: Masks, at: u8, b: u8, takes_dont_cares: bool) -> Result<Masks, LineFault>
     requires small { at < 16 }
     requires none { bit_at masks.outs at ≡ 0 }
@@ -68,6 +69,7 @@ fn with_output(masks: Masks, at: u8, b: u8, takes_dont_cares: bool) -> Result<Ma
 }
 
 /// The term of n inputs and m outputs that a line states, or the line's first fault from the left.
+/// The line has n input positions and then m output positions; blanks and `|` are passed over.
 /// `takes_dont_cares` says whether output positions `-` and `2` are allowed.
 pub(crate) fn row(n: u8, m: u8, takes_dont_cares: bool, line: &[u8]) -> Result<Term, LineFault>
     requires inputs { n ≤ 16 }

@@ -72,9 +72,10 @@ fn halves(nodes: &[Node], variable: VarIx, r: Ref) -> (Ref, Ref)
 }
 
 /// Appends to `level`, for each ref of `cut`, a node of `variable`: the places of its low and its
-/// high child in the cut below. Appends to `codes` the numbers of the refs in the cut below, by
-/// first occurrence. Requires both lists to be empty. `cut` is the cut above the level, and n the
-/// number of variables.
+/// high child in the cut below. Appends to `codes` the codes (see `code`) of the refs in the cut
+/// below, each once, by first occurrence: a ref's place in the cut is its index in `codes`.
+/// Requires both lists to be empty. `cut` is the cut above the level, and n the number of
+/// variables.
 fn number_halves(
     n: u8,
     nodes: &[Node],
@@ -101,9 +102,9 @@ fn number_halves(
     Ok(())
 }
 
-/// Returns the nodes of the level of `variable`, and the cut below the level. `cut` is the cut
-/// above the level: the refs that paths from the roots come to when the variables above are fixed.
-/// n is the number of variables.
+/// Returns the nodes of the level of `variable`, one for each ref of `cut` and in the same order,
+/// and the cut below the level. `cut` is the cut above the level: the distinct refs that paths from
+/// the roots come to when the variables above are fixed. n is the number of variables.
 fn split(
     alloc: Global,
     n: u8,
@@ -124,8 +125,9 @@ fn split(
     Ok((level, next))
 }
 
-/// Appends to `numbers` the place of each root in the topmost cut, and to `codes` the numbers of
-/// the refs in this cut, by first occurrence. Requires both lists to be empty.
+/// Appends to `numbers` the place of each root in the topmost cut. Appends to `codes` the codes
+/// (see `code`) of the refs in this cut, each once, by first occurrence: a ref's place in the cut
+/// is its index in `codes`. Requires both lists to be empty.
 fn number_roots(
     roots: &[Ref],
     codes: &mut IndexSet<usize>,
@@ -145,8 +147,8 @@ fn number_roots(
     Ok(())
 }
 
-/// Returns the place of each root in the topmost cut, and this cut: the roots, each once. `size` is
-/// the number of nodes in the diagram.
+/// Returns the place of each root in the topmost cut, and this cut: the distinct roots, by first
+/// occurrence. `size` is the number of nodes in the diagram.
 fn first_cut(alloc: Global, size: usize, roots: &[Ref]) -> Result<(Vec<u32>, Vec<Ref>), AllocError>
     requires small { size < 2 ^ 32 }
     requires few { length roots.now ≤ 16 }
@@ -160,7 +162,8 @@ fn first_cut(alloc: Global, size: usize, roots: &[Ref]) -> Result<(Vec<u32>, Vec
     Ok((numbers, cut))
 }
 
-/// For each ref of the cut below the lowest level, whether it is the terminal 1.
+/// The terminals of the cut below the lowest level: entry k is true if ref k of `cut` is the
+/// terminal 1.
 fn terminal_values(alloc: Global, cut: &[Ref]) -> Result<Vec<bool>, AllocError>
     ensures { IfOk result (λ v. v.items ≡ map is_true cut.now) }
 {
@@ -171,19 +174,21 @@ fn terminal_values(alloc: Global, cut: &[Ref]) -> Result<Vec<bool>, AllocError>
     Ok(values)
 }
 
-/// A reduced diagram, stored by levels.
+/// A reduced diagram, stored by levels. Nodes whose two children are equal are added, so that each
+/// edge goes to the next level.
 #[derive(Drop)]
 pub(crate) struct BuiltLevels {
-    /// The place of each root on the top level.
+    /// Entry j is the index, in the top level's list of nodes, of the node that stands for root j.
     pub(crate) roots: Vec<u32>,
     /// The levels, top first.
     pub(crate) levels: Vec<Level>,
-    /// For each place below the lowest level, whether it is the terminal 1.
+    /// The terminals below the lowest level, each once: `true` is terminal 1. The children of the
+    /// lowest level's nodes are indexes in this list.
     pub(crate) terminals: Vec<bool>,
 }
 
-/// Makes the levels of the reduced diagram with these nodes, each after its children, and these
-/// roots. `order` has the diagram's variables, top first.
+/// Makes the levels of a diagram with these nodes, each after its children, and these roots.
+/// `order` has the diagram's variables, top first. Requires the diagram to be ordered and reduced.
 pub(crate) fn levels_of(
     alloc: Global,
     order: &[VarIx],

@@ -12,26 +12,27 @@ use std::alloc::{AllocError, Global};
 use std::thread;
 use std::thread::Threads;
 
-/// The most passes of sifting that are made from one start. Two to five passes gain all that there
-/// is to be gained.
+/// The most passes of sifting that `repeat` makes. Two to five passes gain all that there is to be
+/// gained.
 const MOST_PASSES: u32 = 16;
 
 /// The fewest inputs for which sifting is repeated: with fewer, a search takes no longer than
 /// sifting again.
 const LEAST_INPUTS: usize = 13;
 
-/// Two sizes are near if they differ by at most one part in `NEAR_PART` of the second size. The
-/// sizes of random functions are near under all orders.
+/// Two sizes are near if they differ by at most the second size divided by `NEAR_PART`, rounded
+/// down. The sizes of random functions are near under all orders.
 const NEAR_PART: u32 = 64;
 
-/// Whether `size` and `other` differ by at most a sixty-fourth of `other`.
+/// Whether `size` and `other` differ by at most a sixty-fourth of `other`, rounded down.
 fn is_near(size: u32, other: u32) -> bool {
     size.abs_diff(other) <= other / NEAR_PART
 }
 
 impl Manager {
-    /// Reverses the manager's order as far as the pairs allow, and returns the manager: from the
-    /// top of the order on, each variable is raised as far as the pairs allow.
+    /// Reverses the manager's order as far as the pairs allow, and returns the manager. The
+    /// variables are taken from the top of the order at the start; each is moved up until it is at
+    /// the top or a pair stops it.
     fn turned_over(self, alloc: Global) -> Result<Manager, AllocError>
         ensures functions { IfOk result (λ m. m.problem ≡ self.problem) }
         ensures pairs { IfOk result (λ m. m.pairs ≡ self.pairs) }
@@ -50,8 +51,9 @@ impl Manager {
 impl Sifted {
     ghost use Rattle.sifting.specs.Managed.{IsNoLarger};
 
-    /// Repeats passes of sifting from this order on until a pass gains nothing, but at most
-    /// `MOST_PASSES` times. Returns the order of the last pass. `sifter` moves the variables.
+    /// Repeats passes of sifting from this order on until a pass leaves the size as it is, but
+    /// makes at most `MOST_PASSES`. Returns the result of the last pass. `sifter` moves the
+    /// variables.
     fn repeat<S: Sifter>(self, sifter: &S, alloc: Global) -> Result<Sifted, AllocError>
         ensures { IfOk result (IsNoLarger self) }
     {
@@ -67,8 +69,8 @@ impl Sifted {
     }
 
     /// A second start of sifting: a copy of the diagram, with this order reversed as far as the
-    /// pairs allow. None if the size of this start differs from the size of this order by at most a
-    /// sixty-fourth.
+    /// pairs allow. None if the copy's size differs from this order's by at most a sixty-fourth of
+    /// the latter.
     fn other_start(&self, alloc: Global) -> Result<Option<Manager>, AllocError>
         ensures { IfOk result (λ o. IfSome o (λ m. (m.problem ≡ self.now.problem)
             × (m.pairs ≡ self.now.pairs))) }
@@ -93,10 +95,10 @@ impl Sifted {
         }
     }
 
-    /// Sifts from two starts, this order and this order reversed as far as its pairs allow, until a
-    /// pass gains nothing or `MOST_PASSES` are done. Returns the order of smaller size, which is no
-    /// larger than this one. If reversing changes the size by at most a sixty-fourth, returns this
-    /// order unchanged.
+    /// Sifts from two starts, this order and this order reversed as far as its pairs allow, each
+    /// until a pass leaves the size as it is or `MOST_PASSES` are done (one more for the reversed
+    /// order). Returns the smaller of both results, which is no larger than this order. If
+    /// reversing changes the size by at most a sixty-fourth, returns this order unchanged.
     pub fn sifted_to_convergence(self, alloc: Global) -> Result<Sifted, AllocError>
         ensures { IfOk result (IsNoLarger self) }
     {
@@ -120,9 +122,10 @@ impl Sifted {
         self.sifted_to_convergence(alloc)
     }
 
-    /// The order whose size bounds the search, as `search_bound` returns it. It is made by as many
-    /// threads as there are workers, at most four: half of them sift from this order, and half from
-    /// this order reversed.
+    /// The order whose size bounds the search, as `search_bound` returns it. With one worker the
+    /// calling thread does all. With two or three, one thread sifts from this order, and one from
+    /// this order reversed. With four or more, each of the two starts has two threads while its
+    /// diagram is large.
     pub fn search_bound_by_threads<R: Threads + Sync>(
         self,
         rt: &R,

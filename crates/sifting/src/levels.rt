@@ -11,13 +11,15 @@ ghost use Rattle.sifting.specs.Leveled.{branching, HasChildren, SwapsLevels};
 use crate::node_table::NodeTable;
 use std::alloc::{AllocError, Global};
 
-/// A node, as the places of its low and its high child on the next level.
+/// A node: the index of its low child and that of its high child in the next level's list of nodes.
+/// On the lowest level these are indexes in the list of terminals.
 pub(crate) type Children = (u32, u32);
 
-/// A level of a diagram.
+/// A level of a diagram. It also has nodes whose two children are equal, so that each edge goes to
+/// the next level.
 #[derive(Debug, Drop)]
 pub(crate) struct Level {
-    /// The nodes, each once.
+    /// The nodes, each once. A node's place is its index here.
     pub nodes: Vec<Children>,
     /// How many nodes have two different children.
     pub count: u32,
@@ -60,8 +62,8 @@ impl Level {
 }
 
 /// Swaps the variables of two adjacent levels, whose nodes are `upper` and `lower`. Returns the new
-/// upper level and the new lower one. `table` numbers the new nodes of the lower level and lends
-/// its memory.
+/// upper level and then the new lower one. The new upper level has as many nodes as `upper`, in the
+/// same places. `table` numbers the new nodes of the lower level and lends its memory.
 pub(crate) fn swap_levels(
     alloc: Global,
     table: &mut NodeTable,

@@ -19,11 +19,12 @@ use std::mem;
 #[derive(Debug, Drop)]
 pub struct Manager {
     order: Order,
-    /// The place of each root on the top level.
+    /// Entry j is the index, in the top level's list of nodes, of the node that stands for root j.
     roots: Vec<u32>,
     /// The levels, top first.
     levels: Vec<Level>,
-    /// For each place below the lowest level, whether it is the terminal 1.
+    /// The terminals below the lowest level, each once: `true` is terminal 1. The children of the
+    /// lowest level's nodes are indexes in this list.
     terminals: Vec<bool>,
     /// The pairs that the order keeps.
     pairs: Pairs,
@@ -47,7 +48,7 @@ impl Model for Manager {
         (nodes_of m.levels.items) m.terminals.items m.order m.roots.items m.pairs };
 }
 
-/// Copies of these levels, in the same order.
+/// Copies `levels`.
 fn copies_of(alloc: Global, levels: &[Level]) -> Result<Vec<Level>, AllocError>
     ensures { IfOk result (λ v. nodes_of v.items ≡ nodes_of levels.now) }
 {
@@ -59,8 +60,9 @@ fn copies_of(alloc: Global, levels: &[Level]) -> Result<Vec<Level>, AllocError>
 }
 
 impl Manager {
-    /// Makes the manager of a reduced diagram, without pairs. Takes a step for each node and for
-    /// each level that an edge passes over.
+    /// Makes the manager of a diagram, without pairs. Requires the diagram to be ordered and
+    /// reduced, and to have at most 16 roots. Takes a step for each node and for each level that an
+    /// edge passes over.
     pub fn of(alloc: Global, diagram: Diagram) -> Result<Manager, AllocError>
         requires few { length diagram.graph.roots ≤ 16 }
         requires ordered { IsOrdered diagram.order diagram.graph }
@@ -74,8 +76,9 @@ impl Manager {
         Ok(manager)
     }
 
-    /// Makes the manager of a reduced diagram whose order keeps `pairs`. Takes a step for each node
-    /// and for each level that an edge passes over.
+    /// Makes the manager of a diagram whose order keeps `pairs`. Requires the diagram to be ordered
+    /// and reduced, and to have at most 16 roots. Takes a step for each node and for each level
+    /// that an edge passes over.
     pub fn with_pairs(alloc: Global, diagram: Diagram, pairs: Pairs) -> Result<Manager, AllocError>
         requires few { length diagram.graph.roots ≤ 16 }
         requires ordered { IsOrdered diagram.order diagram.graph }
@@ -149,7 +152,8 @@ impl Manager {
         size
     }
 
-    /// How many nodes each level has, top first. The entries past the last level are 0.
+    /// How many nodes of the reduced diagram each level has, top first. The entries past the last
+    /// level are 0.
     pub fn level_counts(&self) -> [u32; 16]
         ensures counts { (i : ℕ) → i < length self.now.order →
             slice_index result i ≡ count_of self.now i }

@@ -11,19 +11,22 @@ use std::mem;
 /// The memory of earlier levels is used again.
 #[derive(Debug, Drop)]
 pub(crate) struct NodeTable {
-    /// A slot with a node of this level has the node's number plus `base`. A smaller value is left
-    /// from an earlier level and counts as free, so that a new level begins without clearing the
-    /// slots.
+    /// The hash table. A slot with a node of this level has the node's number plus `base`. A
+    /// smaller value is left from an earlier level and counts as free, so that a new level begins
+    /// without clearing the slots.
     pub slots: Vec<u32>,
-    /// The search for a node begins at a slot from 0 to `homes`.
+    /// The search for a node begins at one of the slots from 0 to `homes`, which `home` computes,
+    /// and goes up from there.
     pub homes: usize,
-    /// The number that the slots of this level add to a node's number.
+    /// What the slots of this level add to a node's number. It is larger than all values that
+    /// earlier levels left in the slots.
     pub base: u32,
     /// The nodes of the level so far, by first occurrence: a node's place is its number.
     pub nodes: Vec<Children>,
     /// How many of these nodes have two different children.
     pub count: u32,
-    /// A list whose memory the next level uses.
+    /// The list of nodes of an earlier level, whose memory `spare_list` uses. What it has doesn't
+    /// matter.
     pub spare: Vec<Children>,
 }
 
@@ -42,8 +45,9 @@ fn home(homes: usize, node: Children) -> usize
     ((high * homes as u64) >> 32) as usize
 }
 
-/// The number of the node in a slot whose value is `slot`: the value less `base`. None if the slot
-/// is free, that is if this isn't a number below `count`. `count` is the number of nodes so far.
+/// The number of the node in a slot whose value is `slot`: `slot - base`, if this is from 0 to
+/// `count` - 1. Otherwise the slot is free, and the result is None. `count` is the number of nodes
+/// in the level so far.
 #[inline(always)]
 fn number_in(slot: u32, base: u32, count: usize) -> Option<usize>
     ensures some { IfSome result (HasNumber base count slot) }
@@ -107,7 +111,8 @@ impl NodeTable {
         }
     }
 
-    /// Takes two levels that are no longer needed, and keeps their memory for the next levels.
+    /// Takes two levels that are no longer needed, and keeps the memory of their nodes for the next
+    /// levels. Is called between `finish` and `begin`, because it replaces the table's nodes.
     pub fn reuse(&mut self, upper: Level, lower: Level) {
         self.spare = upper.nodes;
         self.nodes = lower.nodes;
@@ -123,7 +128,8 @@ impl NodeTable {
         Ok(list)
     }
 
-    /// Begins a new level, which may get at most `most` nodes: the table then has no nodes.
+    /// Begins a new level, which may get at most `most` nodes. The table then has no nodes, and all
+    /// its slots are free.
     pub fn begin(&mut self, most: usize) -> Result<(), AllocError>
         requires { 2 * most ≤ 2 ^ 32 }
         ensures table { OnOk result (IsNodeTable self.new) }
@@ -143,7 +149,8 @@ impl NodeTable {
         Ok(())
     }
 
-    /// Returns the number of `node` in the level, after adding the node to the level if it is new.
+    /// Returns the number of `node` in the level, counted from 0, after adding the node to the
+    /// level if it is new.
     #[inline(always)]
     pub fn number_of(&mut self, node: Children) -> Result<u32, AllocError>
         requires table { IsNodeTable self.old }
@@ -165,7 +172,8 @@ impl NodeTable {
         Ok(number)
     }
 
-    /// Takes the finished level out of the table.
+    /// Takes the finished level out of the table, which has then no nodes. The slots' values become
+    /// old ones.
     pub fn finish(&mut self, alloc: Global) -> Level
         requires table { IsNodeTable self.old }
         requires room { self.old.base + length self.old.nodes.items < 2 ^ 32 }

@@ -14,11 +14,12 @@ use std::alloc::{AllocError, Global};
 use std::thread;
 use std::thread::Threads;
 
-/// The fewest nodes of a diagram for which two threads move a variable: with fewer, moving it takes
-/// no longer than starting a thread.
+/// How many nodes a diagram must have at least for two threads to move a variable. With fewer,
+/// moving it takes no longer than starting a thread.
 const LEAST_NODES: u32 = 4096;
 
-/// Moves the variable at place `from` down to place `to`. Requires the pairs to allow this.
+/// Moves the variable at place `from` down to place `to`, both counted from 0 at the top. Requires
+/// that no pair requires one of the variables that it passes to stay below it.
 fn lower(alloc: Global, manager: Manager, from: usize, to: usize) -> Result<Manager, AllocError>
     requires within { to < length manager.order }
     requires downward { from ≤ to }
@@ -32,9 +33,9 @@ fn lower(alloc: Global, manager: Manager, from: usize, to: usize) -> Result<Mana
     Ok(manager)
 }
 
-/// Moves the variable at place `from` up in one copy of the diagram, and down in another one, each
-/// by a thread of its own and as far as the pairs allow. Returns the result of the way up, and then
-/// that of the way down.
+/// Moves the variable at place `from`, counted from 0 at the top, up in one copy of the diagram and
+/// down in another one, each as far as the pairs allow and by a thread of its own. Returns the
+/// result of `walk_up` and then that of `walk_down`.
 fn walk_both<R: Threads>(
     rt: &R,
     alloc: Global,
@@ -62,8 +63,8 @@ fn walk_both<R: Threads>(
 
 /// A way to move a variable to its best place. All ways give the same order.
 pub(crate) trait Sifter {
-    /// Moves variable x to its best place, and returns the manager: of the places that keep the
-    /// pairs, the uppermost at which the diagram has the fewest nodes.
+    /// Moves variable x to its best place: of the places that keep the pairs, the uppermost at
+    /// which the diagram has the fewest nodes. Returns the manager.
     fn put_best(&self, alloc: Global, manager: Manager, x: VarIx) -> Result<Manager, AllocError>
         requires { x < length manager.order }
         ensures order { IfOk result
@@ -78,7 +79,8 @@ pub(crate) trait Sifter {
 #[derive(Drop)]
 pub(crate) struct SerialSifter;
 
-/// Moves variables by two threads, if there are two workers or more and the diagram is large.
+/// Moves variables by two threads, if there are two workers or more and the diagram has at least
+/// `LEAST_NODES` nodes, and else by the calling thread.
 #[derive(Drop)]
 pub(crate) struct ThreadedSifter<'r, R> {
     /// The runtime that starts the threads.
@@ -110,7 +112,7 @@ impl<'r, R: Threads> Sifter for ThreadedSifter<'r, R> {
 }
 
 impl Manager {
-    /// One pass of sifting, in which `sifter` moves the variables. It returns what `sift` returns.
+    /// One pass of sifting, in which `sifter` moves the variables. Returns what `sift` returns.
     pub(crate) fn sift_by<S: Sifter>(self, sifter: &S, alloc: Global) -> Result<Sifted, AllocError>
         ensures order { IfOk result (λ s. s.order ≡ sifted_order self) }
         ensures functions { IfOk result (λ s. s.problem ≡ self.problem) }
@@ -125,8 +127,9 @@ impl Manager {
         Ok(Sifted::of(manager))
     }
 
-    /// One pass of sifting by two threads, if there are two workers or more and the diagram is
-    /// large, and else by the calling thread. It returns what `sift` returns.
+    /// One pass of sifting. With two workers or more, two threads move a variable if the diagram
+    /// then has at least `LEAST_NODES` nodes; the calling thread moves the other variables. Returns
+    /// what `sift` returns.
     pub fn sift_by_threads<R: Threads>(
         self,
         rt: &R,

@@ -240,11 +240,11 @@ impl<'a> Search<'a> {
 /// missed. None are sought of two variables that `pairs` connect, directly or through other
 /// variables.
 ///
-/// At most n - 1 exchanges of n variables are found, and after `MOST_FAILURES` tried ones that
-/// change a function the search ends. The test of one takes a step for each point. If no two
-/// variables that `pairs` don't connect have equal marks by `quick_marks`, none is tried. Each
-/// variable is tried with the nearest smaller ones first: then there are few sets that no found
-/// exchange takes to a greater mask.
+/// Finds at most n - 1 exchanges of n variables, and stops after `MOST_FAILURES` tried exchanges
+/// that change a function. Testing one takes a step for each point. A mark is a hash that is equal
+/// for two variables that an exchange without a change takes to each other; if `pairs` connect all
+/// variables with equal quick marks, no exchange is tried. Each variable is tried with the nearest
+/// smaller ones first: then few sets are left that no found exchange takes to a greater mask.
 pub fn exchanges_of(
     alloc: Global,
     problem: &Problem,

@@ -23,7 +23,7 @@ fn refs_of(alloc: Global, numbers: &[u32]) -> Result<Vec<Ref>, AllocError>
 }
 
 /// Makes the reduced diagram, under `order`, of the functions of `tables`, level by level from the
-/// bottom. Takes a step for each output and point.
+/// bottom. In its list of nodes, lower levels come first. Takes a step for each output and point.
 pub fn reduced_diagram(alloc: Global, tables: &Tables, order: &Order) -> Result<Diagram, AllocError>
     requires { length order.now ≡ tables.now.inputs }
     ensures diagram { IfOk result

@@ -9,8 +9,9 @@ ghost use Rattle.truth_table.specs.Fixing.{fixed_bit};
 use order_model::VarIx;
 use order_model::packed::lower_half;
 
-/// Fixes variable x to `upper` in one word of a packed truth table: the result has at each of the
-/// 64 points the value of `word` at that point with x set to `upper`. Requires x to be below 6.
+/// Fixes variable x in one word of a packed truth table, to 1 if `upper`, else to 0: the result has
+/// at each of the 64 points the value of `word` at that point with x so fixed. Requires x to be
+/// below 6.
 fn fixed_word(word: u64, x: VarIx, upper: bool) -> u64
     requires { x < 6 }
     ensures { (k : ℕ) → k < 64 → bit_at result k ≡ bit_at word (fixed_bit x upper k) }
@@ -20,7 +21,8 @@ fn fixed_word(word: u64, x: VarIx, upper: bool) -> u64
     half | (half << step)
 }
 
-/// Fixes variable x to `upper` in each word of a packed truth table. Requires x to be below 6.
+/// Fixes variable x in each word of a packed truth table, to 1 if `upper`, else to 0. Requires x to
+/// be below 6.
 fn fix_halves(words: &mut [u64], x: VarIx, upper: bool)
     requires { x < 6 }
     ensures { (i k : ℕ) → i < length words.new → k < 64 →
@@ -32,7 +34,7 @@ fn fix_halves(words: &mut [u64], x: VarIx, upper: bool)
     }
 }
 
-/// The index `i` with its bit r set to `upper`.
+/// The index `i` with its bit r set to 1 if `upper`, else to 0.
 fn fixed_place(i: usize, r: u8, upper: bool) -> usize
     requires place { i < 1024 }
     requires small { r < 10 }
@@ -46,8 +48,8 @@ fn fixed_place(i: usize, r: u8, upper: bool) -> usize
     }
 }
 
-/// Fixes variable r + 6 to `upper` in a packed truth table: each word gets the value of the word
-/// whose index has bit r set to `upper`.
+/// Fixes variable r + 6 in a packed truth table, to 1 if `upper`, else to 0: word i gets the value
+/// that word `fixed_place(i, r, upper)` had. Requires that index to be in `words`, for each i.
 fn fix_rows(words: &mut [u64], r: u8, upper: bool)
     requires few { length words.old ≤ 1024 }
     requires small { r < 10 }
@@ -60,7 +62,9 @@ fn fix_rows(words: &mut [u64], r: u8, upper: bool)
     }
 }
 
-/// Fixes variable x to `upper` in the packed truth table of a function of n variables.
+/// Fixes variable x, to 1 if `upper`, else to 0, in the packed truth table of a function of n
+/// variables. Before and after the call, `words` has `words_per_table(n)` words, whose bits past
+/// the last point are 0.
 pub(crate) fn fix_variable(n: u8, words: &mut [u64], x: VarIx, upper: bool)
     requires few { n ≤ 16 }
     requires variable { x < n }

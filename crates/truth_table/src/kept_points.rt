@@ -1,10 +1,10 @@
-//! Copies of the words of a truth table with the bits of a mask alone.
+//! Copies of truth tables in which some bits of each word are cleared.
 
 ghost use Rattle.std.specs.Prelude.{◌≡◌, ◌<◌, ℕ, bit_and, length, slice_index, IfOk};
 
 use std::alloc::{AllocError, Global};
 
-/// A copy of `words` in which all bits outside `mask` are set to 0 in each word.
+/// A copy of `words` with each word replaced by `word & mask`.
 pub(crate) fn kept_points(alloc: Global, words: &[u64], mask: u64) -> Result<Vec<u64>, AllocError>
     ensures long { IfOk result (λ v. length v.items ≡ length words.now) }
     ensures words { IfOk result

@@ -11,18 +11,18 @@ use order_model::VarIx;
 use order_model::packed::bit_of;
 use std::alloc::{AllocError, Global};
 
-/// The numbers of pairs of class numbers, by first occurrence of a pair.
+/// Numbers of pairs of class numbers. Two pairs have the same number if and only if they are equal.
 #[derive(Debug, Drop)]
 pub(crate) struct Merged {
-    /// The number of each pair, in the order of the pairs.
+    /// Entry j is the number of pair j.
     pub(crate) numbers: Vec<u32>,
-    /// How many distinct pairs have two unequal class numbers.
+    /// How many distinct pairs consist of two unequal class numbers.
     pub(crate) unequal: u32,
 }
 
 /// Numbers the subfunctions one level higher: entries 2j and 2j + 1 of `classes` form pair j, the
-/// class numbers of the two cofactors, and equal pairs get one number. Pairs are numbered by first
-/// occurrence.
+/// class numbers of the low and the high cofactor of subfunction j. Equal pairs get one number, and
+/// pairs are numbered by first occurrence.
 pub(crate) fn merge(alloc: Global, classes: &[u32]) -> Result<Merged, AllocError>
     requires few { length classes.now < 2 ^ 32 }
     ensures numbers { IfOk result (λ r. IsNumbering (pairs_of classes.now) r.numbers.items) }
@@ -58,7 +58,8 @@ fn push_upper(points: &mut Vec<u32>, x: VarIx) -> Result<(), AllocError>
 }
 
 /// The points of all assignments to `variables`, by rising number of the assignment, whose highest
-/// bit is the first variable. All other variables are 0.
+/// bit is the first variable. Bit x of a point is the value of variable x, and all variables that
+/// are not listed are 0.
 pub(crate) fn assignment_points(alloc: Global, variables: &[VarIx]) -> Result<Vec<u32>, AllocError>
     requires small { All (λ x. x < 16) variables.now }
     requires few { length variables.now ≤ 16 }
@@ -72,7 +73,8 @@ pub(crate) fn assignment_points(alloc: Global, variables: &[VarIx]) -> Result<Ve
     Ok(points)
 }
 
-/// Appends to `values` the values of the packed truth table `words` at `points`, as 0 and 1.
+/// Appends to `values` the value, 0 or 1, of the packed truth table `words` at each of `points`.
+/// Bit x of a point is the value of variable x.
 pub(crate) fn push_values(
     values: &mut Vec<u32>,
     words: &[u64],

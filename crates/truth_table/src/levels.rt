@@ -8,7 +8,8 @@ use indexmap::IndexSet;
 use order_model::{Node, Ref, VarIx};
 use std::alloc::{AllocError, Global};
 
-/// The ref that a number stands for: 0 and 1 are the terminals, k + 2 is the node at place k.
+/// The ref that a number stands for: 0 is the terminal 0, 1 the terminal 1, and k + 2 node k of the
+/// diagram's list of nodes.
 pub(crate) fn ref_of(number: u32) -> Ref
     ensures { result ≡ ref_named number }
 {
@@ -20,9 +21,9 @@ pub(crate) fn ref_of(number: u32) -> Ref
 }
 
 /// Returns the number of the node of variable x whose children have the numbers `low` and `high`,
-/// or of the child itself if both are equal. A new node is appended to `nodes`, and its children to
-/// `pairs`. `pairs` has the children of this level's nodes so far, the first of which stands at
-/// place `base` of `nodes`.
+/// or of the child itself if both are equal. Numbers stand for refs as in `ref_of`. A new node is
+/// appended to `nodes`, and its children to `pairs`. `pairs` has the children of this level's nodes
+/// so far, the first of which is `nodes[base]`.
 fn number_over(
     nodes: &mut Vec<Node>,
     pairs: &mut IndexSet<(u32, u32)>,
@@ -49,9 +50,10 @@ fn number_over(
     Ok(base + place as u32 + 2)
 }
 
-/// Makes the level of variable x from the level below: entry j of the result is the number of the
-/// node whose low and high child are entries 2j and 2j + 1 of `below`, or of the child itself if
-/// both are equal. New nodes are appended to `nodes`.
+/// Makes the level of variable x from the level below. Entry j of the result is the number of the
+/// node whose low child is entry 2j of `below` and whose high child is entry 2j + 1, or of the
+/// child itself if both are equal. Numbers stand for refs as in `ref_of`. Each new node is appended
+/// to `nodes` once.
 pub(crate) fn level_above(
     alloc: Global,
     nodes: &mut Vec<Node>,

@@ -27,6 +27,7 @@ impl Model for Row {
 
 impl Row {
     /// The truth table whose packed words are `words`, of a function of `inputs` variables.
+    /// Requires the bits past the last point to be 0.
     pub(crate) fn new(inputs: u8, words: Vec<u64>) -> Row
         requires { IsRow inputs words.items }
         ensures { result ≡ row_table inputs words.items }

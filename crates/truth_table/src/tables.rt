@@ -21,7 +21,7 @@ use std::alloc::{AllocError, Global};
 use std::marker::Model;
 use std::thread::Threads;
 
-/// The truth tables of the outputs of a cover.
+/// The truth tables of 1 to 16 functions of 1 to 16 variables, such as the outputs of a cover.
 #[derive(Debug, Drop)]
 pub struct Tables {
     problem: Problem,
@@ -90,8 +90,9 @@ impl Tables {
         self.problem.value(output, point)
     }
 
-    /// The truth table of a cofactor of output `output`: each variable x in the set `care` is fixed
-    /// to bit x of `value`. Takes a step for each variable and word.
+    /// The truth table of a cofactor of output `output`, counted from 0: each variable x in the set
+    /// `care` is fixed to bit x of `value`. Takes a step for each variable in the set and each
+    /// word.
     pub fn cofactor(
         &self,
         alloc: Global,
@@ -116,8 +117,8 @@ impl Tables {
         Ok(Row::new(n, words))
     }
 
-    /// The values of all outputs at `points`, output by output, as 0 and 1. Requires `outputs` to
-    /// be the number of outputs.
+    /// The values of all outputs at `points`, as 0 and 1: first those of output 0 at each point,
+    /// then those of output 1, and so on. Requires `outputs` to be the number of outputs.
     fn values(&self, alloc: Global, outputs: u8, points: &[u32]) -> Result<Vec<u32>, AllocError>
         requires outputs { outputs ≡ outputs_of self.now }
         requires points { All (λ k. k < 2 ^ self.now.inputs) points.now }
@@ -130,8 +131,9 @@ impl Tables {
         Ok(values)
     }
 
-    /// The values of all outputs, output by output, as 0 and 1. The values of an output stand by
-    /// rising number of the assignment, whose highest bit is the top variable of `order`.
+    /// The values of all outputs at all points, as 0 and 1: first those of output 0, then those of
+    /// output 1, and so on. The values of an output stand by rising number of the assignment, whose
+    /// highest bit is the top variable of `order`.
     pub fn values_under(&self, alloc: Global, order: &Order) -> Result<Vec<u32>, AllocError>
         requires { length order.now ≡ self.now.inputs }
         ensures { IfOk result

@@ -18,14 +18,16 @@ use rayon::prelude::*;
 use std::alloc::{AllocError, Global};
 use std::thread::Threads;
 
-/// How many words of each table form a group.
+/// How many consecutive words of each table form a group.
 const GROUP_WORDS: usize = 32;
 
-/// The words of a group: entry [place][o] is word `place` of the group in the table of output o.
+/// The words of a group: entry [place][o] is word `place` of the group, counted from 0, in the
+/// table of output o.
 type GroupWords = [[u64; 16]; 32];
 
-/// The points of a word, as bits, at which the term's literal of variable x holds: all points if
-/// the term has no such literal. Requires x to be below 6.
+/// The points of a word at which the term's literal of variable x holds: bit b of the result is 1
+/// if it holds at point b. All 64 bits are 1 if the term has no literal of x. Requires x to be
+/// below 6.
 fn literal_points(term: Term, x: VarIx) -> u64
     requires { x < 6 }
     ensures { (b : ℕ) → b < 64 → (bit_at result b == 1) ≡ literal_at term b x }
@@ -41,8 +43,8 @@ fn literal_points(term: Term, x: VarIx) -> u64
     }
 }
 
-/// The points of a word, as bits, at which the term's literals of the variables 0 to 5 hold. They
-/// are the same in each word of a table.
+/// The points of a word at which the term's literals of the variables 0 to 5 hold: bit b of the
+/// result is 1 if they hold at point b. These points are the same in each word of a table.
 fn pattern(term: Term) -> u64
     ensures { (b : ℕ) → b < 64 → (bit_at result b == 1) ≡ literals_at term b 0 6 }
 {
@@ -62,7 +64,8 @@ fn holds_above(term: &Term, place: usize) -> bool
     place & (term.care >> 6) as usize == (term.value >> 6) as usize
 }
 
-/// Sets to 1 the bits `points` of `words[o]`, for each output o that has its bit in `outs`.
+/// Sets to 1, in `words[o]` for each output o with bit o in `outs`, the bits that are 1 in
+/// `points`.
 #[inline(always)]
 fn add_points(words: &mut [u64; 16], outs: u16, points: u64)
     ensures { (o : ℕ) → o < 16 →
@@ -76,8 +79,9 @@ fn add_points(words: &mut [u64; 16], outs: u16, points: u64)
     }
 }
 
-/// Whether the term may be 1 at a point of group `group`: its literals of the variables 11 to 15
-/// hold there. All points of a group have the same values of these variables.
+/// Whether the term may be 1 at a point of group `group`, which has the words 32 * group to 32 *
+/// group + 31 of a table: its literals of the variables 11 to 15 hold there. All points of a group
+/// have the same values of these variables.
 fn may_hold(term: &Term, group: usize) -> bool
     requires { group < 32 }
     ensures { IsFalse result → (place : ℕ) → place < 32 →
@@ -87,7 +91,7 @@ fn may_hold(term: &Term, group: usize) -> bool
 }
 
 /// Sets to 1 the bits of the points of group `group` at which the term is 1, in the tables of the
-/// term's outputs: `words[place][o]` is word `place` of the group in the table of output o.
+/// term's outputs. `words[place][o]` is word 32 * group + place in the table of output o.
 fn add_term(words: &mut GroupWords, term: &Term, group: usize)
     requires { group < 32 }
     ensures { (place : ℕ) → place < 32 →
@@ -102,7 +106,7 @@ fn add_term(words: &mut GroupWords, term: &Term, group: usize)
     }
 }
 
-/// Makes the words of group `group`: entry [place][o] is word `place` of the group in the table of
+/// Makes the words of group `group`: entry [place][o] is word 32 * group + place in the table of
 /// output o. Terms that are 0 in the whole group are not evaluated word by word.
 fn group_words(terms: &[Term], group: usize) -> GroupWords
     requires { group < 32 }
@@ -118,7 +122,7 @@ fn group_words(terms: &[Term], group: usize) -> GroupWords
 }
 
 /// A mask of the bits of a word that stand for points of n variables: the lowest 2^n bits, or all
-/// 64.
+/// 64 if n is 6 or more.
 pub(crate) fn points_mask(n: u8) -> u64
     requires { n ≤ 16 }
     ensures { (b : ℕ) → b < 64 → (bit_at result b == 1) ≡ nat_lt b (2 ^ n) }
@@ -130,9 +134,9 @@ pub(crate) fn points_mask(n: u8) -> u64
     }
 }
 
-/// Makes the packed tables of m outputs, one after the other, each of `size` words. `groups` has
-/// the words, by group, by place in the group and by output. Of each word only the bits of `mask`
-/// are kept.
+/// Makes the packed tables of m outputs, one after the other, each of `size` words. Entry [g][p][o]
+/// of `groups` is word 32 g + p in the table of output o. Of each word only the bits of `mask` are
+/// kept.
 fn lay_out(
     alloc: Global,
     m: u8,
@@ -165,17 +169,17 @@ fn groups_of(size: usize) -> usize
     (size + GROUP_WORDS - 1) / GROUP_WORDS
 }
 
-/// How many terms a thread has to evaluate in all to be worth its start.
+/// How many terms, summed over its groups, a thread has to evaluate to be worth its start.
 const TERMS_WORTH_A_THREAD: usize = 8_192;
 
-/// The least number of groups for which starting a thread is worth it, if `terms` terms are
-/// evaluated for each group.
+/// The least number of groups that a thread has to take to be worth its start, if `terms` terms are
+/// evaluated for each group. It may be 0.
 fn least_groups(terms: usize) -> usize {
     TERMS_WORTH_A_THREAD / terms.max(1)
 }
 
-/// Makes the packed truth tables of m outputs of n inputs that product terms give, one table after
-/// the other. Threads share the groups of words.
+/// Makes the packed truth tables of m outputs, which product terms of n inputs give, one table
+/// after the other. Threads share the groups of words.
 pub(crate) fn packed_words<R: Threads + Sync>(
     rt: &R,
     alloc: Global,
@@ -208,7 +212,8 @@ pub(crate) fn packed_words<R: Threads + Sync>(
     Ok(words)
 }
 
-/// Makes the words of the first `count` groups, by the calling thread.
+/// Makes the words of the groups 0 to `count` - 1, by the calling thread. Group g has the words 32
+/// g to 32 g + 31 of each table.
 fn groups_alone(alloc: Global, terms: &[Term], count: usize) -> Result<Vec<GroupWords>, AllocError>
     requires { count ≤ 32 }
     ensures long { IfOk result (λ v. length v.items ≡ count) }

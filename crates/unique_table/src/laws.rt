@@ -12,10 +12,11 @@ pub fn equal_functions_have_equal_ids()
     ensures functions { EqualIdsHaveEqualFunctions }
 {}
 
-/// Each step keeps the store's invariant, writes no word but its own, and adds to its session's
-/// view what it read or wrote. `look`, `collect` and `recall` write no word. `put` fills an empty
-/// place and leaves a filled one as it is. `publish` changes no id that was published before.
-/// `remember` writes a cache entry, so nodes and pieces stay.
+/// The six atomic steps of a session keep the store's invariant, and add to the session's view what
+/// they read or wrote. `look` reads a node's word, `collect` the word of a piece, `recall` one of
+/// the cache; these write nothing. `put` writes a node's word to its place if that is empty.
+/// `publish` writes the id of a piece, and changes no id that was published before. `remember`
+/// writes a word of the cache. No step writes any other word.
 pub fn steps_are_of_their_kinds()
     ensures look { Looks }
     ensures put { Puts }

@@ -161,8 +161,10 @@ fn carry_out_call<R: Files + AllocGlobal + Threads + Sync + Print>(
     Ok(())
 }
 
-/// Makes each call of the case with each of its lengths, adds these calls to `tally`, and prints a
-/// line for each that does something else than the case says.
+/// Makes each call of the case once for each length from the first to the last of `case.lengths`,
+/// with the case's files cut to so many bytes. Makes these files before a call and removes them
+/// after it. Adds the calls to `tally`, and prints a line for each that does something else than
+/// the case says, which is no error.
 pub fn carry_out<R: Files + AllocGlobal + Threads + Sync + Print>(
     rt: &R,
     case: &Case<'_>,
