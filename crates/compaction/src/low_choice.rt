@@ -92,7 +92,8 @@ impl Halves {
         Ok(Halves { lower, upper })
     }
 
-    /// About how many distinct strips there are.
+    /// About how many distinct strips these halves make up: no more than there are, and fewer where
+    /// strips' hashes have the same upper bits.
     fn count(&self) -> u32 {
         let mut seen = Seen { words: [0; 256] };
         for (lower, upper) in self.lower.iter().zip(&self.upper) {

@@ -107,9 +107,10 @@ fn output_share(
     Ok(id)
 }
 
-/// Makes part `piece` of the outputs, for parts by terms, and returns its id. The part is the
-/// disjunction of those terms of output `piece / TERM_SHARES` whose index in `terms` leaves the
-/// remainder `piece % TERM_SHARES` when divided by `TERM_SHARES`.
+/// Makes part `piece` of the outputs and returns its id: the disjunction of those terms of output
+/// `piece / TERM_SHARES` whose index in `terms` leaves the remainder `piece % TERM_SHARES` when
+/// divided by `TERM_SHARES`. Requires that the store was made for parts by these terms, and that
+/// `piece` is below the number of parts, which is `plan.roots`.
 pub(crate) fn terms_share(
     store: &Store,
     session: &mut Session,

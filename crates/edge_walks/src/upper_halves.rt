@@ -80,8 +80,8 @@ fn passes_by_lower_classes(alloc: Global, at: Position) -> Result<bool, AllocErr
     table.tells_wide(alloc, x, &needed)
 }
 
-/// Whether it can be shown without another table that no judged edge into the upper half of the
-/// sets at which `at` stands fails; false shows nothing.
+/// Whether it can be shown without another table that no judged edge fails into the upper half of
+/// the sets at which `at` stands: those with the highest free variable. False shows nothing.
 pub(crate) fn upper_half_passes(alloc: Global, at: Position) -> Result<bool, AllocError>
     requires { 0 < at.free }
     ensures { IfOk result (λ passes. IsTrue passes → IsFirstEdge (FailsInUpper at.entry) None) }

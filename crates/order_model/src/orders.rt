@@ -48,7 +48,7 @@ fn has_repeat(variables: &[VarIx]) -> bool
     false
 }
 
-/// The index of variable x in `variables`. Requires the list to have x exactly once.
+/// The index of variable x in `variables`. Requires that the list has x, and no variable twice.
 fn place_in_list(variables: &[VarIx], x: VarIx) -> usize
     requires distinct { IsDistinct nat_eq variables.now }
     requires there { IsTrue (has variables.now x) }
@@ -83,8 +83,8 @@ impl Order {
         }
     }
 
-    /// The order with these variables, top first. Requires the list to have each variable below its
-    /// length exactly once.
+    /// The order with these variables, top first. Requires 1 to 16 of them, each variable below the
+    /// length of the list exactly once.
     pub fn from_variables(variables: Vec<VarIx>) -> Order
         requires { Accepts variables.items }
         ensures { result ≡ variables.items }

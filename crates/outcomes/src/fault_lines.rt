@@ -126,8 +126,8 @@ fn push_fault(text: &mut Text, fault: Fault)
     }
 }
 
-/// The line that a program writes when a run is refused: the program's name and the words that name
-/// the fault.
+/// The line that a program writes to standard error for a fault: its name, a colon, the words that
+/// name the fault, and a line feed.
 #[tactic(auto, unfolding(crate::specs::Messages::fault_line))]
 pub(crate) fn fault_line(program: Program, fault: Fault) -> Text
     ensures { result.bytes ≡ line_of program fault }

@@ -146,9 +146,9 @@ fn number_distinct_pairs(
 }
 
 /// Writes to `to`, in place of what it has, the number of each pair of a class table, by first
-/// occurrence, and the mask of each number. The entries of a pair differ in x, below which the
-/// table's set has no variable. Entry c of `masks` is the mask of class c. `seen` is working
-/// memory, and may have any pairs before.
+/// occurrence, and the mask of each number. The entries of a pair have x = 0 and x = 1; the table's
+/// set has neither x nor a variable below it. Entry c of `masks` is the mask of class c. `seen` is
+/// working memory, and may have any pairs before.
 pub fn number_pairs(
     numbers: &[u32],
     x: VarIx,
@@ -179,8 +179,8 @@ pub fn number_pairs(
 }
 
 /// The number of each pair of a class table, by first occurrence, and the mask of each number. The
-/// entries of a pair differ in x, below which the table's set has no variable. Entry c of `masks`
-/// is the mask of class c.
+/// entries of a pair have x = 0 and x = 1; the table's set has neither x nor a variable below it.
+/// Entry c of `masks` is the mask of class c.
 pub fn numbered_pairs(
     alloc: Global,
     numbers: &[u32],

@@ -20,8 +20,9 @@ pub(crate) struct CountedPairs<'e> {
     ghost lone: { AreLone (places.pairs entries.now.numbers (2 ^ entries.now.rank)) counts.now },
 }
 
-/// Adds the pairs of block number `block` to `counts`, each at its lower class: 0, 1, or 2 for two
-/// or more.
+/// Counts the pairs of block number `block` in `counts`, each at its lower class, that of its entry
+/// where the variable is 0. A count is 0, 1, or 2 for two or more. Requires that exactly the blocks
+/// before this one are counted.
 #[inline(always)]
 fn count_block(entries: &EntryPairs<'_>, block: usize, counts: &mut [u8])
     requires few { length entries.now.numbers ≤ 2 ^ 20 }

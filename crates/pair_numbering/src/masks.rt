@@ -72,7 +72,7 @@ impl<'e> MaskedPairs<'e> {
         }
     }
 
-    /// The rank r: a block has 2^r pairs.
+    /// The rank r: the two entries of a pair stand 2^r apart, in a block of 2^r pairs.
     #[inline(always)]
     pub fn rank(&self) -> u32
         ensures rank { result ≡ self.now.entries.rank }

@@ -68,8 +68,8 @@ impl Workspace {
     }
 }
 
-/// The distinct subfunctions over `set`, read from `tables`. Requires that these are the tables on
-/// the way to `set`.
+/// The distinct subfunctions over `set`, read from `tables`. Requires that these are the tables of
+/// the sets on the way to `set`: of no variable, of its highest, of its two highest, up to `set`.
 #[inline(always)]
 fn subfunctions_in<'a>(
     search: &SmallSearch<'_>,

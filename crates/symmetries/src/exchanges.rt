@@ -34,9 +34,8 @@ impl Model for Exchange {
 impl Exchange {
     ghost use Rattle.definitions.specs.Problems.{TruthTables};
 
-    /// The exchange that `partners` lists: `partners[x]` is the partner of x. None if the list
-    /// hasn't exactly one of the `inputs` variables for each of them, or if a variable isn't its
-    /// partner's partner.
+    /// The exchange that `partners` lists: `partners[x]` is the partner of x. None unless the list
+    /// has `inputs` entries, each below `inputs`, and each variable is its partner's partner.
     pub(crate) fn of(
         alloc: Global,
         inputs: u8,

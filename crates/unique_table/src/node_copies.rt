@@ -11,7 +11,8 @@ use node_words::node_parts;
 use order_model::{Node, Ref, VarIx};
 use std::alloc::{AllocError, Global};
 
-/// The node word at place `place` of a closed table, whose first `places` words are node words.
+/// The word of node place `place` of a closed table: a node's word, or 0 if the place is empty. The
+/// table's first `places` words are those of its node places. Requires that no word is missing.
 fn word_at(closed: &Closed<(), Global>, places: usize, place: usize) -> u64
     requires full { IsFull closed.now.words }
     requires places { places ≤ slots_len closed.now.words }
@@ -47,7 +48,8 @@ fn add(
 /// first, and returns the ref to the copy of the node. A terminal's id gives the terminal. Nodes
 /// that have a copy are not copied again: `numbers` has for each place of the store 0, or the index
 /// of the copy in `nodes` plus 1, and gets those of the new copies. The first `places` words of
-/// `closed` are node words, and `order` has the variable of each level.
+/// `closed` are those of the node places, 0 where a place is empty, and `order` has the variable of
+/// each level.
 pub(crate) fn copy(
     closed: &Closed<(), Global>,
     places: usize,

@@ -89,7 +89,9 @@ fn holds<R: Files + AllocGlobal>(rt: &R, name: &str, bytes: &[u8]) -> bool {
     }
 }
 
-/// Whether the files that the case names are, after a call, as the case says.
+/// Whether each file that the case gives for after the call has its bytes, and each absent one is
+/// not there. Files put there before the call aren't compared. A file that can't be read is not as
+/// the case says; the error is that of a failed test for absence.
 fn has_files<R: Files + AllocGlobal>(rt: &R, case: &Case<'_>) -> Result<bool> {
     for text in case.texts.iter() {
         let is_well = match text.place {
