@@ -263,13 +263,12 @@ impl Pairs {
     pub fn lawful(&self, set: Mask) -> bool
         ensures { result ≡ is_lawful self.now.pairs (members self.now.inputs set) }
     {
-        let mut lacking: Mask = 0;
         for (a, below) in self.below.iter().enumerate() {
-            if contains(set, a as VarIx) {
-                lacking |= *below & !set;
+            if *below & !set != 0 && contains(set, a as VarIx) {
+                return false;
             }
         }
-        lacking == 0
+        true
     }
 
     /// The smallest member of `set` that may stand on top of the others: the set stays lawful
