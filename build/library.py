@@ -93,10 +93,12 @@ def forget(names: Iterable[str]) -> None:
     while above := {it for it in uses if it not in gone and gone.intersection(uses[it])}:
         gone |= above
     for it in gone:
+        # builds beside this one may remove the same
         if os.path.isdir(made(it)):
-            shutil.rmtree(made(it))
-        elif os.path.lexists(made(it)):
-            os.remove(made(it))
+            shutil.rmtree(made(it), ignore_errors=True)
+        else:
+            with contextlib.suppress(FileNotFoundError):
+                os.remove(made(it))
 
 
 def mark(crate: Any, stamp: str) -> None:
