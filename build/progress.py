@@ -55,6 +55,7 @@ class Report:
     def begin_again(self, why: str) -> None:
         self.done.clear()
         self.running.clear()
+        self.estimate.took.clear()
         self.say(why)
 
     def show(self) -> None:

@@ -1,4 +1,5 @@
 """Tests of what a first build shows, with a stand-in for rt: python3 -m unittest discover -s build/tests"""
+import io
 import os
 import pathlib
 import shutil
@@ -14,6 +15,7 @@ import crates
 import plan
 import preview
 from costs import Estimate, seconds_of
+from progress import Report
 
 BARE = "/usr/bin:/bin"
 IS_BARE = shutil.which("python3", path=BARE) and not shutil.which("rt", path=BARE)
@@ -121,6 +123,18 @@ class Estimates(unittest.TestCase):
         estimate = Estimate(self.seconds, self.uses, 4)
         estimate.end_crate("base", 1)
         self.assertAlmostEqual(estimate.seconds_left({}), 60 + 10)
+
+    def test_a_build_that_begins_again(self):
+        report = Report("program", self.seconds, Estimate(self.seconds, self.uses, 4))
+        with unittest.mock.patch("sys.stderr", io.StringIO()) as said:
+            for crate in ("base", "short"):
+                report.start_crate(crate, 1)
+                report.end_crate(crate, 1)
+            report.begin_again("again")
+            for crate in ("base", "short"):
+                report.start_crate(crate, 1)
+            report.end_crate("base", 1)
+        self.assertEqual(said.getvalue().count("base is proved"), 2)
 
     def test_the_first_build(self):
         seconds = seconds_of(crates.TOP, crates.all_of("minorder"))
