@@ -1,3 +1,4 @@
 pub mod LayerContexts
+pub mod LayerSteps
 pub mod Gains
 pub mod SearchStarts

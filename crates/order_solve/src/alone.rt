@@ -1,9 +1,10 @@
 //! Computes the cells of all sets on the calling thread, one layer (the sets of one size) after
 //! another.
 
-ghost use Rattle.std.specs.Prelude.{◌≡◌, length, IfOk};
+ghost use Rattle.std.specs.Prelude.{◌≡◌, ◌+◌, length, IfOk, OnOk};
 ghost use Rattle.subset_layers.specs.Layers.{masks_of};
 ghost use Rattle.layer_core.specs.LayerCosts.{AreAllLayers, AreCells, AreDone, IsLayerFor};
+ghost use Rattle.order_solve.specs.LayerSteps.{HasLayers};
 
 use crate::cells::cells_of_block;
 use crate::context::LayerContext;
@@ -39,8 +40,9 @@ pub(crate) fn cells_alone(
     Ok(cells)
 }
 
-/// Computes the layer after those in `done`, with its cells, on the calling thread, with widths
-/// from `source`. `done` has all smaller layers by rising size, from that of the empty set on.
+/// Computes the layer that comes after those in `done`, with its cells, on the calling thread.
+/// `done[k]` has the costs of the sets of k variables, from k = 0 on; the layer of all variables
+/// must not be there yet. `source` gives widths of the instance's functions.
 fn next_layer_alone(
     alloc: Global,
     instance: &Instance<'_>,
@@ -58,35 +60,41 @@ fn next_layer_alone(
     Ok(Costs::of(layer, cells))
 }
 
-/// Computes all layers with their cells, by rising size, on the calling thread. Uses the rows of
-/// widths in `prepared`; other rows are computed before the layer that needs them.
-fn layers_from(
+/// Appends to `layers` the layer that comes next, with its cells, computed on the calling thread.
+/// `layers[k]` has the costs of the sets of k variables, from k = 0 on; the layer of all variables
+/// must not be there yet. Rows of widths that `prepared` lacks for the new layer are computed
+/// first, and added to its rows or put in their place. If memory is refused `layers` stays;
+/// `prepared` may have the new rows.
+fn add_layer_alone(
     alloc: Global,
     instance: &Instance<'_>,
-    prepared: Preparation<'_>,
-) -> Result<Vec<Costs>, AllocError>
-    requires { prepared.problem ≡ instance.now.problem }
-    ensures { IfOk result (λ v. AreAllLayers instance.now v.items) }
+    prepared: &mut Preparation<'_>,
+    layers: &mut Vec<Costs>,
+) -> Result<(), AllocError>
+    requires problem { prepared.old.problem ≡ instance.now.problem }
+    requires done { AreDone instance.now layers.old.items }
+    ensures { OnOk result
+        (HasLayers instance.now prepared.new (length layers.old.items + 1) layers.new.items) }
 {
-    let mut prepared = prepared;
-    let mut layers = first_layer(alloc, instance)?;
-    for _size in 0..instance.inputs() {
-        if let Some(ahead) = look_ahead(alloc, instance, &prepared, &layers)? {
-            prepared.find_alone(alloc, &ahead.requests, ahead.end)?;
-        }
-        let source = prepared.source();
-        let next = next_layer_alone(alloc, instance, &source, &layers)?;
-        layers.push(next)?;
+    if let Some(ahead) = look_ahead(alloc, instance, prepared, layers)? {
+        prepared.find_alone(alloc, &ahead.requests, ahead.end)?;
     }
-    Ok(layers)
+    let source = prepared.source();
+    let next = next_layer_alone(alloc, instance, &source, layers)?;
+    layers.push(next)?;
+    Ok(())
 }
 
-/// Computes all layers of a problem instance with their cells, by rising size, on the calling
-/// thread.
+/// Computes all layers of `instance` with their cells, on the calling thread: entry k of the result
+/// is that of the sets of k variables.
 pub(crate) fn layers_alone(alloc: Global, instance: &Instance<'_>) -> Result<Vec<Costs>, AllocError>
     ensures { IfOk result (λ v. AreAllLayers instance.now v.items) }
 {
     let renaming = renaming_of(alloc, instance.problem())?;
-    let prepared = Preparation::of(alloc, &renaming, instance.pairs())?;
-    layers_from(alloc, instance, prepared)
+    let mut prepared = Preparation::of(alloc, &renaming, instance.pairs())?;
+    let mut layers = first_layer(alloc, instance)?;
+    for _size in 0..instance.inputs() {
+        add_layer_alone(alloc, instance, &mut prepared, &mut layers)?;
+    }
+    Ok(layers)
 }

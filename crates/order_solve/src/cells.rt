@@ -14,8 +14,9 @@ use order_model::WidthRow;
 use std::alloc::{AllocError, Global};
 use subset_layers::{Block, Cell, least_cell};
 
-/// The cells of a block's sets, in the block's order. `rows[i]` has the widths that the cell of set
-/// i of the block takes.
+/// The cells of the sets of `block`, which is one of the layer of `context`, in the block's order.
+/// Entry x of `rows[i]` is the width of x over the other members of set i of the block, for each x
+/// whose width the set's cell takes.
 fn cells_by_rows(
     alloc: Global,
     block: &Block,
@@ -44,8 +45,9 @@ fn cells_by_rows(
     Ok(cells)
 }
 
-/// The cells of a block's sets, in the block's order. Adds the number of widths that these cells
-/// take to `tally`.
+/// The cells of the sets of `block`, which is one of the layer of `context`, in the block's order.
+/// Adds the number of widths that these cells take to `tally`, which must not get larger than 2^32.
+/// If memory is refused, `tally` may have this number added or not.
 pub(crate) fn cells_of_block(
     alloc: Global,
     block: &Block,

@@ -32,8 +32,9 @@ impl<'a> Model for LayerContext<'a> {
 impl<'a> LayerContext<'a> {
     ghost use Rattle.order_solve.specs.LayerContexts.{context_with, IsContext};
 
-    /// The context of the workers of `layer`. Requires that `before` has the costs of the layer
-    /// before `layer`, and that `source` gives widths of the instance's functions.
+    /// What the workers of `layer` read. Requires that `before` has the costs of the sets with one
+    /// variable less than those of `layer`, for `instance`, and that `source` gives widths of the
+    /// instance's functions.
     pub fn new(
         instance: &'a Instance<'a>,
         layer: &'a Layer,

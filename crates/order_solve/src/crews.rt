@@ -24,8 +24,8 @@ struct Job {
     seat: BoardSeat,
 }
 
-/// Numbers the seats of `board` from 1 on: one job for each seat, with the seat and its worker's
-/// number.
+/// One job for each of `seats`, at most 64 seats at `board`: that at index i with the worker's
+/// number i + 1.
 fn number_seats(alloc: Global, board: &Board, seats: Vec<BoardSeat>) -> Result<Vec<Job>, AllocError>
     requires few { vec_len seats ≤ 64 }
     requires seats { All (λ s. s.board ≡ board.now) seats.items }
@@ -41,8 +41,8 @@ fn number_seats(alloc: Global, board: &Board, seats: Vec<BoardSeat>) -> Result<V
     Ok(jobs)
 }
 
-/// Returns one of the seats in `ended`, which has what each worker returned; an error if some
-/// worker ran out of memory. Drops the other seats and all tallies.
+/// Returns one of the seats in `ended`, which has what each worker at `board` returned, at least
+/// one. Err if memory was refused to some worker. Drops the other seats and all tallies.
 fn gather(
     board: &Board,
     ended: Vec<Result<WorkerResult, AllocError>>,
@@ -59,9 +59,9 @@ fn gather(
     Ok(seat)
 }
 
-/// Starts a thread for each seat, which computes cells of the layer of `context` and posts them to
-/// `board`, until all blocks are claimed. Returns one of the seats; an error if some worker ran out
-/// of memory.
+/// Starts a thread for each of `seats`, 1 to 64 seats at `board`, which is for the layer of
+/// `context`. The threads claim the board's blocks until none is left, and post the cells of their
+/// sets. Returns one of the seats. Err if memory was refused to some worker.
 fn post_by_workers<R: Threads + Sync, G: Gate>(
     crew: &Crew<'_, R, G>,
     alloc: Global,
@@ -95,7 +95,7 @@ fn post_by_workers<R: Threads + Sync, G: Gate>(
 }
 
 /// Computes the cells of the sets of the layer of `context`, in the layer's order, by the workers
-/// of `crew`. If a cell is missing although no worker ran out of memory, the calling thread
+/// of `crew`. If a cell is missing although memory was refused to no worker, the calling thread
 /// computes the whole layer anew.
 pub(crate) fn cells_of_layer<R: Threads + Sync, G: Gate>(
     crew: &Crew<'_, R, G>,

@@ -11,11 +11,10 @@ use subset_layers::{Costs, Layer};
 /// truth tables.
 const ENTRIES_A_NODE: u64 = 16;
 
-/// An estimate, before costs are known, of the size of the largest sets whose widths are worth
-/// computing ahead. It is the number of inputs if `limit.bound` is at least one node for each
-/// `ENTRIES_A_NODE` entries of the truth tables, because then almost no set is pruned. Else it is a
-/// size up to which most sets are needed, as measured, larger for the lower bound by variables,
-/// which prunes less.
+/// An estimate, before costs are known, of the size up to which a search needs the widths of nearly
+/// all sets. It is the number of inputs if `limit.bound` is at least one node for each
+/// `ENTRIES_A_NODE` entries of the truth tables. Else it is 6 for the lower bound by variables, and
+/// 5 for that by widths.
 fn first_layers(problem: &Problem, limit: Limit) -> u8 {
     let entries = u64::from(problem.outputs()) << problem.inputs();
     if u64::from(limit.bound) >= entries / ENTRIES_A_NODE {
@@ -27,10 +26,10 @@ fn first_layers(problem: &Problem, limit: Limit) -> u8 {
     }
 }
 
-/// An estimate of the size of the largest sets whose widths are worth computing before the bound of
-/// the search is known. `asked` has the pairs that the caller requires, `kept` those that the
-/// search is likely to keep, and `limit.bound` is the size of some diagram of the functions. The
-/// estimate is 0 if `asked` is empty and `kept` is not, because few sets are left then.
+/// An estimate, before the bound of a search is known, of the size up to which it needs the widths
+/// of nearly all sets. It is 0 if `asked`, the pairs that the caller requires, is empty and `kept`,
+/// those that the search keeps, is not, because few sets are left then. `limit.bound` is the size
+/// of some diagram of the functions.
 pub(crate) fn layers_to_prepare(
     problem: &Problem,
     asked: &Pairs,
@@ -46,9 +45,9 @@ pub(crate) fn layers_to_prepare(
 /// `mean_cost` looks only at the masks that are multiples of this number.
 const STEP: u32 = 7;
 
-/// An estimate of the mean cost of the sets of `size` variables, from those whose masks are
-/// multiples of `STEP`. `costs` has the costs of the layer of these sets. Returns `u32::MAX` if no
-/// set of `size` variables has such a mask.
+/// An estimate of the mean cost of the sets of `size` variables: the mean over those whose masks m
+/// are multiples of `STEP`, with m + `STEP` below 2^n for n variables. Returns `u32::MAX` if none
+/// has such a mask. `costs` has the costs of all sets of `size` variables.
 fn mean_cost(costs: &Costs, size: usize) -> u64 {
     let mut sum = 0u64;
     let mut sets = 0u64;
@@ -68,9 +67,10 @@ fn mean_cost(costs: &Costs, size: usize) -> u64 {
     }
 }
 
-/// An estimate of the lower bound on the nodes above a set, by the rule of `instance`. `outside` is
-/// the number of variables that are not in the set, and `width` an estimate of the width of a
-/// member over the other members.
+/// An estimate of the lower bound on the nodes above a set, by the rule of `instance`. By variables
+/// it is `outside`, the number of variables that are not in the set. By widths it is the number by
+/// which `width` exceeds the number of functions, if that is more. `width` is an estimate of the
+/// width of a member over the other members.
 fn likely_above(instance: &Instance<'_>, outside: usize, width: u64) -> u64 {
     let asked = match instance.limit().lower_bound {
         LowerBound::Variables => 0,
@@ -79,9 +79,10 @@ fn likely_above(instance: &Instance<'_>, outside: usize, width: u64) -> u64 {
     asked.max(outside as u64)
 }
 
-/// An estimate of the size of the largest sets that the search needs, from the mean costs of the
-/// last two layers in `done`. Assumes that the mean cost rises from each layer to the next by as
-/// much as between these two, but by no more than a class table of the larger sets has entries.
+/// An estimate of the size of the largest sets of which the search needs widths. `done[k]` has the
+/// costs of the sets of k variables, for at least k = 0 and 1. Assumes that from layer to layer the
+/// mean cost rises by what it rose from the last but one to the last layer in `done`, or by the
+/// number of entries of a class table of the higher layer, if this is less.
 fn end_by_costs(instance: &Instance<'_>, done: &[Costs]) -> usize
     requires { 2 ≤ length done.now }
 {
@@ -104,8 +105,9 @@ fn end_by_costs(instance: &Instance<'_>, done: &[Costs]) -> usize
     end
 }
 
-/// An estimate of the size of the largest sets that the search needs, by the costs of the layers in
-/// `done`, or without costs if this has only the layer of the empty set.
+/// An estimate of the size of the largest sets of which the search needs widths, by the costs in
+/// `done`: `done[k]` has those of the sets of k variables, for at least k = 0. If it has only
+/// these, the estimate is by the bound and the size of the truth tables.
 pub(crate) fn likely_end(instance: &Instance<'_>, done: &[Costs]) -> u8
     requires { 1 ≤ length done.now }
 {
@@ -120,7 +122,7 @@ pub(crate) fn likely_end(instance: &Instance<'_>, done: &[Costs]) -> u8
 const ENTRIES_A_WORKER: usize = 1 << 18;
 
 /// The number of lawful sets of the layer, or `most` if there are more. A set is lawful if for each
-/// pair (a, b) it has b or lacks a.
+/// pair (a, b) of `pairs` it has b or lacks a.
 fn count_lawful(pairs: &Pairs, layer: &Layer, most: usize) -> usize
     ensures { result ≤ most }
 {
@@ -133,10 +135,9 @@ fn count_lawful(pairs: &Pairs, layer: &Layer, most: usize) -> usize
     count
 }
 
-/// An estimate of how many workers the layer keeps busy, at most `workers`: one, and another for
-/// each `ENTRIES_A_WORKER` entries of truth tables. The entries of the truth tables of all outputs
-/// count once for each lawful set of the layer, but for no more sets than the layer has blocks, and
-/// for at most 256.
+/// An estimate of how many workers the layer keeps busy: 1 + s * e / `ENTRIES_A_WORKER`, rounded
+/// down, but at most `workers`. Here e is the number of entries in all truth tables, and s is the
+/// least of 256, the number of the layer's blocks and the number of its lawful sets.
 pub(crate) fn busy_workers(instance: &Instance<'_>, layer: &Layer, workers: Workers) -> Workers
     ensures { result ≤ workers }
 {

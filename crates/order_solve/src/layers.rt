@@ -1,7 +1,8 @@
 //! Computes the cells of all sets by workers, one layer (the sets of one size) after another.
 
-ghost use Rattle.std.specs.Prelude.{◌≡◌, IfOk, length};
+ghost use Rattle.std.specs.Prelude.{◌≡◌, ◌+◌, IfOk, OnOk, length};
 ghost use Rattle.layer_core.specs.LayerCosts.{AreAllLayers, AreDone, AreLayersFor, IsLayerFor};
+ghost use Rattle.order_solve.specs.LayerSteps.{HasLayers};
 
 use crate::context::LayerContext;
 use crate::crews::cells_of_layer;
@@ -13,7 +14,7 @@ use std::alloc::{AllocError, Global};
 use std::thread::Threads;
 use subset_layers::{Costs, Layer};
 
-/// A list of one layer, that of the empty set, with its cost.
+/// A list of one layer: that of the empty set, with its cost 0.
 pub(crate) fn first_layer(alloc: Global, instance: &Instance<'_>) -> Result<Vec<Costs>, AllocError>
     ensures one { IfOk result (λ v. length v.items ≡ 1) }
     ensures layers { IfOk result (λ v. AreLayersFor instance.now v.items) }
@@ -23,8 +24,9 @@ pub(crate) fn first_layer(alloc: Global, instance: &Instance<'_>) -> Result<Vec<
     Ok(layers)
 }
 
-/// Computes the layer after those in `done`, with its cells, by the workers of `crew`, with widths
-/// from `source`. `done` has all smaller layers by rising size, from that of the empty set on.
+/// Computes the layer that comes after those in `done`, with its cells, by the workers of `crew`.
+/// `done[k]` has the costs of the sets of k variables, from k = 0 on; the layer of all variables
+/// must not be there yet. `source` gives widths of the instance's functions.
 fn next_layer<R: Threads + Sync, G: Gate>(
     crew: &Crew<'_, R, G>,
     alloc: Global,
@@ -43,8 +45,35 @@ fn next_layer<R: Threads + Sync, G: Gate>(
     Ok(Costs::of(layer, cells))
 }
 
-/// Computes all layers with their cells, by rising size, by the workers of `crew`. Uses the rows of
-/// widths in `prepared`; other rows are computed before the layer that needs them.
+/// Appends to `layers` the layer that comes next, with its cells, computed by the workers of
+/// `crew`. `layers[k]` has the costs of the sets of k variables, from k = 0 on; the layer of all
+/// variables must not be there yet. Rows of widths that `prepared` lacks for the new layer are
+/// computed first, and added to its rows or put in their place. If memory is refused `layers`
+/// stays; `prepared` may have the new rows.
+fn add_layer<R: Threads + Sync, G: Gate>(
+    crew: &Crew<'_, R, G>,
+    alloc: Global,
+    instance: &Instance<'_>,
+    prepared: &mut Preparation<'_>,
+    layers: &mut Vec<Costs>,
+) -> Result<(), AllocError>
+    requires problem { prepared.old.problem ≡ instance.now.problem }
+    requires done { AreDone instance.now layers.old.items }
+    ensures { OnOk result
+        (HasLayers instance.now prepared.new (length layers.old.items + 1) layers.new.items) }
+{
+    if let Some(ahead) = look_ahead(alloc, instance, prepared, layers)? {
+        prepared.find(crew.rt, alloc, &ahead.requests, ahead.end, crew.workers)?;
+    }
+    let source = prepared.source();
+    let next = next_layer(crew, alloc, instance, &source, layers)?;
+    layers.push(next)?;
+    Ok(())
+}
+
+/// Computes all layers with their cells, by the workers of `crew`: entry k of the result is that of
+/// the sets of k variables. Takes widths from the rows in `prepared`, which is for the instance's
+/// functions; rows that it lacks are computed before the layer that needs them.
 pub(crate) fn layers_of<R: Threads + Sync, G: Gate>(
     crew: &Crew<'_, R, G>,
     alloc: Global,
@@ -57,12 +86,7 @@ pub(crate) fn layers_of<R: Threads + Sync, G: Gate>(
     let mut prepared = prepared;
     let mut layers = first_layer(alloc, instance)?;
     for _size in 0..instance.inputs() {
-        if let Some(ahead) = look_ahead(alloc, instance, &prepared, &layers)? {
-            prepared.find(crew.rt, alloc, &ahead.requests, ahead.end, crew.workers)?;
-        }
-        let source = prepared.source();
-        let next = next_layer(crew, alloc, instance, &source, &layers)?;
-        layers.push(next)?;
+        add_layer(crew, alloc, instance, &mut prepared, &mut layers)?;
     }
     Ok(layers)
 }

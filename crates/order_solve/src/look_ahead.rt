@@ -20,9 +20,9 @@ pub(crate) struct LookAhead {
     pub(crate) end: u8,
 }
 
-/// Whether for each lawful set of `block` the source of widths in `context` has a whole row: the
-/// widths of all members of the set's image. The image is a set of the renamed problem that has the
-/// same widths, the first of its orbit.
+/// Whether the source of widths in `context` has, for each lawful set in `block`, a row with the
+/// widths of all members of the set's image, the set to which `prepared` takes it. The block is one
+/// of the layer of `context`.
 fn is_found(context: &LayerContext<'_>, prepared: &Preparation<'_>, block: &Block) -> bool
     requires prepared { prepared.now.problem ≡ context.now.instance.problem }
     requires layer { layer_of block.now ≡ context.now.layer }
@@ -37,8 +37,10 @@ fn is_found(context: &LayerContext<'_>, prepared: &Preparation<'_>, block: &Bloc
     true
 }
 
-/// Adds to `requests` the widths that the cells of the block's sets take, as widths of the images
-/// of these sets. Sets whose image has a whole row already add nothing.
+/// Adds to `requests` the widths that the cells of the sets of `block` take. They are asked of each
+/// set's image, the set to which `prepared` takes it, unless the source of widths in `context` has
+/// a row with the widths of all members of the image. The block is one of the layer of `context`.
+/// If memory is refused nothing changes.
 fn add_needs(
     alloc: Global,
     context: &LayerContext<'_>,
@@ -60,8 +62,9 @@ fn add_needs(
     Ok(())
 }
 
-/// Requests for the widths that the cells of the layer after those in `done` take, in blocks for
-/// which `source` lacks some row. Nothing is requested for sets whose image has a whole row.
+/// Requests for the widths that the cells of the layer after those in `done` take, as widths of the
+/// sets' images, which `prepared` gives. Leaves out sets whose image has a row with the widths of
+/// all its members in `source`. `done[k]` has the costs of the sets of k variables, from k = 0 on.
 fn requests_of_layer(
     alloc: Global,
     instance: &Instance<'_>,
@@ -86,9 +89,11 @@ fn requests_of_layer(
     Ok(requests)
 }
 
-/// The rows of widths to compute before the layer after those in `done`; None if `prepared` has the
-/// rows for all sets of that layer whose cells take widths. Larger sets with the same low bytes as
-/// the requested ones are added, up to a size at which nearly whole layers are likely to be needed.
+/// The rows of widths to compute before the layer after those in `done`; None if `prepared` has a
+/// row for each set of that layer whose cell takes widths. `done[k]` has the costs of the sets of k
+/// variables, from k = 0 on. Adds rows of larger sets with the same low bytes: up to the largest
+/// size with rows in `prepared`, or if the layer's sets are larger, up to an estimate of the
+/// largest size of which the search needs widths.
 pub(crate) fn look_ahead(
     alloc: Global,
     instance: &Instance<'_>,

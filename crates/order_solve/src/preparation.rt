@@ -34,8 +34,8 @@ impl<'a> Model for SearchStart<'a> {
 }
 
 /// The pairs that a search with the lower bound `lower_bound` keeps if the caller requires those in
-/// `asked`: these, or if there are none and the lower bound is by widths, pairs of symmetric
-/// variables.
+/// `asked`: these, or if there are none and the lower bound is by widths, pairs of variables in
+/// which all functions are symmetric. Requires `asked` to be of the problem's variables.
 #[tactic(auto, using(crate::proofs::Harmless::harmless_kept))]
 fn kept_pairs(
     alloc: Global,
@@ -54,11 +54,11 @@ fn kept_pairs(
     }
 }
 
-/// Prepares a search of the problem of `renaming` among the orders that keep `pairs`, which are of
-/// the problem before the renaming. Computes rows of widths for the sets up to a size at which
-/// almost no set is likely to be pruned. This size is estimated from `limit.bound`, the size of
-/// some diagram of the functions. No rows are computed if there is one worker, or if `pairs` is
-/// empty and the search keeps pairs of symmetric variables, because few sets are left then.
+/// Prepares a search, by `workers` workers, of the problem of `renaming` among the orders that keep
+/// `pairs`, which are of the problem before the renaming. Computes rows of widths for the sets up
+/// to a size that is estimated from `limit.bound`, the size of some diagram of the functions.
+/// Computes none if there is one worker, or if `pairs` is empty and the search keeps pairs of
+/// symmetric variables, because few sets are left then.
 pub fn prepare<'a, R: Threads + Sync>(
     rt: &R,
     alloc: Global,

@@ -21,10 +21,10 @@ use std::alloc::{AllocError, Global};
 use std::thread::Threads;
 use symmetric_pairs::pairs_to_keep;
 
-/// The problem instance of a search that keeps `pairs`. Its bound is the size of the sifted order.
-/// Requires that every order that keeps `pairs` keeps those of `sifted`, and that every order that
-/// keeps those of `sifted` can be sorted into one that keeps `pairs`, has as many nodes, and is not
-/// later when orders are compared as lists of numbers.
+/// The problem instance of a search among the orders that keep `pairs`, with the size of the sifted
+/// order as its bound. `sifted` and `pairs` have to be for `problem`. Requires that each order that
+/// keeps `pairs` keeps the pairs of `sifted`, and that for each order that keeps those there is one
+/// that keeps `pairs`, has as many nodes and isn't lexicographically later.
 fn instance_of<'a>(
     problem: &'a Problem,
     sifted: &'a Sifted,
@@ -76,7 +76,7 @@ pub fn find_optimum<R: Threads + Sync, G: Gate>(
 
 /// Finds the first order of the fewest nodes among those that keep the pairs of `sifted`, on the
 /// calling thread alone. The size of the sifted order bounds the search, which uses the lower bound
-/// by widths.
+/// by widths. Requires that `sifted` is an order for `problem`.
 pub fn find_optimum_alone(
     alloc: Global,
     problem: &Problem,
@@ -93,10 +93,9 @@ pub fn find_optimum_alone(
 }
 
 /// Finds the first order of the fewest nodes among those that keep the pairs of `sifted`, and the
-/// sets and costs that its certificate lists. The lower bound is the one by variables: one node
-/// above a set for each essential variable outside. A worker calls `gate`, where a test can hold
-/// it, before it posts the cell of a set. Requires that `start` was prepared for the problem of
-/// `sifted`.
+/// sets and costs that its certificate lists. The size of the sifted order bounds the search, which
+/// uses the lower bound by variables. A worker calls `gate`, where a test can hold it, before it
+/// posts the cell of a set. Requires that `start` was prepared for the problem of `sifted`.
 #[tactic(auto, using(crate::proofs::Harmless::harmless_kept))]
 pub fn solve<R: Threads + Sync, G: Gate>(
     rt: &R,
@@ -118,8 +117,9 @@ pub fn solve<R: Threads + Sync, G: Gate>(
 }
 
 /// Finds the first order of the fewest nodes among those that keep the pairs of `sifted`, and the
-/// sets and costs that its certificate lists, on the calling thread alone. The lower bound is the
-/// one by variables.
+/// sets and costs that its certificate lists, on the calling thread alone. The size of the sifted
+/// order bounds the search, which uses the lower bound by variables. Requires that `sifted` is an
+/// order for `problem`.
 #[tactic(auto, using(crate::proofs::Harmless::harmless_kept))]
 pub fn solve_alone(alloc: Global, problem: &Problem, sifted: Sifted) -> Result<Solution, AllocError>
     requires { sifted.problem ≡ problem.now }
@@ -131,7 +131,9 @@ pub fn solve_alone(alloc: Global, problem: &Problem, sifted: Sifted) -> Result<S
     solution_of(alloc, &cells)
 }
 
-/// The number of widths that the cells of all sets take in the search of `solve_alone`.
+/// The number of widths that the cells of all sets take in a search among the orders that keep the
+/// pairs of `sifted`, with its size as the bound and the lower bound by variables. Requires that
+/// `sifted` is an order for `problem`.
 #[tactic(auto, using(crate::proofs::Harmless::harmless_kept))]
 pub fn count_widths(alloc: Global, problem: &Problem, sifted: Sifted) -> Result<u64, AllocError>
     requires { sifted.problem ≡ problem.now }

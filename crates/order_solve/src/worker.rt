@@ -38,8 +38,8 @@ struct Worker<'a, G> {
 }
 
 impl<'a, G: Gate> Worker<'a, G> {
-    /// The worker with this number at `board`, for the layer of `context`. Calls `gate` before each
-    /// post.
+    /// The worker with the number `number`, counted from 1, at `board`, for the layer of `context`.
+    /// It calls `gate` before each post.
     fn new(
         board: &'a Board,
         context: &'a LayerContext<'a>,
@@ -60,8 +60,9 @@ impl<'a, G: Gate> Worker<'a, G> {
     }
 }
 
-/// Calls the worker's gate, then posts `cell`, the cell of the set `mask`, to the board. If the
-/// seat has claimed this set, it then knows that the cell is posted.
+/// Calls the worker's gate, then posts `cell`, the cell of the set `mask`, to the board. If `seat`,
+/// one of the board's, has claimed the block of this set, it then knows the cell to be filled; a
+/// cell that was filled before stays as it was. Else nothing is posted.
 fn post_cell<G: Gate>(worker: &Worker<'_, G>, seat: &mut BoardSeat, mask: Mask, cell: Cell)
     requires seat { seat.old.board ≡ worker.now.board.now }
     requires instance { worker.now.board.now.brief.instance ≡ worker.now.context.now.instance }
@@ -74,9 +75,9 @@ fn post_cell<G: Gate>(worker: &Worker<'_, G>, seat: &mut BoardSeat, mask: Mask, 
     let _ = worker.board.post(seat, context.instance.result(mask, cell));
 }
 
-/// Posts `cells`, the cells of the block's sets in the block's order, to the board. Calls the
-/// worker's gate before each. If the seat has claimed these sets, it then knows that their cells
-/// are posted.
+/// Posts `cells`, the cells of the block's sets in the block's order, to the board, and calls the
+/// worker's gate before each. If `seat`, one of the board's, has claimed this block, it then knows
+/// the cells to be filled; one that was filled before stays as it was. Else nothing is posted.
 fn post_block<G: Gate>(worker: &Worker<'_, G>, seat: &mut BoardSeat, block: &Block, cells: &[Cell])
     requires seat { seat.old.board ≡ worker.now.board.now }
     requires instance { worker.now.board.now.brief.instance ≡ worker.now.context.now.instance }
@@ -90,11 +91,10 @@ fn post_block<G: Gate>(worker: &Worker<'_, G>, seat: &mut BoardSeat, block: &Blo
     }
 }
 
-/// Claims blocks of `board` until none is left, and posts the cell of each of their sets. Calls
-/// `gate` before each post. `worker` is the worker's number, counted from 1. Returns the seat, and
-/// a tally of the widths that the posted cells took.
-///
-/// If memory is refused the seat is lost, and what was posted stays.
+/// Claims blocks of `board` with `seat`, one of its seats, until none is left, and posts the cell
+/// of each of their sets. Calls `gate` before each post. `worker` is the worker's number, counted
+/// from 1, and `context` is for the board's layer. Returns the seat, and a tally of the widths that
+/// the posted cells took. If memory is refused the seat is lost, and what was posted stays.
 pub fn work_layer<G: Gate>(
     alloc: Global,
     board: &Board,

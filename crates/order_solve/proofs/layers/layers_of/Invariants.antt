@@ -1,10 +1,6 @@
-use Rattle.std.proofs.Common.{◌≡◌, ◌+◌, length}
-use Rattle.layer_core.specs.LayerCosts.{AreLayersFor}
+use Rattle.std.proofs.Common.{◌+◌}
+use Rattle.order_solve.specs.LayerSteps.{HasLayers}
 use Rattle.order_solve.proofs.layers.layers_of.Given as goal
 
 abbrev pub invariant-loop-size : goal.invariant-loop-size
-invariant-loop-size g l = record {
-  many : length l.layers.items ≡ l._size + 1;
-  layers_are : AreLayersFor l.instance l.layers.items;
-  prepared : l.prepared.problem ≡ l.instance.problem;
-}
+invariant-loop-size g l = HasLayers l.instance l.prepared (l._size + 1) l.layers.items
