@@ -60,8 +60,10 @@ pub(crate) struct StripParts {
 }
 
 impl StripParts {
-    /// The parts `outer`, `numbers` and `masks` of a table of which it isn't known whether all
-    /// class numbers occur.
+    /// The parts of a class table in strips; that they fit together isn't tested. `outer` has the
+    /// strip names, function by function, by rising assignments of the high variables outside the
+    /// set. `numbers` has the class numbers in the strips, one strip after another. `masks` has the
+    /// mask of each class number, by rising number, even of those that don't occur in `numbers`.
     pub(crate) fn new(outer: Vec<u32>, numbers: Vec<u32>, masks: Vec<Mask>) -> StripParts
         ensures outer { result.outer ≡ outer }
         ensures numbers { result.numbers ≡ numbers }
@@ -76,7 +78,7 @@ impl StripParts {
     }
 }
 
-/// Whether the numbers are 0, 1, 2 and so on.
+/// Whether the numbers are 0, 1, 2 and so on; true if there are none.
 pub(crate) fn are_in_order(numbers: &[u32]) -> bool
     ensures up { IsTrue result → AreOwn numbers.now }
     ensures all { AreOwn numbers.now → IsTrue result }
@@ -89,7 +91,7 @@ pub(crate) fn are_in_order(numbers: &[u32]) -> bool
     true
 }
 
-/// The numbers 0, 1, 2 and so on, `count` of them.
+/// The `count` numbers 0, 1, 2 and so on. Requires `count` to be at most 2^20.
 fn first_numbers(alloc: Global, count: usize) -> Result<Vec<u32>, AllocError>
     requires { count ≤ 2 ^ 20 }
     ensures long { IfOk result (λ v. length v.items ≡ count) }
@@ -102,9 +104,11 @@ fn first_numbers(alloc: Global, count: usize) -> Result<Vec<u32>, AllocError>
     Ok(numbers)
 }
 
-/// The table with `x` added, the variable by which `table` is to be paired: the names of its
-/// strips, and its class numbers with their masks. Requires that the names of `table` are 0, 1, 2
-/// and so on: then all entries stand one behind the other, and are paired as they stand.
+/// Adds the high variable `x` to the set of `table`, a class table in strips with the names 0, 1, 2
+/// and so on in `table.outer`. Returns the strip names of the larger set's class table, which are
+/// again 0, 1, 2 and so on, and its class numbers with their masks. Requires that the set lacks
+/// `x`, that `table.rank` is the number of high variables below `x` outside the set, and that `x`
+/// is below 16.
 fn add_in_order(
     alloc: Global,
     table: &StripTable<'_>,
@@ -123,9 +127,12 @@ fn add_in_order(
     Ok((outer, labels))
 }
 
-/// The table with `x` added, the variable by which `table` is to be paired: the names of its
-/// strips, and its class numbers with their masks. Each distinct pair of strips becomes a strip. If
-/// `known` has numbered the pairs of these names, the numbers are copied from there.
+/// Adds the high variable `x` to the set of `table`, a class table in strips. Returns the strip
+/// names of the larger set's class table, and its class numbers with their masks. A new name is the
+/// number, by first occurrence, of a pair of strips that differ in `x` alone. `known` may have
+/// these numbers; it is ignored unless it was made for the same names and rank. Requires that the
+/// set lacks `x`, that `table.rank` is the number of high variables below `x` outside the set, and
+/// that `x` is below 16.
 fn add_by_pairs(
     alloc: Global,
     table: &StripTable<'_>,
@@ -145,8 +152,11 @@ fn add_by_pairs(
     Ok((runs.numbers, labels))
 }
 
-/// The parts of the class table with `x` added, the variable by which `table` is to be paired. If
-/// `known` has numbered the pairs of the table's names, the numbers are copied from there.
+/// Adds the high variable `x` to the set of `table`, a class table in strips. Returns the parts of
+/// the larger set's class table. `known` may have the numbers of the pairs of strips that differ in
+/// `x` alone; it is ignored unless it was made for the same names and rank. Requires that the set
+/// lacks `x`, that `table.rank` is the number of high variables below `x` outside the set, and that
+/// `x` is below 16.
 pub(crate) fn add_above(
     alloc: Global,
     table: &StripTable<'_>,

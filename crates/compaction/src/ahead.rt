@@ -35,7 +35,8 @@ impl<'a> Model for WidthsAhead<'a> {
 }
 
 impl<'a> WidthsAhead<'a> {
-    /// An empty list of rows. `end` is the size of the largest sets of which rows are to be found.
+    /// An empty list of rows of widths, for sets of `problem`. It stores `end`, the size of the
+    /// largest sets of which rows are to be found.
     pub(crate) fn up_to(alloc: Global, problem: &'a Problem, end: u8) -> WidthsAhead<'a>
         ensures { result ≡ none_ahead problem.now end }
     {
@@ -54,7 +55,7 @@ impl<'a> WidthsAhead<'a> {
     }
 
     /// Appends the rows of `others` to this list, and leaves the list's `end` as it is. If memory
-    /// is refused nothing changes.
+    /// is refused nothing changes. Requires both lists to be for one problem.
     pub(crate) fn append(&mut self, others: WidthsAhead<'_>) -> Result<(), AllocError>
         requires { others.problem ≡ self.old.problem }
         ensures ok { OnOk result (self.new ≡ with_others self.old others.entry) }
@@ -64,7 +65,8 @@ impl<'a> WidthsAhead<'a> {
         self.bytes.append(&mut others.bytes)
     }
 
-    /// Appends the rows of one low byte. If memory is refused nothing changes.
+    /// Appends the rows in `byte` to this list. If memory is refused nothing changes. Requires that
+    /// `byte` has widths of sets of this list's problem.
     pub(crate) fn keep(&mut self, byte: ByteRows) -> Result<(), AllocError>
         requires { HoldsRows self.old.problem byte }
         ensures { self.new.problem ≡ self.old.problem }
@@ -82,7 +84,8 @@ pub(crate) struct Places {
 }
 
 impl Places {
-    /// Finds for each low byte the place of its last entry in the list of `found`.
+    /// For each low byte, the index in the list `found` of the last entry with rows of sets that
+    /// have this low byte; None if there is no such entry.
     pub(crate) fn of(found: &WidthsAhead<'_>) -> Places {
         let mut places = Places { of: [None; 256] };
         for (place, byte) in found.bytes.iter().enumerate() {
@@ -93,9 +96,9 @@ impl Places {
 }
 
 impl<'a> WidthsAhead<'a> {
-    /// The last rows that were found for the low byte `low`; None if there are none. `places` is
-    /// made by `Places::of` from this list after its last change: older places may give None, or
-    /// earlier rows.
+    /// The last rows in this list that are of sets with the low byte `low`; None if there are none.
+    /// Expects `places` to be made from this list as it is now. If rows were appended since, the
+    /// result may be None, or rows that are not the last ones.
     pub(crate) fn rows_at(&self, places: &Places, low: u8) -> Option<&ByteRows>
         ensures rows { IfSome result (λ b. HoldsRows self.now.problem b.now) }
         ensures low { IfSome result (λ b. b.now.low ≡ low) }

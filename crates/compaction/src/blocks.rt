@@ -32,8 +32,9 @@ impl Model for BlockWidths {
 }
 
 impl BlockWidths {
-    /// The widths of a block whose rows are `rows`, found with `compactions` compacted class
-    /// tables.
+    /// The widths of the sets of a block, and the number of class tables that were compacted to
+    /// find them. `rows[i]` is for the block's set i: at each member x whose width was requested,
+    /// the width of x over the other members, and 0 elsewhere.
     pub(crate) fn new(rows: Vec<WidthRow>, compactions: u32) -> BlockWidths
         ensures rows { result.rows ≡ rows.items }
         ensures compactions { result.compactions ≡ compactions }
@@ -41,8 +42,8 @@ impl BlockWidths {
         BlockWidths { rows, compactions }
     }
 
-    /// The row of set `i` of the block: at each needed member its width over the set without the
-    /// member, and 0 elsewhere.
+    /// The row of the block's set `i`: at each member x whose width was requested, the width of x
+    /// over the other members, and 0 elsewhere. Requires `i` to be below the number of sets.
     pub fn row(&self, i: usize) -> WidthRow
         requires { i < length self.now.rows }
         ensures { slice_get self.now.rows i ≡ Some result }
@@ -50,15 +51,15 @@ impl BlockWidths {
         self.rows[i]
     }
 
-    /// The rows, in the order of the block's sets.
+    /// A row of widths for each set of the block, by rising mask.
     pub fn into_rows(self) -> Vec<WidthRow>
         ensures { result.items ≡ self.rows }
     {
         self.rows
     }
 
-    /// How many class tables were compacted, counting those of low variables even if they were made
-    /// beforehand.
+    /// How many class tables were compacted to find the widths. Each variable in the block's low
+    /// byte counts as one, even if its table was made beforehand. 0 if no width was requested.
     pub fn compactions(&self) -> u32
         ensures { result ≡ self.now.compactions }
     {
@@ -81,8 +82,10 @@ fn members_only(row: WidthRow, members: Mask) -> WidthRow
 }
 
 impl<'a> SharedTables<'a> {
-    /// A row for each set of the block: for set i the widths of its members in `needed[i]`, and 0
-    /// elsewhere. They are read from `byte`, the rows of the block's low byte.
+    /// A row for each set of the block, copied from `byte`: for set i, at each x in `needed[i]`,
+    /// the width of x over the other members, and 0 elsewhere. Requires that `byte` has these
+    /// widths for the shared tables' problem and the block's low byte, that the block has as many
+    /// inputs as the problem, and that `needed` has a mask for each of its sets.
     pub(crate) fn rows_of_block(
         &self,
         alloc: Global,
@@ -107,9 +110,11 @@ impl<'a> SharedTables<'a> {
     }
 }
 
-/// Computes a row for each set of the block: for set i the widths of its members in `needed[i]`,
-/// and 0 elsewhere. The walk begins at the class table of the empty set. `tally` rises by the
-/// number of widths that are needed.
+/// Computes a row for each set of the block: for set i, at each x in `needed[i]`, the width of x
+/// over the other members, and 0 elsewhere. The walk begins at the class table of the empty set.
+/// `tally` rises by the number of these widths, unless memory is refused. Requires that it doesn't
+/// rise above 2^32, that the block has the problem's number of inputs, and that `needed` has a mask
+/// of members for each set.
 pub fn block_widths(
     alloc: Global,
     problem: &Problem,
@@ -132,9 +137,11 @@ pub fn block_widths(
 }
 
 impl<'a> SharedTables<'a> {
-    /// Computes a row for each set of the block: for set i the widths of its members in
-    /// `needed[i]`, and 0 elsewhere. The walk begins at a shared table. `tally` rises by the number
-    /// of widths that are needed.
+    /// Computes a row for each set of the block: for set i, at each x in `needed[i]`, the width of
+    /// x over the other members, and 0 elsewhere. The walk begins at a shared table. `tally` rises
+    /// by the number of these widths, unless memory is refused. Requires that it doesn't rise above
+    /// 2^32, that the block has the problem's number of inputs, and that `needed` has a mask of
+    /// members for each set.
     pub fn block_widths(
         &self,
         alloc: Global,
@@ -162,8 +169,10 @@ impl<'a> SharedTables<'a> {
         Ok(BlockWidths { rows, compactions })
     }
 
-    /// The widths of all members of the block's sets, for measurements and tests. The tally rises
-    /// by their number.
+    /// Computes a row for each set of the block: at each member x the width of x over the other
+    /// members, and 0 elsewhere. The walk begins at a shared table. For measurements and tests.
+    /// `tally` rises by the number of these widths, unless memory is refused. Requires it to be
+    /// below 2^31 before, and the block to have the problem's number of inputs.
     pub fn all_widths(
         &self,
         alloc: Global,
@@ -183,25 +192,4 @@ impl<'a> SharedTables<'a> {
         prove!(block.len() <= 256);
         self.block_widths(alloc, block, block.masks(), tally)
     }
-}
-
-/// The widths of all members of the block's sets, for measurements and tests. The tally rises by
-/// their number.
-pub fn all_widths(
-    alloc: Global,
-    problem: &Problem,
-    block: &Block,
-    tally: &mut Tally,
-) -> Result<BlockWidths, AllocError>
-    requires inputs { block.now.inputs ≡ problem.now.inputs }
-    requires room { tally.old < 2 ^ 31 }
-    ensures rows { IfOk result
-        (λ widths. AreWidthRows problem.now (block_masks block.now) (block_masks block.now)
-        widths.rows) }
-    ensures compactions { IfOk result (λ widths. widths.compactions ≤ most_compactions) }
-    ensures ok { OnOk result (tally.new ≡ tally.old + wanted_count (block_masks block.now)) }
-    ensures err { OnErr result (tally.new ≡ tally.old) }
-{
-    let shared = SharedTables::bare(alloc, problem)?;
-    shared.all_widths(alloc, block, tally)
 }

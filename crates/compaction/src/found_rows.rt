@@ -23,7 +23,8 @@ struct Turns {
     taken: AtomicU64,
 }
 
-/// All bytes, those with the fewest bits that are 1 first.
+/// All bytes: those with fewer bits that are 1 come first, and of those with equally many the
+/// smaller.
 fn bytes_by_size() -> [u8; 256] {
     let mut bytes = [0; 256];
     let mut count = 0usize;
@@ -39,7 +40,7 @@ fn bytes_by_size() -> [u8; 256] {
 }
 
 impl Turns {
-    /// The turns before any byte is taken.
+    /// A queue of all 256 low bytes, none of which is taken.
     fn new() -> Turns {
         Turns {
             bytes: bytes_by_size(),
@@ -47,7 +48,8 @@ impl Turns {
         }
     }
 
-    /// Takes the next low byte; None if all are taken.
+    /// Takes the next low byte off the queue, and returns it; None if all 256 are taken. Those with
+    /// the fewest bits that are 1 come first.
     fn next(&self) -> Option<u8> {
         let turn = self.taken.fetch_add(1, Ordering::SeqCst);
         if turn < 256 {
@@ -60,7 +62,7 @@ impl Turns {
 
 impl<'a> SharedTables<'a> {
     /// Computes the widths that `request` needs, as a row for each set with the low byte of
-    /// `request`.
+    /// `request`. Requires that `request` has the problem's number of variables.
     fn rows_of(&self, alloc: Global, request: &WidthRequest) -> Result<ByteRows, AllocError>
         requires { request.now.inputs ≡ self.now.inputs }
         ensures { IfOk result (HoldsRows self.now) }
@@ -70,9 +72,10 @@ impl<'a> SharedTables<'a> {
         Ok(byte)
     }
 
-    /// Takes low bytes from `turns` until none is left, and computes the rows that are requested
-    /// for them. `end`, the size of the largest sets of which rows are to be found, is only stored
-    /// in the result.
+    /// Takes low bytes from `turns` until none is left, and for each one computes the rows that the
+    /// request for it in `requests` needs, if there is one. A request for another number of
+    /// variables than the problem's is skipped. `end` limits nothing: it is only stored in the
+    /// result, as the size of the largest sets of which rows are to be found.
     fn rows_by_turns(
         &self,
         alloc: Global,
@@ -98,8 +101,9 @@ impl<'a> SharedTables<'a> {
         Ok(found)
     }
 
-    /// Computes the rows that are requested, by the calling thread. `end`, the size of the largest
-    /// sets of which rows are to be found, is only stored in the result.
+    /// Computes all rows of widths in `requests`, by the calling thread. A request for another
+    /// number of variables than the problem's is skipped. `end` limits nothing: it is only stored
+    /// in the result, as the size of the largest sets of which rows are to be found.
     pub(crate) fn rows_alone(
         &self,
         alloc: Global,
@@ -112,8 +116,9 @@ impl<'a> SharedTables<'a> {
     }
 }
 
-/// Joins the rows that all threads found; an error if a thread ran out of memory. `end`, the size
-/// of the largest sets of which rows are to be found, is only stored in the result.
+/// Joins the lists of rows in `parts`, each found by one thread: the last list comes first. Err if
+/// a thread was refused memory. Requires all lists to be for `problem`. `end`, the size of the
+/// largest sets of which rows are to be found, is only stored in the result.
 fn collect<'a>(
     alloc: Global,
     problem: &'a Problem,
@@ -132,9 +137,10 @@ fn collect<'a>(
 }
 
 impl<'a> SharedTables<'a> {
-    /// Computes the rows that are requested, by the threads of `workers` workers; none if `end` is
-    /// 0. The result stores `end` as the size of the largest sets of which rows are to be found;
-    /// the rows of larger sets are computed, too, if they are requested.
+    /// Computes all rows of widths in `requests`, by the threads of `workers` workers; but no rows
+    /// if `end` is 0. Any other `end` limits nothing: it is only stored in the result, as the size
+    /// of the largest sets of which rows are to be found. A request for another number of variables
+    /// than the problem's is skipped.
     pub(crate) fn rows_by_workers<R: Threads + Sync>(
         &self,
         rt: &R,

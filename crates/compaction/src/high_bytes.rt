@@ -15,6 +15,7 @@ pub(crate) struct HighBytes {
 }
 
 /// A word in which bit b, for each b below 64, is 1 if the byte `64 * i + b` lacks bit `y`.
+/// Requires `i` < 4 and `y` < 8.
 fn bits_without(i: usize, y: u8) -> u64
     requires place { i < 4 }
     requires bit { y < 8 }
@@ -30,7 +31,9 @@ fn bits_without(i: usize, y: u8) -> u64
 }
 
 impl HighBytes {
-    /// The high bytes of the wanted sets: those h for which `needed[h]` is not empty.
+    /// The set of the high bytes h with `needed[h]` not 0. `needed[h]` is the mask of the members
+    /// whose widths are needed, of the set with the high byte h. Requires `needed` to have at most
+    /// 256 entries.
     pub(crate) fn wanted(needed: &[Mask]) -> HighBytes
         requires { length needed.now ≤ 256 }
         ensures { (h : ℕ) → h < length needed.now → slice_index needed.now h ≢ 0 →
@@ -45,14 +48,15 @@ impl HighBytes {
         HighBytes { words }
     }
 
-    /// Whether no high byte is in the set.
+    /// Whether there is no high byte in `self`.
     pub(crate) fn is_empty(&self) -> bool
         ensures { IsTrue result → (h : ℕ) → h < 256 → HasByte self.now.words h → ⊥ }
     {
         self.words == [0; 4]
     }
 
-    /// The high bytes of the set that lack bit `y`, which stands for the variable `8 + y`.
+    /// Those high bytes in `self` whose bit `y`, which stands for the variable `8 + y`, is 0.
+    /// Requires `y` < 8.
     pub(crate) fn without(&self, y: u8) -> HighBytes
         requires { y < 8 }
         ensures { (h : ℕ) → h < 256 → HasByte self.now.words h → bit_at h y ≡ 0 →
@@ -65,7 +69,8 @@ impl HighBytes {
         HighBytes { words }
     }
 
-    /// The high bytes of the set that have bit `y`, which stands for the variable `8 + y`.
+    /// Those high bytes in `self` whose bit `y`, which stands for the variable `8 + y`, is 1.
+    /// Requires `y` < 8.
     pub(crate) fn with(&self, y: u8) -> HighBytes
         requires { y < 8 }
         ensures { (h : ℕ) → h < 256 → HasByte self.now.words h → bit_at h y ≡ 1 →
@@ -78,7 +83,7 @@ impl HighBytes {
         HighBytes { words }
     }
 
-    /// How many high bytes are in the set.
+    /// How many high bytes there are in `self`.
     pub(crate) fn count(&self) -> u32 {
         let mut count = 0u32;
         for word in &self.words {

@@ -25,7 +25,8 @@ struct Branch {
     wanted: HighBytes,
 }
 
-/// The lowest of the `inputs` variables that is not in `decided`; None if all are.
+/// The lowest variable below `inputs` that is not in the set `decided`; None if all are in it.
+/// Requires `inputs` to be at most 16.
 fn first_undecided(inputs: u8, decided: Mask) -> Option<VarIx>
     requires { inputs ≤ 16 }
     ensures undecided { IfSome result (λ y. (y < inputs) × (bit_at decided y ≡ 0)) }
@@ -40,7 +41,9 @@ fn first_undecided(inputs: u8, decided: Mask) -> Option<VarIx>
 }
 
 impl Branch {
-    /// How many of the branch's wanted sets have the high variable y; 0 if y is low or decided.
+    /// How many sets of which a width is needed, in this branch of the walk, have the variable `y`.
+    /// 0 if `y` is below 8, or if the branch has decided already whether its sets have `y`.
+    /// Requires `y` < 16.
     fn count_with(&self, y: VarIx) -> u32
         requires { y < 16 }
     {
@@ -50,9 +53,10 @@ impl Branch {
         self.wanted.with(y % 8).count()
     }
 
-    /// The undecided variable that most of the wanted sets have, the lowest of several; None if all
-    /// are decided. Tables halve with each variable, so the one that most sets share is added
-    /// first. If at most two are undecided, the lowest is taken.
+    /// The variable below `inputs` for which this branch of the walk decides next whether its sets
+    /// have it; None if all are decided. If at most two are undecided, it is the lowest of these.
+    /// Else it is the undecided variable that most of the branch's sets with a needed width have;
+    /// of several, the lowest. Requires `inputs` to be at most 16.
     fn next_variable(&self, inputs: u8) -> Option<VarIx>
         requires { inputs ≤ 16 }
         ensures undecided { IfSome result
@@ -77,7 +81,7 @@ impl Branch {
     }
 }
 
-/// The set `set` with the variable y added.
+/// The set `set` with the variable `y` added. Requires `y` < 16.
 fn with_member(set: Mask, y: VarIx) -> Mask
     requires { y < 16 }
     ensures { result ≡ bit_or set (2 ^ y) }
@@ -85,8 +89,11 @@ fn with_member(set: Mask, y: VarIx) -> Mask
     set | (1 << y)
 }
 
-/// Writes the row of the table's own set to `rows`, at the set's high byte: the widths of its
-/// needed members, and 0 elsewhere. Nothing is written if the request is for another low byte.
+/// Writes the row of the set of `table` to `rows[h]`, where h is the set's high byte: at each x in
+/// `request.needed[h]` the width of x over the other members, and 0 elsewhere. Other rows stay.
+/// Nothing is written if the set's low byte isn't that of `request`, or if memory is refused.
+/// Requires that `request` has the problem's number of variables, and that `rows` is as long as
+/// `request.needed`.
 fn fill_row(
     alloc: Global,
     table: &Strips<'_>,
@@ -105,10 +112,12 @@ fn fill_row(
     Ok(())
 }
 
-/// Writes to `rows` the rows of the wanted sets that agree with the table's set in the decided
-/// variables, each at its set's high byte, by a walk over the undecided variables. `names` has the
-/// pairs of strip names that were numbered beforehand. Returns how many class tables were
-/// compacted.
+/// Walks from `table` to the sets that are its set with none, some or all of the variables added
+/// that `branch` leaves undecided. If `request` needs a width of one, writes its row to `rows[h]`;
+/// its high byte h must be in `branch.wanted`. Other rows stay. `names` has pairs of strip names,
+/// numbered beforehand. Returns how many class tables were compacted. Requires that `branch`
+/// decides the members and low variables, `request` has the problem's number of variables, and
+/// `rows` is as long as `request.needed`. If memory is refused, some rows may be written.
 fn walk(
     alloc: Global,
     table: &Strips<'_>,
@@ -150,17 +159,19 @@ fn walk(
     Ok(before + after + 1)
 }
 
-/// The mask of all low variables.
+/// The mask of the low variables: the lowest eight, or all if the problem has fewer.
 fn low_mask(problem: &Problem) -> Mask
     ensures { result ≡ 2 ^ low_of problem.now - 1 }
 {
     (1 << low_variables(problem)) - 1
 }
 
-/// Writes the rows of the wanted sets, those of which `request` needs some width, to `rows`, each
-/// at its set's high byte. They are found by a walk from `table`. Requires that this is the class
-/// table of the set of low variables that the request's low byte stands for. Returns how many class
-/// tables were compacted.
+/// If `request.needed[h]` isn't 0, writes to `rows[h]` the needed widths of the set with the high
+/// byte h and the low byte of `request`, and 0 elsewhere. Other rows stay. The walk begins at
+/// `table`, the class table of the set whose mask is this low byte. `shared` has pairs of strip
+/// names, numbered beforehand. Returns how many class tables were compacted. Requires that
+/// `request` has the problem's number of variables, and that `rows` is as long as `request.needed`.
+/// If memory is refused, some rows may be written.
 fn walk_from(
     alloc: Global,
     shared: &SharedTables<'_>,
@@ -183,8 +194,9 @@ fn walk_from(
     Ok(count)
 }
 
-/// The class table of `low`, a set of low variables, made from `first`, the table of its members
-/// below `from`. None if `low` has no other members, so that `first` is its table.
+/// The class table of `low`, a set of low variables. It is made by adding variables to `first`, the
+/// table of the members of `low` below `from`. None if all members of `low` are below `from`:
+/// `first` is then its table. Requires `from` to be at most the number of low variables.
 fn with_members<'a>(
     alloc: Global,
     first: &Strips<'a>,
@@ -209,10 +221,12 @@ fn with_members<'a>(
     Ok(made)
 }
 
-/// Writes a row for each set with the low byte of `request` of which some width is needed, to
-/// `rows[h]` if h is the set's high byte: the widths of its needed members, and 0 elsewhere. Other
-/// rows stay. The walk begins at a shared table, and first adds the low variables that it lacks.
-/// Returns how many class tables were made by adding high variables.
+/// If `request.needed[h]` isn't 0, writes to `rows[h]` the needed widths of the set with the high
+/// byte h and the low byte of `request`, and 0 elsewhere. Other rows stay. The walk begins at a
+/// table in `shared`, and first adds the low variables that it lacks. Returns how many class tables
+/// were then made by adding high variables. Requires that `request` has the problem's number of
+/// variables, and that `rows` is as long as `request.needed`. If memory is refused, some rows may
+/// be written.
 fn fill_rows(
     alloc: Global,
     shared: &SharedTables<'_>,
@@ -256,10 +270,10 @@ impl Model for ByteRows {
     ghost invariant = { λ b. IsRequest b.request.inputs b.request.low b.request.needed.items };
 }
 
-/// The rows that `request` needs, and how many class tables were compacted for them, counting one
-/// for each member of the low byte even if its table was made beforehand. The table of the low byte
-/// is made once, and the others by a walk over the high variables that shares common beginnings. If
-/// no width is needed no table is made, and the count is 0.
+/// The rows that `request` needs, found by a walk from a table in `shared`, and how many class
+/// tables were compacted for them. Each variable in the request's low byte counts as one, even if
+/// its table was made beforehand. If no width is needed no table is made, and the count is 0.
+/// Requires that `request` has the problem's number of variables.
 pub(crate) fn walked_rows(
     alloc: Global,
     shared: &SharedTables<'_>,

@@ -11,7 +11,7 @@ use crate::high_walk::ByteRows;
 use order_model::{Mask, VarIx, WidthRow, contains, next_member};
 use symmetries::Image;
 
-/// The entry of `row` at x; 0 if x is not below 16.
+/// The entry of `row` at `x`; 0 if `x` is not below 16.
 fn width_at(row: &WidthRow, x: VarIx) -> u32
     ensures { result ≡ slice_index row.now x }
 {
@@ -21,7 +21,8 @@ fn width_at(row: &WidthRow, x: VarIx) -> u32
     }
 }
 
-/// Whether each variable in `needed` goes to one in `asked`. Variable x goes to `variables[x]`.
+/// Whether, for each variable x in `needed`, the variable `variables[x]` is in `asked`. False if
+/// one of these is not below 16.
 fn asks_for(asked: Mask, variables: &[VarIx; 16], needed: Mask) -> bool
     ensures { IsTrue result → (x : ℕ) → x < 16 → bit_at needed x ≡ 1 →
         bit_at asked (slice_index variables.now x) ≡ 1 }
@@ -37,8 +38,8 @@ fn asks_for(asked: Mask, variables: &[VarIx; 16], needed: Mask) -> bool
     true
 }
 
-/// At each variable x in `needed` the entry of `row` at `variables[x]`, the variable to which x
-/// goes, or 0 if that is not below 16; 0 elsewhere.
+/// The row that has, at each variable x in `needed`, the entry of `row` at `variables[x]`, or 0 if
+/// that is not below 16. It is 0 elsewhere.
 fn members_moved(row: &WidthRow, variables: &[VarIx; 16], needed: Mask) -> WidthRow
     ensures { (x : ℕ) → x < 16 → slice_index result x ≡
         (if bit_at needed x == 1 then slice_index row.now (slice_index variables.now x) else 0) }
@@ -53,15 +54,16 @@ fn members_moved(row: &WidthRow, variables: &[VarIx; 16], needed: Mask) -> Width
 }
 
 impl ByteRows {
-    /// Whether the widths of all members of `set` were requested, and so found. `set` is taken to
-    /// have the low byte of these rows, which isn't tested.
+    /// Whether these rows have the widths of all members of `set`. Expects `set` to have the low
+    /// byte of these rows, which isn't tested.
     pub(crate) fn is_whole(&self, set: Mask) -> bool {
         self.request.needed.get(usize::from(set >> 8)) == Some(&set)
     }
 
-    /// The row of a set whose image is `image`: the widths of its members in `needed`, and 0
-    /// elsewhere. They are read from the row of the image's set, which is taken to have the low
-    /// byte of these rows. None if one of these widths was not requested.
+    /// The row of a set whose image is `image`: at each x in `needed` the width of x over the other
+    /// members, and 0 elsewhere. It is read from the row of `image.set`, at the variables to which
+    /// `image` takes those in `needed`. None if one of these widths isn't among these rows. Expects
+    /// `image.set` to have the low byte of these rows, which isn't tested.
     pub(crate) fn row_by_image(&self, image: &Image, needed: Mask) -> Option<WidthRow>
         ensures { (p q : TruthTables) (set : ℕ) → p.inputs ≤ 16 → HoldsRows q self.now →
             TakesWidths p q set image.now.set image.now.variables →

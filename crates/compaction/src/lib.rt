@@ -19,7 +19,7 @@ mod source;
 mod strips;
 mod tally;
 
-pub use blocks::{BlockWidths, all_widths, block_widths};
+pub use blocks::{BlockWidths, block_widths};
 pub use low_choice::renaming_of;
 pub use preparation::Preparation;
 pub use requests::Requests;

@@ -18,13 +18,13 @@ const MOST_CHANGES: u8 = 8;
 /// lowest.
 const FEW_STRIPS: u32 = 16;
 
-/// The hash of `hash` and one more word.
+/// The hash of `hash` and `word`.
 fn mixed(hash: u64, word: u64) -> u64 {
     let product = (hash ^ word).wrapping_mul(SPREAD);
     product ^ (product >> 29)
 }
 
-/// The hash of two hashes, in this order.
+/// The hash of `first` and `second`, which depends on their order.
 fn joined(first: u64, second: u64) -> u64 {
     mixed(mixed(0, first), second)
 }
@@ -36,7 +36,7 @@ struct Seen {
 }
 
 impl Seen {
-    /// Adds the value that the upper 14 bits of `hash` have.
+    /// Adds the number in the upper 14 bits of `hash` to the set.
     fn add(&mut self, hash: u64) {
         let value = hash >> 50;
         if let Some(word) = self.words.get_mut((value / 64) as usize) {
@@ -64,8 +64,9 @@ struct Halves {
 }
 
 impl Halves {
-    /// The hashes of the halves of all strips in `words`, packed truth tables with four words a
-    /// strip. The halves of a strip differ in the variable `low`.
+    /// For each strip in `words`, the hash of its half where bit `low` of the point is 0, and the
+    /// hash of its half where that bit is 1. `words` has packed truth tables, four words a strip;
+    /// up to three words left over are ignored. Requires `low` < 8.
     fn of(alloc: Global, words: &[u64], low: VarIx) -> Result<Halves, AllocError>
         requires { low < 8 }
     {
@@ -92,8 +93,8 @@ impl Halves {
         Ok(Halves { lower, upper })
     }
 
-    /// About how many distinct strips these halves make up: no more than there are, and fewer where
-    /// strips' hashes have the same upper bits.
+    /// About how many distinct strips these halves make up: how many distinct values the upper 14
+    /// bits of the strips' hashes have, so never more than there are.
     fn count(&self) -> u32 {
         let mut seen = Seen { words: [0; 256] };
         for (lower, upper) in self.lower.iter().zip(&self.upper) {
@@ -102,8 +103,10 @@ impl Halves {
         seen.count()
     }
 
-    /// About how many distinct strips there are after the low variable is exchanged with the high
-    /// variable `8 + place`.
+    /// About how many distinct strips are left if two variables are exchanged: the low one in which
+    /// the halves differ, and the high one `8 + place`. It is how many distinct values the upper 14
+    /// bits of the new strips' hashes have. Requires `place` < 8, and expects `8 + place` to be a
+    /// variable of the problem; else the count has no meaning.
     fn count_after(&self, place: u8) -> u32
         requires { place < 8 }
     {
@@ -145,7 +148,7 @@ struct Change {
 }
 
 impl Tables {
-    /// The truth tables of a problem, no variable exchanged.
+    /// The packed truth tables of `problem`, one output after another, with no variables exchanged.
     fn of(alloc: Global, problem: &Problem) -> Result<Tables, AllocError> {
         let mut words = Vec::new(alloc);
         for output in 0..problem.outputs() {
@@ -157,9 +160,11 @@ impl Tables {
         })
     }
 
-    /// The exchange of a low and a high place that leaves the fewest distinct strips by the
-    /// estimate of `count_after`, the first of several; None if `inputs` is at most 8, so that no
-    /// place is high.
+    /// The exchange of two variables that leaves the fewest distinct strips, by an estimate from
+    /// hashes. One variable is at a place below 8, the other at a place from 8 to `inputs` - 1;
+    /// place p is bit p of a point. Of several exchanges it is the first, by the lower place and
+    /// then by the higher one. None if `inputs`, the problem's number of variables, is at most 8.
+    /// Requires `inputs` to be at most 16.
     fn best_change(&self, alloc: Global, inputs: u8) -> Result<Option<Change>, AllocError>
         requires { inputs ≤ 16 }
     {
@@ -176,14 +181,16 @@ impl Tables {
         Ok(best)
     }
 
-    /// Exchanges the variables at the two places of `change`.
+    /// Exchanges the variables at the places `change.low` and `change.high`: these tables become
+    /// the truth tables of the functions with the two exchanged. Place p is bit p of a point.
+    /// Expects `change.high` to be below the number of variables; else the tables may be wrong.
     fn make(&mut self, change: Change) {
         self.variables
             .swap(change.low as usize, change.high as usize);
         exchange(&mut self.words, change.low, change.high);
     }
 
-    /// The variables at the eight lowest places, as a mask.
+    /// The mask of the variables at the places 0 to 7. Place p is bit p of a point.
     fn lowest(&self) -> Mask {
         let mut set: Mask = 0;
         for place in 0..8 {
@@ -196,8 +203,9 @@ impl Tables {
     }
 }
 
-/// Exchanges the variables at the places `low` and `high` in the packed truth tables `words`, in
-/// place. Callers pass a `high` of 8 or above; what a smaller one gives serves nobody.
+/// Exchanges bits `low` and `high` of all points in `words`, which has packed truth tables one
+/// after another. Requires `low` to be below 8, and `high` below 16. Expects `high` to be at least
+/// 8 and below the number of variables; else the tables may be wrong.
 fn exchange(words: &mut [u64], low: VarIx, high: VarIx)
     requires low { low < 8 }
     requires high { high < 16 }
@@ -225,9 +233,11 @@ fn exchange(words: &mut [u64], low: VarIx, high: VarIx)
     }
 }
 
-/// The mask of eight variables to be the lowest ones, if they leave at most about three quarters of
-/// the distinct strips; else None. None, too, if there are at most about `FEW_STRIPS` strips. The
-/// eight are found by at most `MOST_CHANGES` exchanges, each the best at its time.
+/// The mask of eight variables that are to become the lowest ones, so that the truth tables have
+/// fewer distinct strips. They are found by at most `MOST_CHANGES` exchanges of two variables, one
+/// after another: each time the one that leaves the fewest distinct strips, until none leaves fewer
+/// than before. None if at most `FEW_STRIPS` strips are distinct at first, or if more than about
+/// three quarters of the distinct ones are left at last. These counts are estimates by hashes.
 fn lowest_of(alloc: Global, problem: &Problem) -> Result<Option<Mask>, AllocError>
     requires { problem.now.inputs ≤ 16 }
 {
@@ -253,9 +263,10 @@ fn lowest_of(alloc: Global, problem: &Problem) -> Result<Option<Mask>, AllocErro
     }
 }
 
-/// A renaming by which the lowest variables are ones under which class tables are small. No
-/// variable is exchanged if that leaves more than about three quarters of the distinct strips, if
-/// these are few anyway, or if there are at most eight variables.
+/// A renaming of the variables by which the truth tables of `problem` have fewer distinct strips,
+/// and class tables are smaller. It exchanges no variable if there are at most eight, if at most
+/// `FEW_STRIPS` strips are distinct without a renaming, or if none is found that leaves at most
+/// about three quarters of the distinct strips.
 pub fn renaming_of<'a>(alloc: Global, problem: &'a Problem) -> Result<Renaming<'a>, AllocError>
     ensures { IfOk result (λ r. r.problem ≡ problem.now) }
 {

@@ -38,7 +38,8 @@ fn are_below(names: &[u32], limit: usize) -> bool
     true
 }
 
-/// Whether `count` is a multiple of 2 * 2^rank, so that each name has a partner 2^rank apart.
+/// Whether `count` is a multiple of 2 * 2^`rank`, so that each of `count` names is in a pair of
+/// names that stand 2^`rank` apart. Requires `rank` < 16.
 fn are_whole_blocks(count: usize, rank: u32) -> bool
     requires { rank < 16 }
     ensures { IsTrue result → (blocks : ℕ) × (count ≡ blocks * (2 * 2 ^ rank)) }
@@ -48,9 +49,10 @@ fn are_whole_blocks(count: usize, rank: u32) -> bool
 }
 
 impl NamePairs {
-    /// The pairs of names 2^rank apart, numbered. None if they aren't worth keeping: if there are
-    /// too many names, or if the names are 0, 1, 2 and so on. None, too, if some name has no
-    /// partner, or is no less than the number of names.
+    /// Numbers, by first occurrence, the pairs of strip names that stand 2^`rank` apart in `names`,
+    /// at places i and i + 2^`rank` where bit `rank` of i is 0. None if there are more than
+    /// `MOST_NAMES` names, if they are 0, 1, 2 and so on, if a name is in no pair, or if a name is
+    /// not below the number of names. Requires `rank` < 16.
     fn of(alloc: Global, names: &[u32], rank: u32) -> Result<Option<NamePairs>, AllocError>
         requires rank { rank < 16 }
     {
@@ -69,7 +71,7 @@ impl NamePairs {
         }))
     }
 
-    /// A copy of the numbers and of the distinct pairs.
+    /// A copy of the number of each pair of names, and of the distinct pairs, by rising number.
     fn numbered_pairs(&self, alloc: Global) -> Result<NumberedPairs, AllocError>
         ensures { IfOk result
             (λ v. ArePairsNumbered self.now.names.items self.now.rank v.numbers.items
@@ -82,9 +84,11 @@ impl NamePairs {
     }
 }
 
-/// The pairs of names 2^rank apart, numbered by first occurrence. If `known` has the pairs of these
-/// names by this rank, their numbers are copied from there. Requires that all names are below
-/// `count`.
+/// The number, by first occurrence, of each pair of strip names that stand 2^`rank` apart in
+/// `names`, at places i and i + 2^`rank` where bit `rank` of i is 0; and the distinct pairs, by
+/// rising number. Both are copied from `known` if it was made for the same names and rank; else it
+/// is ignored. Requires each name to be in a pair, and below `count`, the number of stored strips,
+/// which is at most 2^20.
 pub(crate) fn number_names(
     alloc: Global,
     names: &[u32],
@@ -113,11 +117,12 @@ pub(crate) struct AllNamePairs {
     steps: Vec<Option<NamePairs>>,
 }
 
-/// The pairs of strip names in the class table of `set`, by the variable `y` outside it. `set` and
-/// `y` count the high variables from 0, so that y = 0 is the variable 8. `names` has the names in
-/// the table of the empty set. Another set's names are the numbers of the pairs that `steps` has
-/// for the set without its lowest member, by that member. None if these are missing, or if the
-/// pairs aren't worth keeping.
+/// Numbers the pairs of strip names of a set of high variables, for adding the variable `8 + y`,
+/// which it lacks. Bit i of `set` stands for the variable `8 + i`. The empty set has the names
+/// `names`. Any other set, with the lowest bit l and the other bits t, has as names the pair
+/// numbers in `steps[8 * t + l]`. None if this entry is missing or None, if there are more than
+/// `MOST_NAMES` names, if they are 0, 1, 2 and so on, or if one is in no pair or not below their
+/// number. Requires `y` < 8.
 fn step_of(
     alloc: Global,
     names: &[u32],
@@ -141,8 +146,11 @@ fn step_of(
 }
 
 impl AllNamePairs {
-    /// The pairs of strip names for all sets of the `high` high variables. `names` has the strip
-    /// names in the class table of the empty set.
+    /// Numbers pairs of strip names beforehand: for each set of the variables from 8 to `7 + high`,
+    /// and each of these variables that the set lacks, the pairs of strips that differ in this
+    /// variable alone. `names` has the strip names in the class table of the empty set. A set is
+    /// left out if it has more than `MOST_NAMES` strip names, if its names are 0, 1, 2 and so on,
+    /// or if the set without its lowest variable is left out. Requires `high` to be at most 8.
     pub(crate) fn of(alloc: Global, names: &[u32], high: u8) -> Result<AllNamePairs, AllocError>
         requires { high ≤ 8 }
     {
@@ -160,15 +168,16 @@ impl AllNamePairs {
         Ok(AllNamePairs { steps })
     }
 
-    /// An empty list: no pairs are numbered beforehand.
+    /// A list in which no pairs of strip names are numbered, for any set.
     pub(crate) fn none(alloc: Global) -> AllNamePairs {
         AllNamePairs {
             steps: Vec::new(alloc),
         }
     }
 
-    /// The pairs of strip names for the high members of `set`, by the variable `y`, which is 8 or
-    /// more and outside `set`; None if they were not numbered beforehand.
+    /// The numbered pairs of strip names for adding the high variable `y` to `set`; None if they
+    /// were not numbered beforehand. They do not depend on the low members of `set`. Expects `y` to
+    /// be from 8 to 15, and `set` to lack it.
     pub(crate) fn at(&self, set: Mask, y: VarIx) -> Option<&NamePairs> {
         match self
             .steps

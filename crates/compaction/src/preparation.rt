@@ -50,8 +50,9 @@ impl<'a> Model for Preparation<'a> {
 }
 
 impl<'a> Preparation<'a> {
-    /// A preparation with the class tables `shared`, and without rows. `pairs`, of the problem
-    /// before the renaming, say which sets are lawful.
+    /// Prepares a search with `shared`, class tables of the problem after `renaming`. Finds the
+    /// orbits of the renamed problem's sets, but no rows of widths. `pairs`, of the variables
+    /// before the renaming, determine which sets are lawful.
     fn with_tables(
         alloc: Global,
         renaming: &'a Renaming<'a>,
@@ -73,8 +74,9 @@ impl<'a> Preparation<'a> {
         })
     }
 
-    /// A preparation without rows, made by the calling thread. `pairs`, of the problem before the
-    /// renaming, say which sets are lawful.
+    /// Prepares a search on the calling thread: makes the shared class tables of the problem after
+    /// `renaming`, and finds the orbits of its sets, but no rows of widths. `pairs`, of the
+    /// variables before the renaming, determine which sets are lawful.
     pub fn of(
         alloc: Global,
         renaming: &'a Renaming<'a>,
@@ -87,10 +89,11 @@ impl<'a> Preparation<'a> {
         Preparation::with_tables(alloc, renaming, shared, pairs)
     }
 
-    /// A preparation with rows, made by the threads of `workers` workers. The rows are those of the
-    /// sets of at least 1 and at most `end` variables that are lawful by `pairs`, of each orbit the
-    /// first set alone. There are no rows if `end` is 0. `pairs` are of the problem before the
-    /// renaming.
+    /// Prepares a search by the threads of `workers` workers: makes the shared class tables of the
+    /// problem after `renaming`, finds the orbits of its sets, and finds rows of widths. The rows
+    /// are those of the lawful sets of 1 to `end` variables, of each orbit the first set alone;
+    /// there are none if `end` is 0. `pairs`, of the variables before the renaming, determine which
+    /// sets are lawful.
     pub fn by_workers<R: Threads + Sync>(
         rt: &R,
         alloc: Global,
@@ -116,14 +119,14 @@ impl<'a> Preparation<'a> {
         self.renaming.problem()
     }
 
-    /// The size of the largest sets of which rows were found; 0 if none were.
+    /// The size of the largest sets of which rows were to be found so far; 0 if none were.
     pub fn end(&self) -> u8
         ensures { result ≡ self.now.found.end }
     {
         self.found.end()
     }
 
-    /// The rows that were found, of sets of the renamed problem.
+    /// The rows of widths that were found so far, of sets of the renamed problem.
     pub(crate) fn found(&self) -> &WidthsAhead<'a>
         ensures value { result.now ≡ self.now.found }
         ensures renamed { result.now.problem ≡ renamed_of self.now.problem self.now.renamed }
@@ -131,9 +134,10 @@ impl<'a> Preparation<'a> {
         &self.found
     }
 
-    /// The image whose row has the widths of `set`, a set of the problem before the renaming. The
-    /// renaming takes `set` to the renamed problem, and exchanges take it from there to the first
-    /// set of its orbit.
+    /// The image of `set`, a set of the problem before the renaming: the renaming takes it to a set
+    /// of the renamed problem, and exchanges take that to the first set of its orbit. The row of
+    /// this first set has the widths of `set`. Requires that all members of `set` are variables of
+    /// the problem.
     pub fn image_of(&self, set: Mask) -> Image
         requires { set < 2 ^ self.now.problem.inputs }
         ensures { TakesWidths self.now.problem (renamed_of self.now.problem self.now.renamed) set
@@ -147,14 +151,14 @@ impl<'a> Preparation<'a> {
         }
     }
 
-    /// Requests for this problem in which no width is needed yet.
+    /// Requests for the sets of the renamed problem, in which no width is needed yet.
     pub fn requests(&self, alloc: Global) -> Result<Requests, AllocError> {
         prove!(self.renaming.problem().inputs() <= 16);
         Requests::none(alloc, self.renaming.problem().inputs())
     }
 
-    /// The lawful sets of at least `first` and at most `last` variables, of each orbit the first
-    /// alone.
+    /// The lawful sets of the renamed problem that have at least `first` and at most `last`
+    /// variables, of each orbit the first set alone.
     fn wanted(&self, first: u8, last: u8) -> Wanted<'_, '_> {
         Wanted {
             pairs: &self.pairs,
@@ -165,15 +169,16 @@ impl<'a> Preparation<'a> {
     }
 
     /// Adds to `requests` the widths of all members of the lawful sets of at least `first` and at
-    /// most `last` variables, of each orbit the first alone. Only low bytes for which some width is
-    /// needed already are taken: one walk then serves these widths, too.
+    /// most `last` variables, of each orbit the first set alone. Takes only sets whose low byte is
+    /// that of a set with a width in `requests` already: one walk then serves both.
     pub fn add_larger(&self, requests: &mut Requests, first: u8, last: u8) {
         requests.add_sets(&self.wanted(first, last), false);
     }
 
-    /// Takes over newly found rows. If `found.end()` is greater than `self.end()`, they replace the
-    /// rows that the preparation has; else they are appended to these. If memory is refused nothing
-    /// changes.
+    /// Takes over the rows in `found`, which must be of the renamed problem. If `found.end()`
+    /// exceeds `self.end()`, they replace the rows that the preparation has, and `self.end()`
+    /// becomes `found.end()`; else they are appended, and `self.end()` stays. If memory is refused
+    /// nothing changes.
     fn take(&mut self, found: WidthsAhead<'a>) -> Result<(), AllocError>
         requires { found.problem ≡ renamed_of self.old.problem self.old.renamed }
         ensures { self.new.problem ≡ self.old.problem }
@@ -185,9 +190,12 @@ impl<'a> Preparation<'a> {
         self.found.append(found)
     }
 
-    /// Finds the rows that are requested, by the calling thread. If `end` is larger than
-    /// `self.end()`, these rows replace the earlier ones, and `self.end()` becomes `end`; else they
-    /// are appended, and `self.end()` stays.
+    /// Finds all rows of widths in `requests`, by the calling thread. `end`, the size up to which
+    /// rows are to be found, limits nothing: rows of larger sets are found, too, if they are in
+    /// `requests`. If `end` exceeds `self.end()`, the new rows replace those of the preparation,
+    /// and `self.end()` becomes `end`; else they are appended, and `self.end()` stays. A request
+    /// for another number of variables than the problem's is skipped. If memory is refused nothing
+    /// changes.
     pub fn find_alone(
         &mut self,
         alloc: Global,
@@ -200,9 +208,12 @@ impl<'a> Preparation<'a> {
         self.take(found)
     }
 
-    /// Finds the rows that are requested, by the threads of `workers` workers; none if `end` is 0.
-    /// If `end` is larger than `self.end()`, these rows replace the earlier ones, and `self.end()`
-    /// becomes `end`; else they are appended, and `self.end()` stays.
+    /// Finds all rows of widths in `requests`, by the threads of `workers` workers; nothing changes
+    /// if `end` is 0. `end`, the size up to which rows are to be found, limits nothing else: rows
+    /// of larger sets are found, too. If `end` exceeds `self.end()`, the new rows replace those of
+    /// the preparation, and `self.end()` becomes `end`; else they are appended, and `self.end()`
+    /// stays. A request for another number of variables than the problem's is skipped. If memory is
+    /// refused nothing changes.
     pub fn find<R: Threads + Sync>(
         &mut self,
         rt: &R,

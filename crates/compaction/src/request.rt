@@ -35,7 +35,9 @@ pub(crate) struct Wanted<'a, 'b> {
 }
 
 impl<'a, 'b> Wanted<'a, 'b> {
-    /// Whether `set` is one of the wanted sets.
+    /// Whether rows of `set` are to be found: it has at least `self.first` and at most `self.last`
+    /// variables, is lawful by `self.pairs` and, if there are `self.orbits`, the first of its
+    /// orbit.
     fn has(&self, set: Mask) -> bool {
         let size = set.count_ones();
         if size < self.first || self.last < size {
@@ -50,7 +52,8 @@ impl<'a, 'b> Wanted<'a, 'b> {
 
 impl WidthRequest {
     /// A request for the sets with the low byte `low`, in a problem of `inputs` variables, in which
-    /// no width is needed yet.
+    /// no width is needed yet. Requires `inputs` to be at most 16, and `low` to be below
+    /// 2^`inputs`.
     pub(crate) fn none(alloc: Global, inputs: u8, low: u8) -> Result<WidthRequest, AllocError>
         requires inputs { inputs ≤ 16 }
         requires low { low < 2 ^ inputs }
@@ -79,7 +82,8 @@ impl WidthRequest {
     }
 
     /// Adds `members` to the members of `set` whose widths are needed. Requires that `set` has this
-    /// request's low byte, and that `members` has no variable outside `set`.
+    /// request's low byte and no variable that the problem lacks, and that `members` is a subset of
+    /// `set`.
     pub(crate) fn add(&mut self, set: Mask, members: Mask)
         requires set { set < 2 ^ self.old.inputs }
         requires byte { set % 256 ≡ self.old.low }
@@ -95,9 +99,9 @@ impl WidthRequest {
         self.needed[usize::from(set >> 8)] |= members;
     }
 
-    /// For set i of the block, adds `needed[i]` to the members whose widths are needed. Requires
-    /// that the block has this request's low byte, and that `needed[i]` has no variable outside set
-    /// i.
+    /// For each set i of the block, adds `needed[i]` to the members of the set whose widths are
+    /// needed. Requires that the block has this request's low byte and number of variables, and
+    /// that `needed` has, for each set of the block, a subset of it.
     pub(crate) fn add_block(&mut self, block: &Block, needed: &[Mask])
         requires inputs { block.now.inputs ≡ self.old.inputs }
         requires low { block.now.low ≡ self.old.low }
@@ -115,9 +119,9 @@ impl WidthRequest {
         }
     }
 
-    /// Adds those members of `set` that are in `variables` to the members whose widths are needed.
-    /// Nothing changes if `set` has another low byte than this request, or a variable that is not
-    /// below `inputs`.
+    /// Adds those members of `set` that are in `variables` to the members of `set` whose widths are
+    /// needed. Nothing changes if `set` has another low byte than this request, or a variable that
+    /// the problem lacks.
     pub(crate) fn add_members(&mut self, set: Mask, variables: Mask) {
         if u32::from(set) < 1u32 << self.inputs && set % 256 == Mask::from(self.low) {
             self.add(set, variables & set);
@@ -129,8 +133,8 @@ impl WidthRequest {
         self.needed.iter().all(|members| *members == 0)
     }
 
-    /// Adds all members of each wanted set with this request's low byte to those whose widths are
-    /// needed.
+    /// For each set in `wanted` that has this request's low byte, adds all its members to those
+    /// whose widths are needed.
     pub(crate) fn add_sets(&mut self, wanted: &Wanted<'_, '_>) {
         for high in 0..self.needed.len().min(256) as Mask {
             let set = high * 256 + Mask::from(self.low);

@@ -16,7 +16,8 @@ pub struct Requests {
     bytes: Vec<WidthRequest>,
 }
 
-/// The variables to which `image` takes the variables in `members`, as a mask.
+/// The mask of the variables to which `image` takes the variables in `members`. Variables that are
+/// not below 16 are left out.
 fn members_of_image(image: &Image, members: Mask) -> Mask {
     let mut found: Mask = 0;
     for x in 0..16u8 {
@@ -29,7 +30,8 @@ fn members_of_image(image: &Image, members: Mask) -> Mask {
 }
 
 impl Requests {
-    /// Requests for a problem of `inputs` variables in which no width is needed yet.
+    /// Requests for a problem of `inputs` variables in which no width is needed yet. Requires
+    /// `inputs` to be at most 16.
     pub(crate) fn none(alloc: Global, inputs: u8) -> Result<Requests, AllocError>
         requires { inputs ≤ 16 }
     {
@@ -47,8 +49,9 @@ impl Requests {
         self.bytes.iter().all(|request| request.is_empty())
     }
 
-    /// Adds to the widths that are needed those of all members of the wanted sets. If `all` is
-    /// false, this is done only for low bytes for which some width is needed already.
+    /// Adds the widths of all members of the sets in `wanted` to those that are needed. If `all` is
+    /// false, takes only sets whose low byte is that of a set of which some width is needed
+    /// already.
     pub(crate) fn add_sets(&mut self, wanted: &Wanted<'_, '_>, all: bool) {
         for request in &mut self.bytes {
             if all || !request.is_empty() {
@@ -57,16 +60,16 @@ impl Requests {
         }
     }
 
-    /// Adds to the widths that are needed those of the image's set: of the variables to which
-    /// `image` takes `members`, as far as they are in that set. Nothing changes if there is no
-    /// request for the low byte of that set, or if it has a variable that the problem doesn't have.
+    /// Requests widths of the set `image.set`: those of its members to which `image` takes
+    /// variables in `members`. Nothing changes if `image.set` has a variable that the problem
+    /// lacks.
     pub fn add_image(&mut self, image: &Image, members: Mask) {
         if let Some(request) = self.bytes.get_mut(usize::from(image.set % 256)) {
             request.add_members(image.set, members_of_image(image, members));
         }
     }
 
-    /// The request for the low byte `low`; None if no width is needed there.
+    /// The request for the sets with the low byte `low`; None if no width of them is needed.
     pub(crate) fn of_byte(&self, low: u8) -> Option<&WidthRequest> {
         match self.bytes.get(usize::from(low)) {
             Some(request) if !request.is_empty() => Some(request),

@@ -51,8 +51,9 @@ impl<'a> Model for SharedTables<'a> {
 /// Class tables, or an error if memory was refused.
 type Made<'a> = Result<Vec<Strips<'a>>, AllocError>;
 
-/// The class tables with the low variable `x` added to each table's set, in the order of `tables`.
-/// Requires that none of the sets has `x`.
+/// For each of `tables`, in their order, the class table of its set with the low variable `x`
+/// added. The only error is that memory is refused. Requires `x` to be a variable of the tables'
+/// problems, and in none of the sets.
 fn with_low<'a>(alloc: Global, tables: &[Strips<'a>], x: VarIx) -> Made<'a>
     requires { All (CanTakeLow x) tables.now }
     ensures { IfOk result (λ v. v.items ≡ map (λ t. with_variable t x) tables.now) }
@@ -81,8 +82,9 @@ fn concatenate<'a>(
     Ok(all)
 }
 
-/// The class tables with the low variable `x` added to each table's set, in the order of `tables`,
-/// made by the threads of `workers` workers. Requires that none of the sets has `x`.
+/// For each of `tables`, in their order, the class table of its set with the low variable `x`
+/// added, made by the threads of `workers` workers. Requires `x` to be a variable of the tables'
+/// problems, and in none of the sets.
 fn with_low_by_threads<'a, R: Threads + Sync>(
     rt: &R,
     alloc: Global,
@@ -112,8 +114,9 @@ trait TableMaker {
     // What the maker requires.
     ghost ready: { Self → Type 0 };
 
-    /// The class tables with the low variable `x` added to each table's set, in the order of
-    /// `tables`. Requires that none of the sets has `x`.
+    /// For each of `tables`, in their order, the class table of its set with the low variable `x`
+    /// added. The only error is that memory is refused. Requires `x` to be a variable of the
+    /// tables' problems, and in none of the sets.
     fn with_low<'a>(&self, alloc: Global, tables: &[Strips<'a>], x: VarIx) -> Made<'a>
         requires ready { ready self.now }
         requires low { All (CanTakeLow x) tables.now }
@@ -134,6 +137,9 @@ struct WorkerThreads<'r, R> {
 impl TableMaker for CallingThread {
     ghost ready = { λ _. Unit {0} };
 
+    /// For each of `tables`, in their order, the class table of its set with the low variable `x`
+    /// added, made by the calling thread. The only error is that memory is refused. Requires `x` to
+    /// be a variable of the tables' problems, and in none of the sets.
     fn with_low<'a>(&self, alloc: Global, tables: &[Strips<'a>], x: VarIx) -> Made<'a> {
         with_low(alloc, tables, x)
     }
@@ -144,13 +150,17 @@ impl<'r, R: Threads + Sync> TableMaker for WorkerThreads<'r, R> {
 
     ghost ready = { λ _. IsSync R.row };
 
+    /// For each of `tables`, in their order, the class table of its set with the low variable `x`
+    /// added, made by the threads of the workers. The only error is that memory is refused.
+    /// Requires `x` to be a variable of the tables' problems, and in none of the sets.
     fn with_low<'a>(&self, alloc: Global, tables: &[Strips<'a>], x: VarIx) -> Made<'a> {
         with_low_by_threads(self.rt, alloc, tables, x, self.workers)
     }
 }
 
-/// The class tables of all sets of the lowest `known` variables, by rising mask. `empty` is the
-/// class table of the empty set.
+/// The class tables of all sets of the lowest `known` variables, by rising mask, made by `maker`.
+/// `empty` is the class table of the empty set. Requires `known` to be at most the number of low
+/// variables.
 fn tables_of_low_sets<'a, M: TableMaker>(
     maker: &M,
     alloc: Global,
@@ -171,7 +181,7 @@ fn tables_of_low_sets<'a, M: TableMaker>(
     Ok(tables)
 }
 
-/// A problem's shared tables for several walks. `maker` makes the class tables.
+/// The shared tables of `problem`, for several walks. `maker` makes the class tables.
 fn made_by<'a, M: TableMaker>(
     maker: &M,
     alloc: Global,
@@ -243,9 +253,8 @@ impl<'a> SharedTables<'a> {
         &self.names
     }
 
-    /// The class table with which a walk to `set` begins, and the number k of lowest variables for
-    /// whose sets class tables were made beforehand. The table is that of the members of `set`
-    /// below k.
+    /// The class table at which a walk to `set` begins, and a number k: the table is that of the
+    /// members of `set` below k. At most, k is the number of low variables.
     pub(crate) fn first_table(&self, set: Mask) -> (&Strips<'a>, u8)
         ensures known { result.1 ≤ low_of self.now }
         ensures table { result.0.now ≡ classes_of self.now (set % 2 ^ result.1) }

@@ -55,9 +55,10 @@ impl<'a> WidthSource<'a> {
         }
     }
 
-    /// The row of `set`, a set of the problem before the renaming: the widths of its members in
-    /// `needed`, and 0 elsewhere. It is read from the row of its image in the renamed problem. None
-    /// if one of these widths was not found ahead.
+    /// The row of `set`, a set of the problem before the renaming: at each x in `needed` the width
+    /// of x over the other members, and 0 elsewhere. It is read from the row of the set's image in
+    /// the renamed problem. None if one of these widths was not found ahead. Requires that `needed`
+    /// is a subset of `set`, and `set` a set of the problem.
     fn row_of(&self, set: Mask, needed: Mask) -> Option<WidthRow>
         requires set { set < 2 ^ self.now.inputs }
         requires members { AreMembersOf self.now.inputs set needed }
@@ -75,9 +76,10 @@ impl<'a> WidthSource<'a> {
         byte.row_by_image(&image, needed)
     }
 
-    /// A row for each set of the block: for set i the widths of its members in `needed[i]`, and 0
-    /// elsewhere, read from the rows that were found ahead. `Ok(None)` if one of these widths was
-    /// not found ahead.
+    /// A row for each set of the block, read from the rows that were found ahead: for set i, at
+    /// each x in `needed[i]`, the width of x over the other members, and 0 elsewhere. `Ok(None)` if
+    /// one of these widths was not found ahead. Requires that `needed` has a mask of members for
+    /// each set, and that the block has the problem's number of inputs.
     fn rows_found(
         &self,
         alloc: Global,
@@ -98,9 +100,12 @@ impl<'a> WidthSource<'a> {
         Ok(Some(rows))
     }
 
-    /// A row for each set of the block: for set i the widths of its members in `needed[i]`, and 0
-    /// elsewhere. If one of these widths was not found ahead, a walk computes all of them. `tally`
-    /// rises by the number of widths that are needed.
+    /// A row for each set of the block: for set i, at each x in `needed[i]`, the width of x over
+    /// the other members, and 0 elsewhere. All are read from the rows that were found ahead, or, if
+    /// one of these widths is missing there, computed by a walk. Either way `tally` rises by the
+    /// number of these widths, unless memory is refused. Requires that it doesn't rise above 2^32,
+    /// that `needed` has a mask of members for each set, and that the block has the problem's
+    /// number of inputs.
     pub fn block_rows(
         &self,
         alloc: Global,

@@ -18,8 +18,8 @@ use subfunction_classes::{count_with, rank_of};
 use value_strips::{ValueStrips, value_strips};
 
 /// The class table of a set in strips. A strip has a class number for each assignment of the low
-/// variables outside the set. If all subfunctions are distinct and depend on the whole set, only
-/// their count is kept.
+/// variables outside the set. If all subfunctions are distinct, numbered in order, and depend on
+/// the whole set, only their count is kept.
 #[derive(Drop)]
 pub(crate) struct Strips<'a> {
     problem: &'a Problem,
@@ -59,7 +59,8 @@ pub(crate) fn low_variables(problem: &Problem) -> u8
     problem.inputs().min(8)
 }
 
-/// At each variable in `wanted` how many masks have it, and 0 elsewhere.
+/// The row that has, at each variable x in `wanted`, how many of `masks` have x, and 0 elsewhere.
+/// Requires at most 2^20 masks.
 fn row_of(masks: &[Mask], wanted: Mask) -> WidthRow
     requires few { length masks.now ≤ 2 ^ 20 }
     ensures { (x : ℕ) → x < 16 →
@@ -75,7 +76,8 @@ fn row_of(masks: &[Mask], wanted: Mask) -> WidthRow
     row
 }
 
-/// For each number below `count`, whether it occurs in `numbers`.
+/// For each number below `count`, whether it occurs in `numbers`. Requires all of `numbers` to be
+/// below `count`.
 fn numbers_in_use(alloc: Global, numbers: &[u32], count: usize) -> Result<Vec<bool>, AllocError>
     requires below { AllBelow numbers.now count }
     ensures long { IfOk result (λ v. length v.items ≡ count) }
@@ -89,8 +91,8 @@ fn numbers_in_use(alloc: Global, numbers: &[u32], count: usize) -> Result<Vec<bo
     Ok(used)
 }
 
-/// The masks of the class numbers that occur in `numbers`, by rising number. `masks` has the mask
-/// of each class number.
+/// The masks of the class numbers that occur in `numbers`, by rising number. `masks[k]` is the mask
+/// of class number k; there must be one for each number.
 fn used_masks(alloc: Global, numbers: &[u32], masks: &[Mask]) -> Result<Vec<Mask>, AllocError>
     requires below { AllBelow numbers.now (length masks.now) }
     ensures { IfOk result (λ v. v.items ≡ masks_in_use numbers.now masks.now) }
@@ -105,7 +107,7 @@ fn used_masks(alloc: Global, numbers: &[u32], masks: &[Mask]) -> Result<Vec<Mask
     Ok(found)
 }
 
-/// Whether all masks are equal to `mask`.
+/// Whether all masks are equal to `mask`; true if there are none.
 fn are_all(masks: &[Mask], mask: Mask) -> bool
     ensures { IsTrue result → (i : ℕ) → i < length masks.now → slice_index masks.now i ≡ mask }
 {
@@ -117,9 +119,10 @@ fn are_all(masks: &[Mask], mask: Mask) -> bool
     true
 }
 
-/// Whether all entries are distinct, stand in order, and depend on the whole of `set`: the names
-/// `outer` are 0, 1, 2 and so on, so are the class numbers `numbers`, and there is one mask for
-/// each class number, equal to `set`.
+/// Whether the strip names `outer` are 0, 1, 2 and so on, the class numbers `numbers` are, too, and
+/// `masks` has one mask for each of `numbers`, each equal to `set`. The subfunctions in a class
+/// table of `set` with these parts are then distinct, numbered in order, and depend on the whole
+/// set.
 fn all_distinct(outer: &[u32], numbers: &[u32], masks: &[Mask], set: Mask) -> bool
     ensures exact { IsTrue result → length masks.now ≡ length numbers.now }
     ensures outer { IsTrue result → AreOwn outer.now }
@@ -151,8 +154,9 @@ impl<'a> Strips<'a> {
     ghost use Rattle.compaction.specs.Strips.{AreDistinct, HoldsStrips, low_variables};
     ghost use Rattle.subfunction_classes.specs.Table.{set_of, with_variable, classes_of};
 
-    /// The class table of `set` from its parts. Only the count of the subfunctions is kept if all
-    /// are distinct and depend on the whole set.
+    /// The class table of `set` for the functions of `problem`, whose strip names, class numbers
+    /// and masks are in `parts`; that they are right isn't tested. If all subfunctions are
+    /// distinct, numbered in order, and depend on the whole set, only their count is kept.
     pub(crate) fn of_parts(
         alloc: Global,
         problem: &'a Problem,
@@ -177,8 +181,9 @@ impl<'a> Strips<'a> {
         }
     }
 
-    /// The class table of `set`, of which only `count` is kept. Requires that the set has `count`
-    /// subfunctions, all distinct and dependent on the whole set.
+    /// The class table of `set` for the functions of `problem`, of which only `count` is kept.
+    /// Requires that there are `count` subfunctions over the set, all distinct and dependent on the
+    /// whole set.
     fn of_count(alloc: Global, problem: &'a Problem, set: Mask, count: u32) -> Strips<'a>
         requires { AreDistinct (classes_of problem.now set) count }
         ensures { result ≡ classes_of problem.now set }
@@ -194,8 +199,8 @@ impl<'a> Strips<'a> {
         }
     }
 
-    /// The class table of the empty set: the value of the first function at point 0 has class
-    /// number 0, the other value 1.
+    /// The class table of the empty set for the functions of `problem`. Class number 0 is the value
+    /// of the first function at point 0, and class number 1 the other value.
     pub(crate) fn of_problem(alloc: Global, problem: &'a Problem) -> Result<Strips<'a>, AllocError>
         ensures { IfOk result (λ c. c ≡ classes_of problem.now 0) }
     {
@@ -214,13 +219,14 @@ impl<'a> Strips<'a> {
         low_variables(self.problem)
     }
 
-    /// Function by function, for each assignment of the high variables outside the set, the name of
-    /// its strip. Empty if only a count is kept.
+    /// The strip names, function by function, by rising assignments of the high variables outside
+    /// the set. A name is the strip's number among those stored. Empty if only a count of
+    /// subfunctions is kept.
     pub(crate) fn names(&self) -> &[u32] {
         self.outer.as_slice()
     }
 
-    /// How many class numbers are stored: the entries of all strips, or 0 if only a count is kept.
+    /// How many class numbers are stored in the strips; 0 if only a count of subfunctions is kept.
     pub(crate) fn stored(&self) -> usize {
         self.numbers.len()
     }
@@ -258,9 +264,10 @@ impl<'a> Strips<'a> {
         }
     }
 
-    /// The class table of this table's set with the high variable `x` added. Requires that the set
-    /// lacks `x`. If `known` has numbered the pairs of this table's strip names by `x`, the numbers
-    /// are copied from there.
+    /// The class table of this table's set with the high variable `x` added. `known` may have the
+    /// numbers of this table's pairs of strips that differ in `x` alone; it is ignored unless it
+    /// was made for the same strip names and as many high variables below `x` outside the set.
+    /// Requires that `x` is a variable of the problem and not in the set.
     pub(crate) fn add_high(
         &self,
         alloc: Global,
@@ -292,7 +299,8 @@ impl<'a> Strips<'a> {
         }
     }
 
-    /// At each member x in `wanted` the width of x over the set without x, and 0 elsewhere.
+    /// The row that has, at each x in `wanted`, the width of x over the set without x, and 0
+    /// elsewhere. Requires that `wanted` is a subset of the set.
     pub(crate) fn width_row(&self, alloc: Global, wanted: Mask) -> Result<WidthRow, AllocError>
         requires { (x : ℕ) → bit_at wanted x ≡ 1 → IsTrue (has (set_of self.now) x) }
         ensures { IfOk result (λ row. IsWidthRow self.now.problem self.now.set wanted row) }

@@ -20,8 +20,8 @@ impl Model for Tally {
     ghost view = { λ t. t.count };
 }
 
-/// How many widths are needed: the number of members in all masks of `needed`, which has a mask for
-/// each set.
+/// How many widths are needed. `needed` has for each set the mask of the members whose widths are
+/// needed; there may be at most 2^20 sets.
 pub(crate) fn count_wanted(needed: &[Mask]) -> u64
     requires { length needed.now ≤ 2 ^ 20 }
     ensures count { result ≡ wanted_count needed.now }
@@ -49,8 +49,8 @@ impl Tally {
         self.count
     }
 
-    /// Adds the number of widths that are needed: the number of members in all masks of `needed`,
-    /// which has a mask for each set.
+    /// Adds the number of widths that are needed. `needed` has for each set the mask of the members
+    /// whose widths are needed; there may be at most 2^20 sets. The tally must stay below 2^64.
     pub(crate) fn add_wanted(&mut self, needed: &[Mask])
         requires few { length needed.now ≤ 2 ^ 20 }
         requires room { self.old + wanted_count needed.now < 2 ^ 64 }
@@ -59,7 +59,7 @@ impl Tally {
         self.add(count_wanted(needed));
     }
 
-    /// Adds `more` widths.
+    /// Adds `more` to the count of widths, which must stay below 2^64.
     pub fn add(&mut self, more: u64)
         requires { self.old + more < 2 ^ 64 }
         ensures { self.new ≡ self.old + more }

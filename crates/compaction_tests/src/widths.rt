@@ -3,9 +3,9 @@
 ghost use Rattle.std.specs.Prelude.{◌≡◌, length};
 ghost use Rattle.subset_layers.specs.Layers.{block_masks};
 
-use crate::problems::{MULTIPLEXER, PROBLEMS, cubes, five_bit_numbers, problem_of};
+use crate::problems::{PROBLEMS, cubes, five_bit_numbers, problem_of};
 use crate::tables::width_alone;
-use compaction::{BlockWidths, SharedTables, Tally, all_widths};
+use compaction::{BlockWidths, SharedTables, Tally};
 use order_model::{Mask, Problem, WidthRow, contains};
 use std::alloc::Global;
 use std::process::Abort;
@@ -88,25 +88,6 @@ fn sum_of_layer(rt: &impl Abort, alloc: Global, problem: &Problem, size: u8) -> 
         sum = sum.saturating_add(own);
     }
     sum
-}
-
-/// Whether the set of the two lowest variables is the first of a block of three, with one
-/// subfunction at each, and two widths are taken for the block.
-fn has_one_at_each(rt: &impl Abort, alloc: Global, problem: &Problem, block: &Block) -> bool {
-    assert!(rt; problem.inputs() == 3 && block.inputs() == 3 && block.len() > 0);
-    let mut tally = Tally::new();
-    let widths = all_widths(alloc, problem, block, &mut tally).expect(rt, "memory");
-    let row = widths.row(0);
-    block.mask(0) == 0x0003 && row[..3] == [1, 1, 0] && tally.count() == 2
-}
-
-// The layer has three blocks, one for each set of two variables.
-#[test]
-fn the_first_block_of_the_multiplexer_has_widths_of_one(rt: HostRuntime) {
-    let problem = problem_of(&rt, rt.alloc(), MULTIPLEXER);
-    let layer = Layer::of(rt.alloc(), 3, 2).expect(&rt, "memory");
-    assert!(rt; layer.blocks() == 3);
-    assert!(rt; has_one_at_each(&rt, rt.alloc(), &problem, &layer.block(0)));
 }
 
 /// Sums the widths of all layers but the empty set's, which are to be those by each set alone.
