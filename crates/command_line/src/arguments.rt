@@ -10,7 +10,8 @@ use clap::error::ErrorKind;
 use clap::{Arg, Command};
 use std::alloc::Global;
 
-/// The required argument `name`, the path of a file. `help` is its line in the program's help.
+/// A required argument of a command line, the path of a file. `name` is its name, and `help` its
+/// line in the program's help.
 pub(crate) fn required_path<'a>(alloc: Global, name: &'a str, help: &'a str) -> Arg<'a>
     ensures rule { rule_of result ≡ required_rule name.entry.now }
     ensures local { result.global ≡ false }
@@ -18,8 +19,9 @@ pub(crate) fn required_path<'a>(alloc: Global, name: &'a str, help: &'a str) -> 
     Arg::new(alloc, name).required(true).help(help)
 }
 
-/// The fault of a command line that lacks an argument, which `what` names in words, or
-/// `OutOfMemory`. No words lead to it, because clap refuses such a command line first.
+/// The fault of a command line of `command` that lacks a required argument: `Refused` with the
+/// message `what`, or `OutOfMemory` if memory is refused for the message. No run has this fault,
+/// because clap refuses such a command line first.
 pub(crate) fn missing_argument<'a>(mut command: Command<'a>, what: &str) -> Usage
     ensures { IsNoHelp result }
 {

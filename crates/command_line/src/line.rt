@@ -35,7 +35,8 @@ pub struct Line<'a> {
     pub cert: Option<&'a str>,
 }
 
-/// The option `--workers W`, with a number from 1 to 64, and 4 if it isn't given.
+/// The option `--workers W` of minorder: W is a number from 1 to 64, and 4 if the option isn't
+/// given.
 fn workers_option<'a>(alloc: Global) -> Arg<'a>
     ensures rule { rule_of result ≡ workers_rule }
     ensures local { result.global ≡ false }
@@ -48,8 +49,8 @@ fn workers_option<'a>(alloc: Global) -> Arg<'a>
         .default_value("4")
 }
 
-/// The option `--name`, which takes one value. Its line of help shows `value` for the value, and
-/// the text `help`.
+/// The option whose name is `name`, written with `--` before it, and which takes one value. In the
+/// program's help, its line shows `value` in place of the value, and then the text `help`.
 fn option<'a>(alloc: Global, name: &'a str, value: &'a str, help: &'a str) -> Arg<'a>
     ensures rule { rule_of result ≡ option_rule name.entry.now }
     ensures local { result.global ≡ false }
@@ -60,7 +61,7 @@ fn option<'a>(alloc: Global, name: &'a str, value: &'a str, help: &'a str) -> Ar
         .help(help)
 }
 
-/// The option `--count`, which takes no value.
+/// The option `--count` of minorder, which takes no value.
 fn count_option<'a>(alloc: Global) -> Arg<'a>
     ensures rule { rule_of result ≡ count_rule }
     ensures local { result.global ≡ false }
@@ -73,7 +74,7 @@ fn count_option<'a>(alloc: Global) -> Arg<'a>
         )
 }
 
-/// Adds all options of minorder to `command`.
+/// `command` with all options of minorder added: `--workers`, `--cert`, `--count` and `--above`.
 fn with_options<'a>(alloc: Global, command: Command<'a>) -> Result<Command<'a>, AllocError>
     ensures { IfOk result (λ c. app_of c ≡ options_of (app_of command.entry)) }
 {
@@ -94,7 +95,8 @@ fn with_options<'a>(alloc: Global, command: Command<'a>) -> Result<Command<'a>, 
         ))
 }
 
-/// The arguments and options of minorder, as clap's `Command`: all options, and the required FILE.
+/// The command line of minorder, as clap's `Command`: all its options, and the required argument
+/// FILE.
 fn command<'a>(alloc: Global) -> Result<Command<'a>, AllocError>
     ensures { IfOk result (λ c. app_of c ≡ minorder) }
 {
@@ -110,8 +112,8 @@ fn command<'a>(alloc: Global) -> Result<Command<'a>, AllocError>
     ))
 }
 
-/// The command line that clap's matches state. None if the file is missing, or the number of
-/// workers is missing or not from 1 to 64.
+/// The command line of minorder that `matches`, clap's result, contains. None if the file is
+/// missing, or the number of workers is missing or not from 1 to 64.
 fn line_of<'a>(matches: &ArgMatches<'a>) -> Option<Line<'a>>
     ensures line { IfSome result
         (IsLineBy (first_value (found_of matches.now)) (one_text (found_of matches.now))) }
@@ -135,11 +137,10 @@ fn line_of<'a>(matches: &ArgMatches<'a>) -> Option<Line<'a>>
 }
 
 impl<'a> Line<'a> {
-    /// Parses `words`, those after the program's name, by clap's rules. The error is `Help` if the
-    /// words request help, and otherwise says why they are refused.
-    ///
-    /// Options stand before or after the file, each at most once. An option's value may stand in
-    /// the same word, as in `--workers=2`.
+    /// Parses `words`, those after the program's name, as a command line of minorder, by clap's
+    /// rules. Options stand before or after the file, each at most once, and a value may stand in
+    /// the option's word, as in `--workers=2`. The error is `Help` if the words request help,
+    /// `OutOfMemory` if memory is refused, and otherwise `Refused`.
     pub fn of_words(alloc: Global, words: &'a [&'a str]) -> Result<Line<'a>, Usage>
         ensures line { IfOk result (IsLineOf (texts words.now)) }
         ensures refused { IfErr result (Explains minorder LacksArguments (texts words.now)) }

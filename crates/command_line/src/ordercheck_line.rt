@@ -19,7 +19,7 @@ pub struct CheckLine<'a> {
     pub cert: &'a str,
 }
 
-/// The arguments of ordercheck, as clap's `Command`: FILE and CERT, both required.
+/// The command line of ordercheck, as clap's `Command`: the arguments FILE and CERT, both required.
 fn command<'a>(alloc: Global) -> Result<Command<'a>, AllocError>
     ensures { IfOk result (λ c. app_of c ≡ ordercheck) }
 {
@@ -37,7 +37,8 @@ fn command<'a>(alloc: Global) -> Result<Command<'a>, AllocError>
         ))
 }
 
-/// The command line that clap's matches state. None if one of the two paths is missing.
+/// The command line of ordercheck that `matches`, clap's result, contains. None if one of the two
+/// paths is missing.
 fn line_of<'a>(matches: &ArgMatches<'a>) -> Option<CheckLine<'a>>
     ensures line { IfSome result (IsCheckLineBy (first_value (found_of matches.now))) }
     ensures lacks { IsNone result →
@@ -50,8 +51,9 @@ fn line_of<'a>(matches: &ArgMatches<'a>) -> Option<CheckLine<'a>>
 }
 
 impl<'a> CheckLine<'a> {
-    /// Parses `words`, those after the program's name, by clap's rules. The error is `Help` if the
-    /// words request help, and otherwise says why they are refused.
+    /// Parses `words`, those after the program's name, as a command line of ordercheck, by clap's
+    /// rules. The error is `Help` if they request help, `OutOfMemory` if memory is refused, and
+    /// otherwise `Refused`.
     pub fn of_words(alloc: Global, words: &'a [&'a str]) -> Result<CheckLine<'a>, Usage>
         ensures line { IfOk result (IsCheckLineOf (texts words.now)) }
         ensures refused { IfErr result (Explains ordercheck LacksPaths (texts words.now)) }

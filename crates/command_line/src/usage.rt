@@ -35,7 +35,8 @@ impl Usage {
 impl From<Error> for Usage {
     ghost from_gives = { λ error usage. usage ≡ usage_kind error };
 
-    /// Turns an error of clap into help, out of memory, or refused words.
+    /// `Help` for clap's request for help, `OutOfMemory` if clap was refused memory, and `Refused`
+    /// for any other error of clap.
     fn from(error: Error) -> Usage {
         match error.kind() {
             ErrorKind::DisplayHelp => Usage::Help(error),
@@ -50,6 +51,7 @@ impl From<AllocError> for Usage {
 
     ghost from_gives = { λ _ usage. usage ≡ OutOfMemory };
 
+    /// `OutOfMemory`: an allocation was refused.
     fn from(_: AllocError) -> Usage {
         Usage::OutOfMemory
     }

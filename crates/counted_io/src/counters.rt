@@ -17,7 +17,9 @@ pub trait CountedRead {
     // How many calls have failed, counted up to the greatest value of a u64.
     ghost failures: { Self → ℕ };
 
-    /// Reads bytes into `buf` as std's `read` does, and returns how many: 0 at the end.
+    /// Reads bytes into the front of `buf` as std's `Read::read` does, and returns how many: 0 at
+    /// the end, or if `buf` is empty. If it returns an error, the reader's count of failed calls
+    /// rises by 1, but not above 2^64 - 1.
     fn read_some(&mut self, buf: &mut [u8]) -> io::Result<usize>
         ensures bound { ReadsAtMost result buf.new }
         ensures bytes { ReadConsumes (remaining self.old) (remaining self.new) result buf.new }
@@ -33,7 +35,9 @@ pub trait CountedWrite {
     // How many calls have failed, counted up to the greatest value of a u64.
     ghost failures: { Self → ℕ };
 
-    /// Writes bytes from the front of `buf` as std's `write` does, and returns how many were taken.
+    /// Writes bytes from the front of `buf` as std's `Write::write` does, and returns how many were
+    /// taken. If it returns an error, or takes no byte of a `buf` that isn't empty, the writer's
+    /// count of failed calls rises by 1, but not above 2^64 - 1.
     fn write_some(&mut self, buf: &[u8]) -> io::Result<usize>
         ensures bound { WritesAtMost result buf.now }
         ensures bytes { WriteAppends (contents self.old) (contents self.new) result buf.now }
@@ -83,6 +87,8 @@ impl<T: Read> CountedRead for Counting<T> {
 
     ghost failures = { λ c. c.failed };
 
+    /// Reads bytes into the front of `buf`, and returns how many: 0 at the end, or if `buf` is
+    /// empty. If it returns an error, the count of failed calls rises by 1, but not above 2^64 - 1.
     fn read_some(&mut self, buf: &mut [u8]) -> io::Result<usize> {
         let result = self.inner.read(buf);
         if result.is_err() {
@@ -97,6 +103,9 @@ impl<T: Write> CountedWrite for Counting<T> {
 
     ghost failures = { λ c. c.failed };
 
+    /// Writes bytes from the front of `buf`, and returns how many were taken. If it returns an
+    /// error, or takes no byte of a `buf` that isn't empty, the count of failed calls rises by 1,
+    /// but not above 2^64 - 1.
     fn write_some(&mut self, buf: &[u8]) -> io::Result<usize> {
         let result = self.inner.write(buf);
         let failed = match &result {

@@ -26,7 +26,7 @@ const FIRST_ROOM: usize = 1 << 22;
 
 /// Reads a device to its end, and returns the bytes read. The error is `TooLong` if there are more
 /// than `limit` bytes, `Device` if a call of the device fails, and `OutOfMemory` if an allocation
-/// is refused. After an error the bytes that were read are lost.
+/// is refused. After an error the bytes that were read are lost. Requires `limit` to be below 2^32.
 pub fn read_all<R: CountedRead>(
     alloc: Global,
     device: &mut R,

@@ -7,8 +7,8 @@ ghost use Rattle.definitions.specs.Problems.{IsClean, packed_bit, table_in, word
 
 use crate::variables::VarIx;
 
-/// How many words of 64 points the truth table of a function of n variables takes: `2^n / 64`, but
-/// at least 1.
+/// The number of words of 64 points in the packed truth table of a function of n variables:
+/// `2^n / 64`, but at least 1. Requires n to be at most 16.
 pub fn words_per_table(n: u8) -> usize
     requires { n ≤ 16 }
     ensures value { result ≡ size_of n }
@@ -18,8 +18,8 @@ pub fn words_per_table(n: u8) -> usize
     ((1usize << n) + 63) / 64
 }
 
-/// The words of table number `table`, counted from 0. `words` has the tables one after the other,
-/// each of `size` words.
+/// Table number `table`, counted from 0, of the packed truth tables that stand one after the other
+/// in `words`, each of `size` words. Requires `words` to have this table.
 pub fn block(words: &[u64], size: usize, table: usize) -> &[u64]
     requires { table * size + size ≤ length words.now }
     ensures { result.now ≡ words_of size words.now table }
@@ -29,8 +29,9 @@ pub fn block(words: &[u64], size: usize, table: usize) -> &[u64]
     block
 }
 
-/// The value of a packed truth table at a point: bit `point % 64` of word `point / 64`. Bit x of
-/// `point` is the value of variable x.
+/// The value at `point` of the function with the packed truth table `words`: bit `point % 64` of
+/// word `point / 64`. Bit x of `point` is the value of variable x. Requires `words` to have this
+/// word.
 pub fn bit_of(words: &[u64], point: usize) -> bool
     requires { point / 64 < length words.now }
     ensures { result ≡ packed_bit words.now point }
@@ -38,8 +39,8 @@ pub fn bit_of(words: &[u64], point: usize) -> bool
     (words[point / 64] >> (point % 64)) & 1 == 1
 }
 
-/// A mask of the points of a word of 64 points at which variable x is 0: bit b of the result is 1
-/// if bit x of b is 0. Requires x to be below 6.
+/// The word that marks those of 64 points at which variable x is 0: bit k of the word is 1 if bit x
+/// of k is 0, and else 0. Requires x to be below 6.
 pub fn lower_half(x: VarIx) -> u64
     requires { x < 6 }
     ensures { (b : ℕ) → b < 64 → bit_at result b ≡ 1 - bit_at b x }
@@ -54,9 +55,8 @@ pub fn lower_half(x: VarIx) -> u64
     }
 }
 
-/// Whether a function depends on variable x within one word of its packed truth table: whether two
-/// of the word's 64 points that differ in variable x alone have different values. Requires x to be
-/// below 6.
+/// Whether the function of six variables with the truth table `word` depends on variable x. Bit k
+/// of `word` is the value at point k. Requires x to be below 6.
 fn halves_differ(word: u64, x: VarIx) -> bool
     requires { x < 6 }
     ensures differ { IsTrue result →
@@ -68,9 +68,9 @@ fn halves_differ(word: u64, x: VarIx) -> bool
     ((word >> (1u32 << x)) ^ word) & lower_half(x) != 0
 }
 
-/// Whether a function depends on variable r + 6: whether two words of its packed truth table differ
-/// whose indexes differ in bit `r` alone. Requires `words` to have, with each index i whose bit `r`
-/// is 0, the index i + 2^r too.
+/// Whether the function with the packed truth table `words` depends on variable r + 6, which is bit
+/// `r` of a word's index. Requires r to be below 10, and the number of words to be a multiple of
+/// `2^(r + 1)` and at most 1024.
 fn rows_differ(words: &[u64], r: u8) -> bool
     requires few { length words.now ≤ 1024 }
     requires small { r < 10 }
@@ -90,8 +90,9 @@ fn rows_differ(words: &[u64], r: u8) -> bool
     false
 }
 
-/// Whether the function of n variables whose packed truth table is `words` depends on variable x.
-/// Requires `words_per_table(n)` words, whose bits past the last point are 0.
+/// Whether the function of n variables with the packed truth table `words` depends on variable x.
+/// Requires x to be below n, n to be at most 16, and `words` to have `2^n / 64` words. With n below
+/// 6 it has one word instead, whose bits from `2^n` on are 0.
 pub fn depends_on(n: u8, words: &[u64], x: VarIx) -> bool
     requires few { n ≤ 16 }
     requires variable { x < n }

@@ -33,7 +33,8 @@ impl Model for Problem {
 }
 
 impl Problem {
-    /// A problem of n variables and m functions, all of whose values are 0.
+    /// A problem of n variables and m functions, all of whose values are 0. Requires n and m to be
+    /// from 1 to 16.
     pub fn new(alloc: Global, n: u8, m: u8) -> Result<Problem, AllocError>
         requires some_inputs { 1 ≤ n }
         requires few_inputs { n ≤ 16 }
@@ -52,8 +53,9 @@ impl Problem {
     }
 
     /// The problem of `inputs` variables and `outputs` functions whose packed truth tables stand
-    /// one after the other in `words`. Requires `words_per_table(inputs)` words for each function,
-    /// and the bits past a table's last point to be 0.
+    /// one after the other in `words`. Requires both numbers to be from 1 to 16, and each table to
+    /// have `2^inputs / 64` words. With `inputs` below 6 it has one word instead, whose bits from
+    /// `2^inputs` on are 0.
     pub fn from_words(inputs: u8, outputs: u8, words: Vec<u64>) -> Problem
         requires { IsPacked inputs outputs words.items }
         ensures { result ≡ packed_tables inputs outputs words.items }
@@ -65,7 +67,7 @@ impl Problem {
         }
     }
 
-    /// The number of variables.
+    /// The number of variables, 1 to 16.
     pub fn inputs(&self) -> u8
         ensures value { result ≡ self.now.inputs }
         ensures some { 1 ≤ result }
@@ -74,7 +76,7 @@ impl Problem {
         self.inputs
     }
 
-    /// The number of functions.
+    /// The number of functions, 1 to 16.
     pub fn outputs(&self) -> u8
         ensures value { result ≡ outputs_of self.now }
         ensures some { 1 ≤ result }
@@ -83,8 +85,9 @@ impl Problem {
         self.outputs
     }
 
-    /// The value of function `output`, counted from 0, at a point. Bit x of `point` is the value of
-    /// variable x.
+    /// The value at `point` of function `output`, counted from 0. Bit x of `point` is the value of
+    /// variable x. Requires `output` to be below the number of functions, and `point` below `2^n`,
+    /// where n is the number of variables.
     pub fn value(&self, output: u8, point: u32) -> bool
         requires output { output < outputs_of self.now }
         requires point { point < 2 ^ self.now.inputs }
@@ -93,8 +96,9 @@ impl Problem {
         bit_of(self.words(output), point as usize)
     }
 
-    /// Sets function `output`, counted from 0, to 1 at a point; all other values stay. Bit x of
-    /// `point` is the value of variable x.
+    /// Sets function `output`, counted from 0, to 1 at `point`; all other values stay. Bit x of
+    /// `point` is the value of variable x. Requires `output` to be below the number of functions,
+    /// and `point` below `2^n`, where n is the number of variables.
     pub fn set(&mut self, output: u8, point: u32)
         requires output { output < outputs_of self.old }
         requires point { point < 2 ^ self.old.inputs }
@@ -106,8 +110,9 @@ impl Problem {
         self.words[place] |= 1 << (point % 64);
     }
 
-    /// The packed truth table of function `output`, counted from 0. The bits past the last point
-    /// are 0.
+    /// The packed truth table of function `output`, counted from 0. With n variables, n below 6, it
+    /// is one word, whose bits from `2^n` on are 0. Requires `output` to be below the number of
+    /// functions.
     pub fn words(&self, output: u8) -> &[u64]
         requires { output < outputs_of self.now }
         ensures long { length result.now ≡ size_of self.now.inputs }
@@ -130,7 +135,7 @@ impl Problem {
         mask
     }
 
-    /// Whether some function depends on variable x.
+    /// Whether some function depends on x, which has to be one of the problem's variables.
     fn has_dependence(&self, x: VarIx) -> bool
         requires { x < self.now.inputs }
         ensures { result ≡ list_any (λ f. depends self.now.inputs f x) (functions self.now) }
@@ -143,7 +148,8 @@ impl Problem {
         false
     }
 
-    /// The set of the variables on which function `output`, counted from 0, depends.
+    /// The set of the variables on which function `output`, counted from 0, depends. Requires
+    /// `output` to be below the number of functions.
     pub fn support(&self, output: u8) -> Mask
         requires { output < outputs_of self.now }
         ensures { result ≡ mask_of (filter

@@ -15,7 +15,7 @@ pub type Mask = u16;
 /// the set without x. All other entries may have any value.
 pub type WidthRow = [u32; 16];
 
-/// Whether variable x is in `set`.
+/// Whether variable x, from 0 to 15, is in `set`.
 #[inline(always)]
 pub fn contains(set: Mask, x: VarIx) -> bool
     requires { x < 16 }
@@ -24,7 +24,8 @@ pub fn contains(set: Mask, x: VarIx) -> bool
     (set >> x) & 1 == 1
 }
 
-/// The smallest of the members of `set` that are at least `from`. None if there is no such member.
+/// The smallest member of `set` that is at least `from`. None if there is none. Requires `from` to
+/// be at most 16.
 #[inline(always)]
 pub fn next_member(set: Mask, from: VarIx) -> Option<VarIx>
     requires { from ≤ 16 }
@@ -57,7 +58,7 @@ impl Model for Workers {
 }
 
 impl Workers {
-    /// `count` workers. None if `count` is not from 1 to 64.
+    /// `count` as a number of workers. None if it is not from 1 to 64.
     pub fn new(count: u8) -> Option<Workers>
         ensures some { IsSome result ↔ ((1 ≤ count) × (count ≤ 64)) }
         ensures value { IfSome result (λ w. w ≡ count) }
@@ -69,7 +70,7 @@ impl Workers {
         }
     }
 
-    /// How many workers there are.
+    /// The number of workers, 1 to 64.
     pub fn count(self) -> u8
         ensures value { result ≡ self }
         ensures some { 1 ≤ result }

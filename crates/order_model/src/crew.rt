@@ -17,8 +17,8 @@ pub struct Crew<'a, R, G> {
 }
 
 impl<'a, R, G> Crew<'a, R, G> {
-    /// A crew of `workers` workers. `rt` starts their threads, and each worker calls `gate` between
-    /// the claim of an item of work and its result.
+    /// A crew of `workers` workers. `rt` starts their threads, and each worker calls `gate` after
+    /// it claims an item of work and before it hands in the result.
     pub fn new(rt: &'a R, workers: Workers, gate: &'a G) -> Crew<'a, R, G>
         ensures starts { result.rt.now ≡ rt.now }
         ensures workers { result.workers ≡ workers }

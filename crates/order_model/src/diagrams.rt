@@ -11,9 +11,9 @@ use crate::orders::Order;
 use definitions::{Node, Ref, VarIx};
 use std::marker::Model;
 
-/// The child of `node` that the evaluation at `point` takes: the high child if the node's variable
-/// is 1 at the point, else the low one. Bit x of `point` is the value of variable x, and
-/// `variables` is the number of variables.
+/// The child of `node` that evaluation at `point` takes: the high child if the node's variable is 1
+/// at the point, else the low one. Bit x of `point` is the value of variable x. Requires the node's
+/// variable to be below `variables`, the number of variables, which is at most 16.
 fn child(variables: u8, node: Node, point: u32) -> Ref
     requires variables { variables ≤ 16 }
     requires node { node.variable < variables }
@@ -26,9 +26,9 @@ fn child(variables: u8, node: Node, point: u32) -> Ref
     }
 }
 
-/// The value at `point` of the function with root `root`, in a diagram with these `nodes`, each
-/// after its children. Bit x of `point` is the value of variable x, and `variables` is the number
-/// of variables.
+/// The value at `point` of the function with root `root`. Bit x of `point` is the value of variable
+/// x. Requires `root` to be a terminal or one of `nodes`. Each node has to stand after its
+/// children, and have a variable below `variables`, the number of variables, which is at most 16.
 pub fn eval(variables: u8, nodes: &[Node], root: Ref, point: u32) -> bool
     requires variables { variables ≤ 16 }
     requires nodes { AreNodes variables nodes.now }
@@ -44,7 +44,8 @@ pub fn eval(variables: u8, nodes: &[Node], root: Ref, point: u32) -> bool
     }
 }
 
-/// How many nodes each variable has: entry x is the number of nodes of variable x.
+/// The number of nodes of each variable: entry x is that of variable x. Requires each node's
+/// variable to be below 16, and fewer than 2^32 nodes.
 fn counts_by_variable(nodes: &[Node]) -> [u32; 16]
     requires few { length nodes.now < 2 ^ 32 }
     requires variables { All (λ (node : Node). node.variable < 16) nodes.now }
@@ -58,9 +59,9 @@ fn counts_by_variable(nodes: &[Node]) -> [u32; 16]
     counts
 }
 
-/// Turns node counts by variable into node counts by level, top first: entry i is
-/// `counts[order[i]]`, and the entries past the last level are 0. Entry x of `counts` is the count
-/// of variable x.
+/// Node counts by level, top first, under the order `order`: entry i is `counts[x]`, where x is
+/// `order[i]`. `counts[x]` is the number of nodes of variable x. Entries past the last level are 0.
+/// Requires `order` to have at most 16 variables, each below 16.
 fn in_order(order: &[VarIx], counts: [u32; 16]) -> [u32; 16]
     requires few { length order.now ≤ 16 }
     requires variables { All (λ x. x < 16) order.now }
@@ -105,9 +106,10 @@ impl Model for Diagram {
 }
 
 impl Diagram {
-    /// The diagram of these parts. Requires each node to stand in `nodes` after its children, each
-    /// node's variable to be one of `order`, and each root to be a terminal or one of the nodes.
-    /// `roots` has one root per function.
+    /// The diagram of `nodes`, with the roots `roots`, one per function, and the order `order`,
+    /// which the nodes need not follow. Requires fewer than 2^32 nodes. Each node has to stand
+    /// after its children and have a variable of `order`, and each root has to be a terminal or one
+    /// of the nodes.
     pub fn new(order: Order, nodes: Vec<Node>, roots: Vec<Ref>) -> Diagram
         requires few { length nodes.items < 2 ^ 32 }
         requires diagram { IsDiagramUnder order nodes.items roots.items }
@@ -122,7 +124,7 @@ impl Diagram {
         }
     }
 
-    /// The order that belongs to the diagram, top first.
+    /// The diagram's variable order, top first.
     pub fn order(&self) -> &Order
         ensures value { result.now ≡ self.now.order }
         ensures diagram { IsOrderedGraph self.now }
@@ -138,7 +140,7 @@ impl Diagram {
         &self.nodes
     }
 
-    /// The roots, one per function.
+    /// The roots: entry j is that of function j.
     pub fn roots(&self) -> &[Ref]
         ensures value { result.now ≡ self.now.graph.roots }
         ensures diagram { IsOrderedGraph self.now }
@@ -146,15 +148,15 @@ impl Diagram {
         &self.roots
     }
 
-    /// How many nodes the diagram has.
+    /// How many nodes the diagram has, whether a root reaches them or not.
     pub fn size(&self) -> usize
         ensures { result ≡ length self.now.graph.nodes }
     {
         self.nodes.len()
     }
 
-    /// The value of function `output`, counted from 0, at a point. Bit x of `point` is the value of
-    /// variable x.
+    /// The value at `point` of function `output`, counted from 0. Bit x of `point` is the value of
+    /// variable x. Requires `output` to be below the number of roots.
     pub fn eval(&self, output: usize, point: u32) -> bool
         requires { output < length self.now.graph.roots }
         ensures { result ≡ root_value self.now.graph output
@@ -164,7 +166,8 @@ impl Diagram {
         eval(variables, &self.nodes, self.roots[output], point)
     }
 
-    /// The number of nodes on each level, top first. The entries past the last level are 0.
+    /// The number of nodes of each variable, in the diagram's order, top first. The entries past
+    /// the last variable are 0.
     pub fn level_counts(&self) -> [u32; 16]
         ensures counts { (i : ℕ) → i < length self.now.order →
             slice_index result i ≡ nodes_at self.now.graph (slice_index self.now.order i) }
@@ -185,7 +188,7 @@ impl Diagram {
     }
 }
 
-/// The sum of `counts`, which are a diagram's level counts. The sum is the size of the diagram.
+/// The sum of `counts`. If these are the level counts of a diagram, it is the diagram's size.
 /// Requires at most 16 counts.
 pub fn total(counts: &[u32]) -> u64
     requires { length counts.now ≤ 16 }

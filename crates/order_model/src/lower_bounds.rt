@@ -51,7 +51,7 @@ fn supports(problem: &Problem) -> [Mask; 16]
     found
 }
 
-/// How many of `sets` contain variable x.
+/// How many of `sets` contain variable x. Requires at most 16 sets, and x to be below 16.
 fn count_with(sets: &[Mask], x: VarIx) -> u32
     requires few { length sets.now ≤ 16 }
     requires variable { x < 16 }
@@ -66,7 +66,7 @@ fn count_with(sets: &[Mask], x: VarIx) -> u32
     count
 }
 
-/// The union of those of `sets` that do not contain variable x.
+/// The union of those of `sets` that do not contain variable x. Requires x to be below 16.
 fn union_without(sets: &[Mask], x: VarIx) -> Mask
     requires { x < 16 }
     ensures { result ≡ fold bit_or 0 (filter (λ s. not (bit_at s x == 1)) sets.now) }
@@ -96,8 +96,9 @@ impl<'a> LowerBounds<'a> {
     ghost use Rattle.definitions.specs.LowerBounds.{AreMembersWidths};
     ghost use Rattle.definitions.specs.declared.limits.LowerBound.TheVariants.{Widths};
 
-    /// The lower bounds on the nodes above the sets of a problem's variables, by the rule
-    /// `lower_bound`.
+    /// The lower bounds, by the rule `lower_bound`, on the nodes above each set of a problem's
+    /// variables: the nodes of the variables outside, if those of the set are the lowest in the
+    /// order.
     pub fn new(problem: &'a Problem, lower_bound: LowerBound) -> LowerBounds<'a>
         ensures { result ≡ lower_bounds_with problem.now lower_bound }
     {
@@ -132,9 +133,9 @@ impl<'a> LowerBounds<'a> {
         self.lower_bound
     }
 
-    /// The lower bound on the number of nodes above the set `mask`. Under the rule `Widths`, entry
-    /// x of `widths` has to be the width of x over the other members, for each member x of the set.
-    /// Under the rule `Variables`, `widths` is not read.
+    /// The lower bound on the number of nodes above the set `mask` of the problem's variables.
+    /// Under the rule `Widths`, entry x of `widths` has to be the width of x over the other
+    /// members, for each member x of the set. Under the rule `Variables`, `widths` is not read.
     pub fn above(&self, mask: Mask, widths: &WidthRow) -> u64
         requires { mask < 2 ^ self.now.problem.inputs }
         ensures few { result < 2 ^ 33 }
@@ -150,8 +151,10 @@ impl<'a> LowerBounds<'a> {
         }
     }
 
-    /// The maximum of `least` and, over the members x of the set `mask`, of `nodes_for_width` of x.
-    /// Entry x of `widths` is the width of member x over the other members.
+    /// The maximum of `least` and, over the members x of the set `mask`, of
+    /// `max(0, widths[x] - d) + e`. Here `widths[x]` is the width of x over the other members, d is
+    /// the number of functions that depend on x, and e is the number of variables outside the set
+    /// on which some function depends that does not depend on x. Requires `least` to be below 2^33.
     fn most_asked(&self, mask: Mask, widths: &WidthRow, least: u64) -> u64
         requires within { mask < 2 ^ self.now.problem.inputs }
         requires least { least < 2 ^ 33 }

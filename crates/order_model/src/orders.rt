@@ -32,7 +32,7 @@ fn is_in_range(variables: &[VarIx]) -> bool
     1 <= n && n <= 16 && variables.iter().all(|x| (*x as usize) < n)
 }
 
-/// Whether some variable occurs more than once in `variables`.
+/// Whether some variable occurs more than once in `variables`. Requires each to be below 16.
 fn has_repeat(variables: &[VarIx]) -> bool
     requires { All (λ x. x < 16) variables.now }
     ensures repeated { OnTrue result (IsDistinct nat_eq variables.now → ⊥) }
@@ -48,7 +48,7 @@ fn has_repeat(variables: &[VarIx]) -> bool
     false
 }
 
-/// The index of variable x in `variables`. Requires that the list has x, and no variable twice.
+/// The index of variable x in `variables`. Requires the list to have x, and no variable twice.
 fn place_in_list(variables: &[VarIx], x: VarIx) -> usize
     requires distinct { IsDistinct nat_eq variables.now }
     requires there { IsTrue (has variables.now x) }
@@ -64,8 +64,9 @@ fn place_in_list(variables: &[VarIx], x: VarIx) -> usize
 }
 
 impl Order {
-    /// The order with these variables, top first. The error says why the list is no order, where
-    /// `OutOfRange` is reported before `NotEach`, or that an allocation was refused.
+    /// The order with these variables, top first. The error is `OutOfRange` unless there are 1 to
+    /// 16 variables, each below the length of the list. Otherwise it is `NotEach` if a variable is
+    /// repeated, and `OutOfMemory` if an allocation is refused.
     pub fn try_from_slice(alloc: Global, variables: &[VarIx]) -> Result<Order, BadOrder>
         ensures accepted { OnOk result (Accepts variables.now) }
         ensures value { IfOk result (λ order. order ≡ variables.now) }
@@ -92,7 +93,7 @@ impl Order {
         Order { variables }
     }
 
-    /// The order in which the file lists the n variables: 0, 1, .., n-1.
+    /// The file order of n variables: 0, 1, .., n-1. Requires n to be from 1 to 16.
     pub fn file_order(alloc: Global, n: u8) -> Result<Order, AllocError>
         requires some { 1 ≤ n }
         requires few { n ≤ 16 }
@@ -105,7 +106,7 @@ impl Order {
         Ok(Order { variables })
     }
 
-    /// How many variables there are.
+    /// The number of variables, 1 to 16.
     pub fn len(&self) -> usize
         ensures value { result ≡ length self.now }
         ensures some { 1 ≤ result }
@@ -123,7 +124,7 @@ impl Order {
         &self.variables
     }
 
-    /// The place of variable x, counted from 0 at the top.
+    /// The place of variable x, counted from 0 at the top. Requires the order to have x.
     pub fn place_of(&self, x: VarIx) -> usize
         requires { x < length self.now }
         ensures place { result ≡ place_in self.now x }
@@ -132,7 +133,8 @@ impl Order {
         place_in_list(&self.variables, x)
     }
 
-    /// Swaps the variables of `level`, counted from 0 at the top, and of the level below it.
+    /// Swaps the variable at place `level`, counted from 0 at the top, and the one just below it.
+    /// Requires `level` not to be the lowest place.
     pub fn swap(&mut self, level: usize)
         requires { level + 1 < length self.old }
         ensures { self.new ≡ swap self.old level (level + 1) }

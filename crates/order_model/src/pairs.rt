@@ -52,8 +52,8 @@ fn comma_place(part: &[u8]) -> Option<usize>
     part.iter().position(|byte| *byte == b',')
 }
 
-/// The pair (a, b), where a must stand above b, that `part` states as `a,b`. None if `part` is not
-/// of this form.
+/// The pair (a, b), where a must stand above b, that `part` states as `a,b`: two decimals from 0 to
+/// 15 without leading zeros. None if `part` is not of this form.
 fn pair(part: &[u8]) -> Option<(VarIx, VarIx)>
     ensures { result ≡ pair_of part.now }
 {
@@ -63,8 +63,9 @@ fn pair(part: &[u8]) -> Option<(VarIx, VarIx)>
     Some((above, below))
 }
 
-/// The pairs that a text such as `2,0:1,0` lists, as masks: bit b of entry a stands for the pair
-/// (a, b). None if a part between colons is no pair.
+/// The pairs that a text such as `2,0:1,0` lists, here (2, 0) and (1, 0), as masks: bit b of entry
+/// a stands for the pair (a, b). None if a part between colons is not two decimals from 0 to 15,
+/// without leading zeros, with a comma between them.
 fn listed_masks(text: &[u8]) -> Option<[Mask; 16]>
     ensures { AreMasksOf (listed text.now) result }
 {
@@ -76,7 +77,8 @@ fn listed_masks(text: &[u8]) -> Option<[Mask; 16]>
     Some(below)
 }
 
-/// Whether all variables of the pairs are below n. Bit b of `below[a]` stands for the pair (a, b).
+/// Whether all variables of the pairs are below n, which is at most 16. Bit b of `below[a]` stands
+/// for the pair (a, b).
 fn are_within(below: &[Mask; 16], n: u8) -> bool
     requires { n ≤ 16 }
     ensures { IsTrue result ↔ AreWithin n below.now }
@@ -90,8 +92,9 @@ fn are_within(below: &[Mask; 16], n: u8) -> bool
     true
 }
 
-/// One step of Warshall's transitive closure. If a reaches k, then `reached[a]` gets all variables
-/// that k reaches. Bit b of `reached[a]` is 1 if a reaches b.
+/// One step of Warshall's transitive closure: for each a that reaches k, `reached[a]` gets all
+/// variables that k reaches. Bit b of `reached[a]` is 1 if a reaches b. Other bits stay. Requires k
+/// to be below 16.
 fn join_through(reached: &mut [Mask; 16], k: VarIx)
     requires { k < 16 }
     ensures { IsJoined reached.old k reached.new }
@@ -104,8 +107,8 @@ fn join_through(reached: &mut [Mask; 16], k: VarIx)
     }
 }
 
-/// The smallest variable from which the pairs lead, by one or more of them, back to itself. None if
-/// there is no such variable. Bit b of `below[a]` stands for the pair (a, b).
+/// The smallest variable from which a chain of one or more pairs leads back to it, where (a, b)
+/// leads from a to b. None if there is none. Bit b of `below[a]` stands for the pair (a, b).
 fn least_on_cycle(below: &[Mask; 16]) -> Option<VarIx>
     ensures found { IfSome result (λ v. IsPairCycle (pairs_in 16 below.now) v) }
     ensures none { IfNone result (HasNoCycle (pairs_in 16 below.now)) }
@@ -122,7 +125,7 @@ fn least_on_cycle(below: &[Mask; 16]) -> Option<VarIx>
     None
 }
 
-/// The pairs as masks: bit b of entry a stands for the pair (a, b). None if a variable is 16 or
+/// `pairs` as masks: bit b of entry a is 1 if (a, b) is one of them. None if a variable is 16 or
 /// more.
 fn masks_of(pairs: &[(VarIx, VarIx)]) -> Option<[Mask; 16]>
     ensures some { IfSome result (λ below. AreMasksOf (Some pairs.now) (Some below)) }
@@ -139,9 +142,10 @@ fn masks_of(pairs: &[(VarIx, VarIx)]) -> Option<[Mask; 16]>
     Some(below)
 }
 
-/// The pairs of n variables that `below` has: bit b of `below[a]` stands for the pair (a, b). The
-/// error is `PairOutOfRange` if a variable of a pair isn't below n. Otherwise it is `PairCycle` if
-/// the pairs lead from a variable back to itself.
+/// The pairs of n variables, n from 1 to 16, that `below` has: bit b of `below[a]` stands for the
+/// pair (a, b). The error is `PairOutOfRange` if a variable of a pair isn't below n. Otherwise, if
+/// the pairs lead from a variable back to itself, it is `PairCycle` with the smallest variable for
+/// which this holds.
 fn of_masks(below: [Mask; 16], n: u8) -> Result<Pairs, PairsFault>
     requires some { 1 ≤ n }
     requires few { n ≤ 16 }
@@ -157,7 +161,7 @@ fn of_masks(below: [Mask; 16], n: u8) -> Result<Pairs, PairsFault>
 }
 
 impl Pairs {
-    /// No pairs of n variables, so that every order keeps them.
+    /// No pairs of n variables, so that every order keeps them. Requires n to be from 1 to 16.
     pub fn none(n: u8) -> Pairs
         requires some { 1 ≤ n }
         requires few { n ≤ 16 }
@@ -170,9 +174,11 @@ impl Pairs {
         }
     }
 
-    /// The pairs of n variables that a text such as `2,0:1,0` lists, in decimals from 0 to 15
-    /// without leading zeros. The error is the reason for which the text is refused; an empty text
-    /// is a `BadPair`. Duplicates are ignored.
+    /// The pairs of n variables, n from 1 to 16, that a text such as `2,0:1,0` lists, here (2, 0)
+    /// and (1, 0). Duplicates are ignored. The error is `BadPair` if a part between colons is not
+    /// two decimals from 0 to 15, without leading zeros, with a comma between them; else
+    /// `PairOutOfRange` if a variable isn't below n; else, if the pairs lead from a variable back
+    /// to itself, `PairCycle` with the smallest variable for which this holds.
     pub fn parse(text: &[u8], n: u8) -> Result<Pairs, PairsFault>
         requires some { 1 ≤ n }
         requires few { n ≤ 16 }
@@ -184,8 +190,10 @@ impl Pairs {
         of_masks(below, n)
     }
 
-    /// The pairs (a, b) of n variables in a list, in any arrangement. The error is the reason for
-    /// which the list is refused, and is never `BadPair`. Duplicates are ignored.
+    /// The pairs (a, b) of n variables, n from 1 to 16, that `pairs` lists in any arrangement.
+    /// Duplicates are ignored. The error is `PairOutOfRange` if a variable isn't below n.
+    /// Otherwise, if the pairs lead from a variable back to itself, it is `PairCycle` with the
+    /// smallest variable for which this holds.
     pub fn of(pairs: &[(VarIx, VarIx)], n: u8) -> Result<Pairs, PairsFault>
         requires some { 1 ≤ n }
         requires few { n ≤ 16 }
@@ -218,7 +226,8 @@ impl Pairs {
         count
     }
 
-    /// The set of the variables b for which (a, b) is a pair, each of which must stand below a.
+    /// The variables that must stand below variable a: the set of those b for which (a, b) is a
+    /// pair. Requires a to be below the number of variables.
     pub fn below(&self, a: VarIx) -> Mask
         requires { a < self.now.inputs }
         ensures pairs { (b : ℕ) → (bit_at result b ≡ 1) ↔ IsTrue (has_pair self.now.pairs a b) }
@@ -243,7 +252,8 @@ impl Pairs {
         Ok(pairs)
     }
 
-    /// Whether `order` keeps the pairs: a stands above b for each pair (a, b).
+    /// Whether `order` keeps the pairs: for each pair (a, b), a stands above b. Requires the order
+    /// and the pairs to be of the same number of variables.
     pub fn keeps(&self, order: &Order) -> bool
         requires { length order.now ≡ self.now.inputs }
         ensures { result ≡ keeps self.now.pairs order.now }
@@ -271,8 +281,8 @@ impl Pairs {
         true
     }
 
-    /// The smallest member of `set` that may stand on top of the others: the set stays lawful
-    /// without this member. Requires the set to be lawful and not empty.
+    /// The smallest member of `set` without which the set stays lawful. Requires the set to be
+    /// lawful and not empty.
     fn smallest_top(&self, set: Mask) -> VarIx
         requires some { 0 < set }
         requires within { set < 2 ^ self.now.inputs }

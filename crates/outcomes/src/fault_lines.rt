@@ -25,7 +25,7 @@ const LONGEST_LINE: usize = 64;
 /// A line that is being made.
 type Text = ArrayString<LONGEST_LINE>;
 
-/// The name of a program, as its messages have it.
+/// The name of `program`: `minorder` or `ordercheck`.
 fn program_text(program: Program) -> &'static str
     ensures name { result.now ≡ program_name program }
     ensures short { length result.now ≤ 10 }
@@ -36,7 +36,7 @@ fn program_text(program: Program) -> &'static str
     }
 }
 
-/// The name of a fault in a line of the PLA file.
+/// The name of `fault`, a fault in a line of the PLA file, such as `BadNumber`.
 fn file_text(fault: FileFault) -> &'static str
     ensures kind { result.now ≡ file_kind fault }
     ensures short { length result.now ≤ 16 }
@@ -59,7 +59,7 @@ fn file_text(fault: FileFault) -> &'static str
     }
 }
 
-/// The name of a fault in a line of a certificate.
+/// The name of `fault`, a fault in a line of a certificate, such as `BadNumber`.
 fn certificate_text(fault: CertificateFault) -> &'static str
     ensures kind { result.now ≡ certificate_kind fault }
     ensures short { length result.now ≤ 12 }
@@ -73,7 +73,8 @@ fn certificate_text(fault: CertificateFault) -> &'static str
     }
 }
 
-/// Appends `label`, and then `number` in decimal, to `text`.
+/// Appends `label`, and then `number` in decimal, to `text`. Requires `text` and `label` to have at
+/// most 32 bytes together.
 fn push_number(text: &mut Text, label: &str, number: usize)
     requires { array_string_len text.old + length label.now ≤ 32 }
     ensures words { text.new.bytes ≡ text.old.bytes ++ label.now ++ decimal number }
@@ -85,8 +86,9 @@ fn push_number(text: &mut Text, label: &str, number: usize)
     text.push_str(digits.format(number));
 }
 
-/// Appends the name of a fault in pairs to `text`. If pairs lead from a variable back to itself,
-/// the number of this variable follows.
+/// Appends to `text` the name of the reason why pairs are refused, such as `BadPair`. `PairCycle`
+/// is followed by a space and the number of its variable. Requires `text` to have at most 12 bytes
+/// before.
 fn push_pairs(text: &mut Text, fault: PairsFault)
     requires { array_string_len text.old ≤ 12 }
     ensures words { text.new.bytes ≡ text.old.bytes ++ pairs_kind fault }
@@ -99,8 +101,8 @@ fn push_pairs(text: &mut Text, fault: PairsFault)
     }
 }
 
-/// Appends the words that name a fault to `text`, with the number of the faulty line if there is
-/// one.
+/// Appends to `text` the words that name `fault`, such as `TooLong`, or `line 3: BadNumber` with
+/// the number of the faulty line. Requires `text` to have at most 12 bytes before.
 fn push_fault(text: &mut Text, fault: Fault)
     requires { array_string_len text.old ≤ 12 }
     ensures words { text.new.bytes ≡ text.old.bytes ++ fault_words fault }
@@ -126,8 +128,8 @@ fn push_fault(text: &mut Text, fault: Fault)
     }
 }
 
-/// The line that a program writes to standard error for a fault: its name, a colon, the words that
-/// name the fault, and a line feed.
+/// The line that a program writes to standard error for a fault: its name, a colon and a space, the
+/// words that name the fault, and a line feed.
 #[tactic(auto, unfolding(crate::specs::Messages::fault_line))]
 pub(crate) fn fault_line(program: Program, fault: Fault) -> Text
     ensures { result.bytes ≡ line_of program fault }

@@ -18,8 +18,8 @@ const WORDS_STATUS: u8 = 2;
 /// The exit status of a program that is out of memory.
 const MEMORY_STATUS: u8 = 4;
 
-/// The words after a program's name. Err has the exit status if they can't be had: 2 if one isn't
-/// UTF-8, 4 if memory is refused.
+/// The words after the program's name on its command line. Err has the program's exit status: 2 if
+/// a word isn't UTF-8, and 4 if memory is refused.
 pub fn words_of_program<R: Env + AllocGlobal>(rt: &R) -> Result<Vec<String>, u8> {
     match env::args(rt) {
         Ok(words) => match words.skip(1).collect::<Vec<String>>(rt.alloc()) {
@@ -31,7 +31,7 @@ pub fn words_of_program<R: Env + AllocGlobal>(rt: &R) -> Result<Vec<String>, u8>
     }
 }
 
-/// `words` as string slices. Err has the exit status 4, if memory is refused.
+/// `words` as string slices. Err has the program's exit status, 4, if memory is refused.
 pub fn texts_of<'a>(alloc: Global, words: &'a [String]) -> Result<Vec<&'a str>, u8> {
     let texts = words.iter().map(|word: &String| word.as_str());
     match texts.collect::<Vec<&str>>(alloc) {
@@ -50,9 +50,10 @@ pub fn write_fault<E: CountedWrite>(err: &mut E, program: Program, fault: Fault)
     let _ = write_whole(err, line.as_str().as_bytes());
 }
 
-/// Writes the text that `usage` has: help to `out`, or to `err` why the words after the program's
-/// name are refused. If memory is refused for this text, the line for `OutOfMemory` goes to `err`
-/// instead. A failure of a writer has no effect. Returns the exit status.
+/// Writes the text of `usage` and returns the exit status. Help goes to `out`, with status 0. The
+/// reason why the words after the program's name are refused goes to `err`, with status 2. If
+/// `usage` is `OutOfMemory`, or memory is refused for its text, the line for `OutOfMemory` goes to
+/// `err`, with status 4. A failure of a writer has no effect.
 pub fn write_usage<W: CountedWrite, E: CountedWrite>(
     alloc: Global,
     program: Program,

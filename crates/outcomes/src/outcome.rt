@@ -42,7 +42,7 @@ pub enum Outcome {
 
 impl Outcome {
     /// The exit status: 0 done, 1 the certificate is not valid, 3 input refused, 4 out of memory, 5
-    /// a device failed, 8 pairs refused. 6 is the status of a full store, with which no run ends.
+    /// a device failed, 6 the store is full (no run ends so), 8 pairs refused.
     pub fn status(self) -> u8
         ensures { result ≡ status_of self }
     {
@@ -58,7 +58,7 @@ impl Outcome {
         }
     }
 
-    /// Why the run was refused. None if it wasn't, so if it ended with `Done` or `Invalid`.
+    /// Why the run was refused. None for `Done` and `Invalid`.
     pub fn fault(self) -> Option<Fault>
         ensures refused { IfSome result (λ fault. self ≡ Outcome.Refused fault) }
         ensures done { IfNone result ((self ≡ Outcome.Done) ⊎ (self ≡ Outcome.Invalid)) }
@@ -73,7 +73,7 @@ impl Outcome {
 impl From<PlaError> for Fault {
     ghost from_gives = { λ error fault. fault ≡ refusal_of error };
 
-    /// The fault of a run whose PLA file gives no cover, for the reason `error`.
+    /// The fault of a run that could not read its PLA file, for the reason `error`.
     fn from(error: PlaError) -> Fault {
         match error {
             PlaError::Line(line, fault) => Fault::Line(line, fault),
@@ -87,7 +87,7 @@ impl From<PlaError> for Fault {
 impl From<CertFault> for Fault {
     ghost from_gives = { λ error fault. fault ≡ certificate_refusal error };
 
-    /// The fault of a run whose text is not read as a certificate, for the reason `error`.
+    /// The fault of a run that could not read its certificate, for the reason `error`.
     fn from(error: CertFault) -> Fault {
         match error {
             CertFault::Line(line, fault) => Fault::CertificateLine(line, fault),
