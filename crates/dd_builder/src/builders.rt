@@ -24,9 +24,10 @@ use std::thread::Threads;
 use truth_table::Tables;
 use unique_table::{CloseFault, Pieces, Session, Store};
 
-/// Makes the outputs from their published parts, publishes them, closes the store, and returns the
-/// reduced diagram of the store's functions. Requires all parts to be published, and `session` to
-/// know them.
+/// The reduced diagram of the store's functions. Makes the outputs from their published parts,
+/// publishes them, and closes the store. Requires a store whose parts are made from `source` (truth
+/// tables or terms), and `session`, one of its sessions, to have seen all parts published. The
+/// error is `StoreFull` with the session if the store has no place for a node, or `OutOfMemory`.
 fn finish(
     alloc: Global,
     store: Store,
@@ -52,9 +53,12 @@ fn finish(
     }
 }
 
-/// Builds and publishes all parts of the outputs by `count` workers, each in a thread of its own.
-/// Returns the sessions with which the workers ended, in the order of the workers' numbers: as
-/// `Err` if the worker met a full store.
+/// Builds all parts of the outputs from `source`, truth tables or terms, and publishes them, by
+/// `count` workers, at least 1. Each has a thread of its own, started by `crew`, and a session
+/// split off `session`, and calls the gate of `crew` before it publishes a part. Entry i of the
+/// result is the session with which worker i + 1 ended: as `Err` if the worker met a full store,
+/// and so left parts unbuilt. Requires `session` to be a session of `store`, whose parts are made
+/// from `source`.
 fn ends_of_workers<R: Threads + Sync, G: Gate>(
     crew: &Crew<'_, R, G>,
     alloc: Global,
@@ -88,9 +92,11 @@ fn ends_of_workers<R: Threads + Sync, G: Gate>(
     Ok(ended)
 }
 
-/// Builds and publishes all parts of the outputs by the workers of `crew`, each in a thread of its
-/// own. Returns a session that knows all parts. If a worker met a full store, the error has a
-/// session that knows the store to be full.
+/// Builds all parts of the outputs from `source`, truth tables or terms, and publishes them. Each
+/// worker of `crew` has a thread of its own and a session split off `session`. Returns the session
+/// that joins theirs, which has seen all parts. The error is `StoreFull` with the joined session if
+/// a worker met a full store, or `OutOfMemory`. Requires `session` to be a session of `store`,
+/// whose parts are made from `source`.
 fn parts_by_workers<R: Threads + Sync, G: Gate>(
     crew: &Crew<'_, R, G>,
     alloc: Global,
@@ -119,9 +125,10 @@ fn parts_by_workers<R: Threads + Sync, G: Gate>(
     }
 }
 
-/// Builds the reduced diagram of the store's functions: the workers of `crew` build the parts of
-/// the outputs from `source`, and the calling thread makes the outputs from the parts. `StoreFull`
-/// if a worker or the calling thread met a full store.
+/// Builds the reduced diagram of the store's functions. The workers of `crew` build the parts of
+/// the outputs from `source`, truth tables or terms, and the calling thread makes the outputs from
+/// the parts. Requires `session` to be a session of `store`, whose parts are made from `source`.
+/// The error is `StoreFull` with a session if the store has no place for a node, or `OutOfMemory`.
 fn build_in<R: Threads + Sync, G: Gate>(
     crew: &Crew<'_, R, G>,
     alloc: Global,
@@ -139,11 +146,12 @@ fn build_in<R: Threads + Sync, G: Gate>(
     finish(alloc, store, session, source)
 }
 
-/// Builds the reduced diagram of the store's functions from their truth tables. Takes at most one
-/// search in the store for each output and point. Worker i, counted from 1, builds the parts q of
-/// outputs with `q % workers = i - 1`, and calls the gate before it publishes each. The calling
-/// thread makes the outputs from the parts. If `session` is the store's only one and made no node
-/// yet, the store never gets full.
+/// Builds the reduced diagram of the store's functions from `tables`, their truth tables. The
+/// parts, outputs with the top two variables (or the only one) fixed, are counted from 0 over all
+/// outputs; worker i, from 1 on, builds each part q with `q % workers = i - 1`, and calls `gate`
+/// before publishing it. Requires `session` to be a session of `store`, which has such parts. The
+/// error is `OutOfMemory`, or `StoreFull` if the store has no place for a node, which can't be if
+/// `session` is the store's only one and has made no node.
 pub fn from_tables<R: Threads + Sync, G: Gate>(
     rt: &R,
     alloc: Global,
@@ -163,10 +171,11 @@ pub fn from_tables<R: Threads + Sync, G: Gate>(
     build_in(&crew, alloc, store, session, Source::Tables(tables))
 }
 
-/// Builds the reduced diagram of the store's functions from the terms of a cover. Each term is made
-/// once for each of its outputs, and joined to the others by `apply`. Worker i, counted from 1,
-/// builds the parts q of outputs with `q % workers = i - 1`, and calls the gate before it publishes
-/// each. The calling thread makes the outputs from the parts.
+/// Builds the reduced diagram of the store's functions from the terms of `cover`. The parts, 64
+/// disjunctions of terms for each output, are counted from 0 over all outputs; worker i, from 1 on,
+/// builds each part q with `q % workers = i - 1`, and calls `gate` before publishing it. Requires
+/// `session` to be a session of `store`, which was made for this cover, with such parts. The error
+/// is `StoreFull` with a session if the store has no place for a node, or `OutOfMemory`.
 pub fn from_cover<R: Threads + Sync, G: Gate>(
     rt: &R,
     alloc: Global,
@@ -185,8 +194,9 @@ pub fn from_cover<R: Threads + Sync, G: Gate>(
     build_in(&crew, alloc, store, session, Source::Terms(cover.terms()))
 }
 
-/// An empty store for the functions of truth tables under an order, and the store's first session.
-/// The parts of the store's outputs are outputs with the top two variables, or the only one, fixed.
+/// An empty store for the functions of `tables` under `order`, and the store's first session. The
+/// parts of its outputs are the outputs with the top two variables, or the only one, fixed.
+/// Requires `order` to have all variables of the tables.
 pub fn tables_store(
     alloc: Global,
     tables: &Tables,
@@ -206,8 +216,10 @@ pub fn tables_store(
     )
 }
 
-/// An empty store for the functions of a cover under an order, and the store's first session. The
-/// parts of the store's outputs are disjunctions of terms. `tables` are the cover's truth tables.
+/// An empty store for the functions of a cover under `order`, and the store's first session. Each
+/// output has 64 parts: part k is the disjunction of those of its terms whose index in the cover
+/// leaves the remainder k when divided by 64. Requires `tables` to be the cover's truth tables, and
+/// `order` to have all inputs of the cover.
 pub fn cover_store(
     alloc: Global,
     cover: &Cover,
@@ -225,9 +237,9 @@ pub fn cover_store(
     Store::new(alloc, order.try_clone(alloc)?, tables.problem(), pieces)
 }
 
-/// Builds the reduced diagram, under `order`, of the functions of `tables`. It is built from the
-/// tables, in a store of its own, which never gets full. The workers call the gate before they
-/// publish each part.
+/// Builds the reduced diagram of the functions of `tables` under `order`, from the tables, in a new
+/// store. Each worker calls `gate` before it publishes a part of an output. Requires `order` to
+/// have all variables of the tables.
 pub fn build_tables<R: Threads + Sync, G: Gate>(
     rt: &R,
     alloc: Global,
@@ -248,10 +260,11 @@ pub fn build_tables<R: Threads + Sync, G: Gate>(
     }
 }
 
-/// Builds the reduced diagram of a cover's functions under `order`. It is built from the cover's
-/// terms in the store `begun`, an empty store with its first session. If this store gets full, the
-/// diagram is built anew from the truth tables, in another store. `tables` are the cover's truth
-/// tables.
+/// Builds the reduced diagram of a cover's functions under `order` by the workers of `crew`: from
+/// the cover's terms in the store `begun.0`, or, if this store gets full, from `tables` in a new
+/// store. Requires `tables` to be the cover's truth tables, the store to be made for the cover and
+/// `order`, with disjunctions of the cover's terms as parts of outputs, and `begun.1` to be a
+/// session of it.
 pub fn build_from<R: Threads + Sync, G: Gate>(
     crew: &Crew<'_, R, G>,
     alloc: Global,
@@ -280,16 +293,16 @@ pub fn build_from<R: Threads + Sync, G: Gate>(
     }
 }
 
-/// Whether a diagram is built faster from the truth tables of a cover than from its terms: the
-/// cover has more terms than 2 ^ n / 64, for n inputs. Each term takes nodes of the store that the
-/// diagram has no use for, and covers with somewhat more terms fill the store.
+/// Whether the cover has more than 2^n / 64 terms, for n inputs. The diagram of such a cover is
+/// built from its truth tables and not from its terms.
 fn has_many_terms(cover: &Cover) -> bool {
     cover.terms().len() > (1usize << cover.inputs()) / 64
 }
 
-/// Builds the reduced diagram of a cover's functions under `order`. If the cover has many terms, it
-/// is built from `tables`, the cover's truth tables. Else it is built from the terms or, if they
-/// fill a store, from the truth tables. The workers call the gate before they publish each part.
+/// Builds the reduced diagram of a cover's functions under `order`. If the cover has more than
+/// 2^n / 64 terms, for n inputs, it is built from `tables`, else from the terms, or from `tables`
+/// after all if they fill a store. Each worker calls `gate` before it publishes a part of an
+/// output. Requires `tables` to be the cover's truth tables, and `order` to have all inputs.
 pub fn build<R: Threads + Sync, G: Gate>(
     rt: &R,
     alloc: Global,

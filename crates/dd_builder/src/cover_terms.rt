@@ -14,9 +14,11 @@ use crate::operations::apply;
 use order_model::{Term, contains};
 use unique_table::{NodeId, Operation, Session, Store, StoreFull, TERM_SHARES};
 
-/// Makes the conjunction of the function of `id` and the term's literal of the variable of `level`,
-/// and returns its id: `id` itself if the term has no such literal. Requires `id` to lie below
-/// `level`.
+/// The id of the conjunction of the function of `id` and the term's literal of the variable on
+/// level `level` of the store's order, or `id` itself if the term has no such literal. Makes the
+/// node if it isn't in the store. Requires `id` to be a terminal or a node below this level, and
+/// `session`, one of `store`'s, to have seen it; the session then knows the nodes that it made or
+/// saw. `StoreFull` if the store has no place for a node.
 fn literal_and(
     store: &Store,
     session: &mut Session,
@@ -42,8 +44,9 @@ fn literal_and(
     }
 }
 
-/// Makes the nodes of a term's function, the conjunction of the term's literals, and returns the
-/// function's id.
+/// Returns the id of the conjunction of a term's literals of the store's variables; nodes that the
+/// store lacks are made. Requires `session` to be one of `store`'s; it then knows the nodes that it
+/// made or saw. `StoreFull` if the store has no place for a node.
 fn term_id(store: &Store, session: &mut Session, term: Term) -> Result<NodeId, StoreFull>
     requires session { session.old.store ≡ store.now }
     ensures { Makes session.old session.new result (matches (product_in store.now.plan term)) }
@@ -57,8 +60,10 @@ fn term_id(store: &Store, session: &mut Session, term: Term) -> Result<NodeId, S
     Ok(id)
 }
 
-/// Makes the disjunction of the function of `id` and the term, if the term belongs to output
-/// `output`, and returns its id. Else returns `id` itself.
+/// The id of the disjunction of the function of `id` and the term if the term belongs to output
+/// `output`, else `id` itself. Requires `output` to be one of the store's, and `session`, one of
+/// `store`'s, to have seen `id`; the session then knows the nodes that it made or saw. `StoreFull`
+/// if the store has no place for a node.
 fn or_term(
     store: &Store,
     session: &mut Session,
@@ -80,9 +85,10 @@ fn or_term(
     apply(store, session, Operation::Or, id, cube)
 }
 
-/// Makes the disjunction of those terms of output `output` whose index in `terms` leaves the
-/// remainder `share` when divided by `TERM_SHARES`, and returns its id. `terms` has the terms of
-/// all outputs.
+/// The id of the disjunction of those terms of output `output`, one of the store's, whose index in
+/// `terms` leaves the remainder `share`, below 64, when divided by `TERM_SHARES`, which is 64.
+/// `terms` has the terms of all outputs. Requires `session` to be one of `store`'s; it then knows
+/// the nodes that it made or saw. `StoreFull` if the store has no place for a node.
 fn output_share(
     store: &Store,
     session: &mut Session,
@@ -107,10 +113,11 @@ fn output_share(
     Ok(id)
 }
 
-/// Makes part `piece` of the outputs and returns its id: the disjunction of those terms of output
-/// `piece / TERM_SHARES` whose index in `terms` leaves the remainder `piece % TERM_SHARES` when
-/// divided by `TERM_SHARES`. Requires that the store was made for parts by these terms, and that
-/// `piece` is below the number of parts, which is `plan.roots`.
+/// Makes the nodes of part `piece` of the outputs, and returns its id. The part is the disjunction
+/// of those terms of output `piece / 64` whose index in `terms` leaves the remainder `piece % 64`
+/// when divided by 64. Requires a store whose parts are made so from `terms`, and `piece` to be
+/// below their number. Requires `session` to be one of `store`'s; it then knows the nodes that it
+/// made or saw. `StoreFull` if the store has no place for a node.
 pub(crate) fn terms_share(
     store: &Store,
     session: &mut Session,

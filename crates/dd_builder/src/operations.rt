@@ -10,7 +10,7 @@ ghost use Rattle.dd_builder.specs.Operating.{AreOperands, IsFrom, IsSettled, IsC
 use op_cache::{recall, remember};
 use unique_table::{NodeId, Operation, Session, Store, StoreFull};
 
-/// If one of the two operands is `neutral`, the other operand. Else None.
+/// `second` if `first` is `neutral`, else `first` if `second` is, else None.
 fn beside_neutral(neutral: NodeId, first: NodeId, second: NodeId) -> Option<NodeId>
     ensures { result ≡ (if first == neutral then Some second
         else if second == neutral then Some first else None) }
@@ -24,8 +24,8 @@ fn beside_neutral(neutral: NodeId, first: NodeId, second: NodeId) -> Option<Node
     }
 }
 
-/// The id of the conjunction of two operands, if one of them is a terminal or both are equal. Else
-/// None.
+/// The id of the conjunction of the functions of two ids, if one of these is a terminal or both are
+/// equal. Else None.
 fn terminal_case_of_and(first: NodeId, second: NodeId) -> Option<NodeId>
     ensures { IsSettled Operation.And first second result }
 {
@@ -38,8 +38,8 @@ fn terminal_case_of_and(first: NodeId, second: NodeId) -> Option<NodeId>
     }
 }
 
-/// The id of the disjunction of two operands, if one of them is a terminal or both are equal. Else
-/// None.
+/// The id of the disjunction of the functions of two ids, if one of these is a terminal or both are
+/// equal. Else None.
 fn terminal_case_of_or(first: NodeId, second: NodeId) -> Option<NodeId>
     ensures { IsSettled Operation.Or first second result }
 {
@@ -52,8 +52,8 @@ fn terminal_case_of_or(first: NodeId, second: NodeId) -> Option<NodeId>
     }
 }
 
-/// The id of the exclusive disjunction of two operands, if one of them is the terminal 0 or both
-/// are equal. Else None.
+/// The id of the exclusive disjunction of the functions of two ids, if one of these is the terminal
+/// 0 or both are equal. Else None.
 fn terminal_case_of_xor(first: NodeId, second: NodeId) -> Option<NodeId>
     ensures { IsSettled Operation.Xor first second result }
 {
@@ -64,8 +64,8 @@ fn terminal_case_of_xor(first: NodeId, second: NodeId) -> Option<NodeId>
     }
 }
 
-/// The id of the result of `operation` on two ids, if it is known without looking at a node's
-/// children. Else None.
+/// The id of `operation` applied to the functions of two ids, if both ids are equal or one is a
+/// terminal; for xor only the terminal 0 counts. Else None.
 fn terminal_case(operation: Operation, first: NodeId, second: NodeId) -> Option<NodeId>
     ensures { IsSettled operation first second result }
 {
@@ -76,7 +76,9 @@ fn terminal_case(operation: Operation, first: NodeId, second: NodeId) -> Option<
     }
 }
 
-/// Looks up the level of the node with id `id`. For a terminal it is the number of levels.
+/// The level of the node with id `id`, counted from 0 at the top, or the number of levels for a
+/// terminal. Requires `session`, one of `store`'s, to have seen `id`; the session adds the node's
+/// children to what it has seen.
 fn level_of(store: &Store, session: &mut Session, id: NodeId) -> u8
     requires session { session.old.store ≡ store.now }
     requires known { Knows session.old id }
@@ -92,8 +94,9 @@ fn level_of(store: &Store, session: &mut Session, id: NodeId) -> u8
     }
 }
 
-/// Looks up the level of the higher one of two nodes, given by their ids: the lesser of the two
-/// numbers of levels. Requires at least one of the ids not to be a terminal.
+/// The level, counted from 0 at the top, of the higher one of two nodes or terminals, given by
+/// their ids. Requires one of them not to be a terminal, and `session`, one of `store`'s, to have
+/// seen both ids; the session adds their children to what it has seen.
 fn top_level(store: &Store, session: &mut Session, first: NodeId, second: NodeId) -> u8
     requires session { session.old.store ≡ store.now }
     requires operands { AreOperands session.old first second }
@@ -107,8 +110,10 @@ fn top_level(store: &Store, session: &mut Session, first: NodeId, second: NodeId
     one.min(two)
 }
 
-/// Looks up the low and the high child of the node with id `id`, seen as a node of `level`. If the
-/// node lies below this level, or is a terminal, both children are `id` itself.
+/// The low and the high child of the node with id `id` if it is on level `level`. If it lies below,
+/// or is a terminal, both are `id` itself. Requires it not to lie above, `level` to be one of the
+/// store's levels, and `session`, one of `store`'s, to have seen `id`; the session adds the
+/// children to what it has seen.
 fn children(store: &Store, session: &mut Session, id: NodeId, level: u8) -> (NodeId, NodeId)
     requires session { session.old.store ≡ store.now }
     requires known { Knows session.old id }
@@ -135,8 +140,10 @@ struct Cut {
     second: (NodeId, NodeId),
 }
 
-/// Sees two ids as nodes of the higher one of their levels, and returns this level and the children
-/// of each. Requires at least one of them not to be a terminal.
+/// The level of the higher one of two nodes or terminals, given by their ids, and the low and the
+/// high child of each. If one of them lies below this level, or is a terminal, both its children
+/// are its own id. Requires one not to be a terminal, and `session`, one of `store`'s, to have seen
+/// both ids; the session adds their children to what it has seen.
 fn take_apart(store: &Store, session: &mut Session, first: NodeId, second: NodeId) -> Cut
     requires session { session.old.store ≡ store.now }
     requires operands { AreOperands session.old first second }
@@ -158,8 +165,11 @@ fn take_apart(store: &Store, session: &mut Session, first: NodeId, second: NodeI
     }
 }
 
-/// Applies `operation` to the functions of two ids, and returns the id of the result. Requires both
-/// ids to lie at level `from` or below it; terminals lie below all levels.
+/// Applies `operation` to the functions of two ids, neither of which lies above level `from`, and
+/// returns the id of the result, which doesn't either. Terminals lie below all levels. Requires
+/// `from` to be at most the number of levels, and `session`, one of `store`'s, to have seen both
+/// ids; the session then knows the nodes that it made or saw. `StoreFull` if the store has no place
+/// for a node.
 fn apply_from(
     store: &Store,
     session: &mut Session,
@@ -193,9 +203,10 @@ fn apply_from(
 }
 
 /// Applies `operation` to the functions of two ids (Bryant's apply), and returns the id of the
-/// result. Allocates no memory. Each pair of nodes is worked on once for as long as the cache keeps
-/// its result. The result lies no higher than the higher operand, so it may be a child wherever
-/// both operands may.
+/// result. The result lies on no level above the higher of the two. Allocates no memory; results
+/// are remembered in the store's operation cache. Requires `session`, one of `store`'s, to have
+/// seen both ids; the session then knows the nodes that it made or saw. `StoreFull` if the store
+/// has no place for a node.
 pub fn apply(
     store: &Store,
     session: &mut Session,

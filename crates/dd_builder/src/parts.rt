@@ -21,7 +21,10 @@ pub(crate) enum Source<'a> {
     Terms(&'a [Term]),
 }
 
-/// Makes the nodes of part `piece` from the source, and returns the id of its function.
+/// Makes the nodes of part `piece` from `source`, truth tables or terms, and returns its id. Parts
+/// are counted from 0 over all outputs. Requires `session` to be a session of `store`, whose parts
+/// are made from `source`, and `piece` to be below their number; the session then knows the nodes
+/// that it made or saw. `StoreFull` if the store has no place for a node.
 pub(crate) fn part(
     store: &Store,
     session: &mut Session,

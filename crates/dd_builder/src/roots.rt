@@ -16,8 +16,9 @@ use crate::parts::Source;
 use crate::tables::top_variables;
 use unique_table::{NodeId, Operation, Session, Store, StoreFull, TERM_SHARES};
 
-/// Reads the published id of part `piece`. Requires the session to know that the parts are
-/// published.
+/// The published id of part `piece`, counted from 0 over the parts of all outputs. Requires `piece`
+/// to be below their number, and `session`, one of `store`'s, to have seen all parts published; the
+/// session makes no node, and then knows the nodes that it saw.
 fn part_id(store: &Store, session: &mut Session, piece: usize) -> NodeId
     requires session { KnowsParts store.now session.old }
     requires piece { piece < store.now.plan.roots }
@@ -33,9 +34,12 @@ fn part_id(store: &Store, session: &mut Session, piece: usize) -> NodeId
     }
 }
 
-/// Makes output `output` with the variables above `level` fixed, the variable of level i to bit i
-/// of `path`, and returns its id. It is made from the published parts of the output, in which the
-/// top two variables (or the only one) are fixed.
+/// The id of output `output` with the variables of the levels 0 to `level - 1` fixed, that of level
+/// i to bit i of `path`. It is made from the output's published parts. Requires a store in whose
+/// parts the top k variables are fixed, where k is 2, or 1 for an order of one variable; `level` to
+/// be at most k, and `path` below 2^level; and `session`, one of `store`'s, to have seen all parts
+/// published. The session then knows the nodes that it made or saw. `StoreFull` if the store has no
+/// place for a node.
 fn of_restrictions(
     store: &Store,
     session: &mut Session,
@@ -66,8 +70,11 @@ fn of_restrictions(
     store.make(session, level, low, high)
 }
 
-/// Makes the disjunction of the `count` parts of output `output` from its part `first` on, and
-/// returns its id. The parts of an output are numbered from 0 to 63.
+/// The id of the disjunction of `count` published parts, at least 1, of output `output`, from its
+/// part `first` on. Requires a store in which each output has 64 parts, numbered from 0, that are
+/// disjunctions of its terms, and `session`, one of its sessions, to have seen all parts published;
+/// the session then knows the nodes that it made or saw. `StoreFull` if the store has no place for
+/// a node.
 fn of_shares(
     store: &Store,
     session: &mut Session,
@@ -94,7 +101,10 @@ fn of_shares(
     apply(store, session, Operation::Or, lower, upper)
 }
 
-/// Makes output `output` as the disjunction of all its parts by terms, and returns its id.
+/// The id of output `output`, made as the disjunction of all its published parts. Requires a store
+/// whose parts are disjunctions of terms, and `session`, one of its sessions, to have seen all
+/// parts published; the session then knows the nodes that it made or saw. `StoreFull` if the store
+/// has no place for a node.
 fn of_all_shares(store: &Store, session: &mut Session, output: u8) -> Result<NodeId, StoreFull>
     requires session { KnowsParts store.now session.old }
     requires kind { AreOfTerms store.now.plan.kind }
@@ -105,8 +115,10 @@ fn of_all_shares(store: &Store, session: &mut Session, output: u8) -> Result<Nod
     of_shares(store, session, output, 0, TERM_SHARES)
 }
 
-/// Makes output `output` from its published parts, and returns its id. `source` says whether the
-/// parts are outputs with fixed variables or disjunctions of terms.
+/// The id of output `output`, made from its published parts. Requires a store whose parts are made
+/// from `source`, truth tables or terms, and `session`, one of its sessions, to have seen all parts
+/// published; the session then knows the nodes that it made or saw. `StoreFull` if the store has no
+/// place for a node.
 fn root(
     store: &Store,
     session: &mut Session,
@@ -126,8 +138,10 @@ fn root(
     }
 }
 
-/// Makes all outputs from their published parts, and publishes the outputs. `source` says whether
-/// the parts are outputs with fixed variables or disjunctions of terms.
+/// Makes all outputs from their published parts, and publishes the outputs. Requires a store whose
+/// parts are made from `source`, truth tables or terms, and `session`, one of its sessions, to have
+/// seen all parts published; the session then knows the nodes that it made or saw. `StoreFull` if
+/// the store has no place for a node; some outputs may then be published.
 pub(crate) fn publish_roots(
     store: &Store,
     session: &mut Session,

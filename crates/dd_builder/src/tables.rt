@@ -14,8 +14,9 @@ use order_model::VarIx;
 use truth_table::Tables;
 use unique_table::{NodeId, Session, Store, StoreFull};
 
-/// The point at which the variable of each level i of `order` has the value that bit i of `path`
-/// is. Bit x of the point is the value of variable x.
+/// The point at which the variable of each level i of `order` has the value of bit i of `path`. Bit
+/// x of the point is the value of variable x. Requires `order` to have each variable below its
+/// length once, and a length of at most 16.
 fn point_of(order: &[VarIx], path: u32) -> u32
     requires order { IsOrder (length order.now) order.now }
     requires few { length order.now ≤ 16 }
@@ -40,8 +41,11 @@ struct Path {
     point: u32,
 }
 
-/// Makes the nodes of output `output` with the variables above the path's level fixed to the path's
-/// values, and returns the id of this function.
+/// Makes the nodes of a function, and returns its id: output `output` with the variables above some
+/// level fixed. `path` has the level, and the value of each variable above it in the store's order.
+/// Requires `tables` to be the truth tables of the store's functions. Requires `session` to be one
+/// of `store`'s; it then knows the nodes that it made or saw. `StoreFull` if the store has no place
+/// for a node.
 fn output_below(
     store: &Store,
     session: &mut Session,
@@ -79,7 +83,8 @@ fn output_below(
     store.make(session, level, low, high)
 }
 
-/// How many variables on top of an order are fixed in the parts: two, or the only one.
+/// How many variables on top of `order` are fixed in parts that are made from truth tables: two, or
+/// one if there is only one. Requires `order` not to be empty.
 pub(crate) fn top_variables(order: &[VarIx]) -> u8
     requires { 1 ≤ length order.now }
     ensures value { result ≡ length (top_variables order.now) }
@@ -88,10 +93,11 @@ pub(crate) fn top_variables(order: &[VarIx]) -> u8
     if order.len() == 1 { 1 } else { 2 }
 }
 
-/// Makes part `piece` of the outputs, for parts by truth tables, and returns its id. The part is
+/// Makes part `piece` of the outputs from their truth tables, and returns its id. The part is
 /// output `piece / a` with the variable of each top level i fixed to bit i of `piece % a`. Here a
-/// is 4, the number of assignments to the top two variables, or 2 if the order has only one
-/// variable.
+/// is 4, or 2 if the order has only one variable. Requires a store whose parts are made so from
+/// `tables`, and `piece` to be below their number. Requires `session` to be one of `store`'s; it
+/// then knows the nodes that it made or saw. `StoreFull` if the store has no place for a node.
 pub(crate) fn restriction(
     store: &Store,
     session: &mut Session,

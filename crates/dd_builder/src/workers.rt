@@ -19,9 +19,11 @@ pub(crate) struct BuildJob {
     pub(crate) session: Session,
 }
 
-/// Builds and publishes the parts of worker number `worker`, counted from 1, of `workers` workers:
-/// the parts q of outputs with `q % workers == worker - 1`. Calls the gate before each is
-/// published. Returns the worker's session, as `Err` if the worker met a full store.
+/// Does the work of worker number `worker`, counted from 1, of `workers` workers. Of the parts,
+/// counted from 0 over all outputs, it builds from `source`, truth tables or terms, each part q
+/// with `q % workers == worker - 1`, calls the gate, and publishes the part. Returns the session at
+/// the end; as `Err` if it met a full store, which ends the work. Requires `worker` to be at most
+/// `workers`, and `session` to be a session of `store`, whose parts are made from `source`.
 pub(crate) fn build_parts<G: Gate>(
     store: &Store,
     mut session: Session,
@@ -49,8 +51,8 @@ pub(crate) fn build_parts<G: Gate>(
     Ok(session)
 }
 
-/// Splits a session among `workers` workers, and returns their jobs in the order of the workers'
-/// numbers, 1 to `workers`.
+/// Splits `session`, one of `store`'s, among `workers` workers, at least 1. Entry i of the result
+/// is the job of worker i + 1: this number and the worker's session.
 pub(crate) fn jobs(
     alloc: Global,
     store: &Store,
@@ -79,7 +81,8 @@ pub(crate) fn jobs(
     Ok(jobs)
 }
 
-/// The session of a worker that has ended, and true if the worker met a full store.
+/// The session in `end`, with which a worker has ended, and true if it is an `Err`: the worker met
+/// a full store.
 fn session_at_end(end: Result<Session, Session>) -> (Session, bool)
     ensures { IsOpened end result.0 result.1 }
 {
@@ -89,8 +92,10 @@ fn session_at_end(end: Result<Session, Session>) -> (Session, bool)
     }
 }
 
-/// Joins the sessions of all workers, after they have ended, to one that knows what all of them
-/// know. Returns it as `Err` if one of the workers met a full store.
+/// Joins the sessions with which all workers ended to one that has seen what any of them has seen.
+/// Returns it as `Err` if a worker met a full store. Entry i of `ended` is the session of worker
+/// i + 1, as `Err` if that worker met a full store, else after it published its parts. Requires
+/// `workers` entries, at least 1, with sessions of `store`.
 pub(crate) fn join_all(
     store: &Store,
     workers: u8,

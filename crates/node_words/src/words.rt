@@ -17,7 +17,8 @@ pub struct NodeParts {
 }
 
 /// The word of a node: 1 in bit 44, the level in bits 40 to 43, the id of the low child in bits 20
-/// to 39, and that of the high child in bits 0 to 19.
+/// to 39, and that of the high child in bits 0 to 19. Requires `level` to be below 16, and both ids
+/// to be below 2^20.
 pub fn node_word(level: u8, low: u32, high: u32) -> u64
     requires level { level < 16 }
     requires low { low < 2 ^ 20 }
@@ -27,7 +28,9 @@ pub fn node_word(level: u8, low: u32, high: u32) -> u64
     (1 << 44) + (u64::from(level) << 40) + (u64::from(low) << 20) + u64::from(high)
 }
 
-/// The level of a node and the ids of its children, unpacked from the node's word.
+/// Unpacks the word of a node: the level from bits 40 to 43, the id of the low child from bits 20
+/// to 39, and that of the high child from bits 0 to 19. Any word is allowed; its other bits are
+/// ignored.
 pub fn node_parts(word: u64) -> NodeParts
     ensures level { result.level ≡ level_of word }
     ensures low { result.low ≡ low_of word }
@@ -40,8 +43,8 @@ pub fn node_parts(word: u64) -> NodeParts
     }
 }
 
-/// The place at which the search for the node word `word` starts, in a store of `places` places,
-/// counted from 0: a hash of the word.
+/// The place, counted from 0, at which the search for the node word `word` starts in a store of
+/// `places` places: a hash of the word. Requires `places` to be at least 1 and below 2^32.
 pub fn start(places: usize, word: u64) -> usize
     requires some { 0 < places }
     requires few { places < 2 ^ 32 }
@@ -53,8 +56,9 @@ pub fn start(places: usize, word: u64) -> usize
     (((second >> 32) * places as u64) >> 32) as usize
 }
 
-/// The place `(passed + start) % places`: the one that a search from place `start` on comes to
-/// after it passed `passed` places, in a store of `places` places.
+/// The place that a search comes to after it passed `passed` places from place `start` on, in a
+/// store of `places` places: `(start + passed) % places`. Requires `start` and `passed` to be below
+/// `places`.
 pub fn probe(start: usize, passed: usize, places: usize) -> usize
     requires start { start < places }
     requires passed { passed < places }
@@ -70,7 +74,7 @@ pub fn probe(start: usize, passed: usize, places: usize) -> usize
 
 /// The key of a cache entry: the code of the operation (1 for And, 2 for Or, 3 for Xor) from bit 40
 /// on, the id `first` in bits 20 to 39, and the id `second` in bits 0 to 19. The word of the entry
-/// is `key << 20` plus the id of the operation's result.
+/// is `key << 20` plus the id of the operation's result. Requires both ids to be below 2^20.
 pub fn entry_key(operation: Operation, first: u32, second: u32) -> u64
     requires first { first < 2 ^ 20 }
     requires second { second < 2 ^ 20 }

@@ -6,8 +6,9 @@ ghost use Rattle.unique_table.specs.Sessions.{Knows, Means, MakesStep, LiesNoHig
 use node_words::start;
 use unique_table::{NodeId, Operation, Session, Store};
 
-/// The place, in a cache of `places` places counted from 0, for the result of `operation` on the
-/// ids `first` and `second`: a hash of the three.
+/// The place, counted from 0, in a cache of `places` places for the result of `operation` on the
+/// ids `first` and `second`: a hash of the three. Requires `places` to be at least 1 and below
+/// 2^32.
 fn place_of(places: usize, operation: Operation, first: NodeId, second: NodeId) -> usize
     requires some { 0 < places }
     requires few { places < 2 ^ 32 }
@@ -24,8 +25,9 @@ fn place_of(places: usize, operation: Operation, first: NodeId, second: NodeId) 
     )
 }
 
-/// Looks up the result of an operation on the functions of `first` and `second` in the store's
-/// cache, and returns its id. None if the cache doesn't hold it. Makes one atomic step.
+/// Looks up the result of `operation` on the functions of `first` and `second` in the store's
+/// cache, and returns its id, which `session` then knows. None if the cache doesn't hold it.
+/// Requires `session`, one of the store's, to know `first` and `second`. Makes one atomic step.
 pub fn recall(
     store: &Store,
     session: &mut Session,
@@ -44,9 +46,9 @@ pub fn recall(
     store.entry(session, place, operation, first, second)
 }
 
-/// Stores `id` in the store's cache as the result of an operation on the functions of `first` and
-/// `second`, in place of the entry that was there. Requires `id` to denote this result. Makes one
-/// atomic step.
+/// Stores `id` in the store's cache as the result of `operation` on the functions of `first` and
+/// `second`, in place of the entry that was there. Requires `session`, one of the store's, to know
+/// the three ids, and `id` to denote this result. Makes one atomic step.
 pub fn remember(
     store: &Store,
     session: &mut Session,

@@ -32,8 +32,9 @@ impl Model for Cover {
 }
 
 impl Cover {
-    /// The cover with the given numbers of inputs and outputs, one name for each input and for each
-    /// output, and `terms`. Requires that no term has a bit of an input or output that isn't there.
+    /// A cover with these names and these product terms. Requires `inputs` and `outputs` to be from
+    /// 1 to 16, one name for each input and each output, by rising number, and terms that have
+    /// literals of these inputs only and belong to these outputs only.
     pub(crate) fn new(
         inputs: u8,
         outputs: u8,
@@ -63,7 +64,7 @@ impl Cover {
         }
     }
 
-    /// The number of inputs.
+    /// The number of inputs, from 1 to 16.
     pub fn inputs(&self) -> u8
         ensures value { result ≡ self.now.inputs }
         ensures some { 1 ≤ result }
@@ -72,7 +73,7 @@ impl Cover {
         self.inputs
     }
 
-    /// The number of outputs.
+    /// The number of outputs, from 1 to 16.
     pub fn outputs(&self) -> u8
         ensures value { result ≡ self.now.outputs }
         ensures some { 1 ≤ result }
@@ -81,7 +82,7 @@ impl Cover {
         self.outputs
     }
 
-    /// The names of the inputs. Names may repeat.
+    /// The names of the inputs: entry x is that of input x. Names may repeat.
     pub fn input_names(&self) -> &[String]
         ensures names { map string_bytes result.now ≡ self.now.input_names }
         ensures count { length result.now ≡ self.now.inputs }
@@ -89,7 +90,7 @@ impl Cover {
         &self.input_names
     }
 
-    /// The names of the outputs. Names may repeat.
+    /// The names of the outputs: entry o is that of output o. Names may repeat.
     pub fn output_names(&self) -> &[String]
         ensures names { map string_bytes result.now ≡ self.now.output_names }
         ensures count { length result.now ≡ self.now.outputs }
@@ -97,7 +98,7 @@ impl Cover {
         &self.output_names
     }
 
-    /// The product terms, in the order of their lines.
+    /// The product terms, in the order of their lines in the PLA description.
     pub fn terms(&self) -> &[Term]
         ensures products { map (product_of self.now.inputs self.now.outputs) result.now ≡
             self.now.products }

@@ -77,6 +77,7 @@ impl From<AllocError> for PlaError {
 
     ghost from_gives = { λ _ e. e ≡ OutOfMemory };
 
+    /// Turns a refused allocation into `OutOfMemory`.
     fn from(_: AllocError) -> PlaError {
         PlaError::OutOfMemory
     }

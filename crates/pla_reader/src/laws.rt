@@ -6,8 +6,8 @@ ghost use Rattle.pla_reader.specs.declared.errors.LineFault.{LineFault};
 ghost use Rattle.pla_reader.specs.Covers.{NamedCover, IsCover};
 ghost use Rattle.pla_reader.specs.Reading.{Reads, FirstFault};
 
-/// Each input is read as a cover or has a first fault, and not both. It is read as only one cover,
-/// and it has only one first fault.
+/// Law: as a PLA description, each list of bytes either states exactly one cover, or has exactly
+/// one first fault, at exactly one line, and not both.
 pub fn inputs_have_one_reading()
     ensures some { (bytes : List ℕ) →
         ((cover : NamedCover) × Reads bytes cover)
@@ -20,9 +20,9 @@ pub fn inputs_have_one_reading()
         FirstFault bytes i e → FirstFault bytes j f → (i ≡ j) × (e ≡ f) }
 {}
 
-/// A cover that is read has 1 to 16 inputs and 1 to 16 outputs, with a name for each. Each of its
-/// products states for each input which literal it has, if any, and for each output whether it
-/// belongs to the ON-set.
+/// Law: a cover that is read from a PLA description has 1 to 16 inputs and 1 to 16 outputs, with a
+/// name for each. Each of its products has an entry for each input, its literal of the input if
+/// there is one, and an entry for each output: whether the product belongs to the output's ON-set.
 pub fn covers_are_well_formed()
     ensures { (bytes : List ℕ) (cover : NamedCover) → Reads bytes cover → IsCover cover }
 {}

@@ -22,14 +22,16 @@ pub(crate) fn is_blank_byte(b: u8) -> bool
     b == b' ' || (b == b'\t' || b == b'\r')
 }
 
-/// Whether a byte separates positions of a term, and is passed over: a blank or `|`.
+/// Whether a byte may stand between the positions of a term and is skipped there: a space, a tab, a
+/// carriage return or `|`.
 pub(crate) fn is_separator(b: u8) -> bool
     ensures { result ≡ (is_blank b || b == bar) }
 {
     is_blank_byte(b) || b == b'|'
 }
 
-/// The number of bytes of `text` before the first blank, or of all its bytes if there is none.
+/// The number of bytes of `text` before the first space, tab or carriage return, or of all its
+/// bytes if there is none.
 fn word_len(text: &[u8]) -> usize
     ensures value { result ≡ position_or_len is_blank text.now }
     ensures bound { result ≤ length text.now }
@@ -53,7 +55,8 @@ pub(crate) fn first_line(text: &[u8]) -> (&[u8], &[u8])
     }
 }
 
-/// A line without its comment, which begins with the first `#`.
+/// The part of `line` before its first `#`, with which a comment begins, or all of it if it has no
+/// `#`.
 pub(crate) fn content(line: &[u8]) -> &[u8]
     ensures value { result.now ≡ content_of line.now }
     ensures front { (comment : List ℕ) × (line.now ≡ result.now ++ comment) }
@@ -62,7 +65,8 @@ pub(crate) fn content(line: &[u8]) -> &[u8]
     front
 }
 
-/// The first word of a text, and the text after it. None if the text has no word.
+/// The first word of `text`, and the text after this word. Spaces, tabs and carriage returns
+/// separate words. None if the text has no word.
 #[tactic(auto, using(crate::proofs::TextLemmas::words_blank, crate::proofs::TextLemmas::words_word, crate::proofs::TextLemmas::words_none))]
 pub(crate) fn next_word(text: &[u8]) -> Option<(&[u8], &[u8])>
     ensures none { IfNone result (words text.now ≡ []) }
@@ -82,7 +86,8 @@ pub(crate) fn next_word(text: &[u8]) -> Option<(&[u8], &[u8])>
     None
 }
 
-/// The word of a text that has exactly one. None for any other text.
+/// The word of `text` if it has exactly one, else None. Spaces, tabs and carriage returns separate
+/// words.
 pub(crate) fn only_word(text: &[u8]) -> Option<&[u8]>
     ensures some { IfSome result (λ word. one_word (words text.now) ≡ Some word.now) }
     ensures none { IfNone result (one_word (words text.now) ≡ None) }
@@ -94,7 +99,7 @@ pub(crate) fn only_word(text: &[u8]) -> Option<&[u8]>
     }
 }
 
-/// How many words a text has.
+/// How many words `text` has. Spaces, tabs and carriage returns separate words.
 pub(crate) fn count_words(text: &[u8]) -> usize
     ensures { result ≡ length (words text.now) }
 {
@@ -107,7 +112,8 @@ pub(crate) fn count_words(text: &[u8]) -> usize
     count
 }
 
-/// Whether all words of a text may be names: all their bytes are from 33 to 126.
+/// Whether all words of `text` may be names: all their bytes are from 33 to 126. True if it has no
+/// word.
 pub(crate) fn has_names(text: &[u8]) -> bool
     ensures { result ≡ list_all is_name (words text.now) }
 {

@@ -21,8 +21,8 @@ fn name(alloc: Global, word: &[u8]) -> Result<String, AllocError>
     }
 }
 
-/// Copies the words of a text to strings. Requires each word to be a name: all its bytes are from
-/// 33 to 126.
+/// The words of `text` as strings, in their order. Requires each word to be a name: all its bytes
+/// are from 33 to 126.
 pub(crate) fn names(alloc: Global, text: &[u8]) -> Result<Vec<String>, AllocError>
     requires { list_all is_name (words text.now) ≡ true }
     ensures { IfOk result (λ names. map string_bytes names.items ≡ words text.now) }
@@ -36,7 +36,7 @@ pub(crate) fn names(alloc: Global, text: &[u8]) -> Result<Vec<String>, AllocErro
     Ok(names)
 }
 
-/// Makes `count` names: `front` followed by 0, 1, 2 and so on.
+/// Makes `count` names: `front` followed by 0, `front` followed by 1, and so on.
 pub(crate) fn default_names(
     alloc: Global,
     front: &str,

@@ -29,8 +29,8 @@ pub enum Names {
     Outputs,
 }
 
-/// Whether a statement lists the names that `names` asks for: those of the inputs, or those of the
-/// outputs.
+/// Whether `statement` lists the names of the inputs, or those of the outputs, whichever `names`
+/// is.
 fn gives(statement: &Statement<'_>, names: Names) -> bool
     ensures { result ≡ is_some (naming_by names (line_of statement.now)) }
 {
@@ -40,8 +40,8 @@ fn gives(statement: &Statement<'_>, names: Names) -> bool
     }
 }
 
-/// The words of `text`, as parts of a longer text. `start` is the index, in the longer text, of the
-/// first byte of `text`.
+/// Where the words of `text` stand in a longer text, of which `text` is the part from index `start`
+/// on. Requires `start` plus the length of `text` to be below 2^64.
 fn word_places(alloc: Global, text: &[u8], start: usize) -> Result<Vec<TextPlace>, AllocError>
     requires { start + length text.now < 2 ^ 64 }
     ensures spell { IfOk result (λ v. (front back : List ℕ) → length front ≡ start →
@@ -60,9 +60,10 @@ fn word_places(alloc: Global, text: &[u8], start: usize) -> Result<Vec<TextPlace
     Ok(places)
 }
 
-/// The names that a line lists, as parts of a longer text. The first word of `line` is the
-/// directive, and the names are the other words. `start` is the index, in the longer text, of the
-/// first byte of `line`. Empty if the line has no word.
+/// Where the names that `line` lists stand in a longer text, of which `line` is the part from index
+/// `start` on. The names are the line's words before its comment, but for the first word, which is
+/// a directive. Empty if the line has no word. Requires `start` plus the length of `line` to be
+/// below 2^64.
 fn given_places(alloc: Global, line: &[u8], start: usize) -> Result<Vec<TextPlace>, AllocError>
     requires { start + length line.now < 2 ^ 64 }
     ensures given { IfOk result (λ v. (front back : List ℕ) (names : Names) → length front ≡ start →
@@ -76,9 +77,9 @@ fn given_places(alloc: Global, line: &[u8], start: usize) -> Result<Vec<TextPlac
     }
 }
 
-/// The names that the description `bytes` lists for its inputs, or for its outputs, as `names`
-/// says. Each is a part of `bytes`. If several lines list such names, the first line counts, and
-/// lines after the description's end do not. Empty if no line lists them.
+/// Where the names of the inputs, or of the outputs, as `names` says, stand in the PLA description
+/// `bytes`. They are those of the first line that lists them. Empty if no line before `.e` or
+/// `.end` does.
 pub fn name_places(alloc: Global, bytes: &[u8], names: Names) -> Result<Vec<TextPlace>, AllocError>
     ensures { IfOk result (λ v. AreNamesAt names bytes.now v.items) }
 {

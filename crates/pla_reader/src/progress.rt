@@ -43,6 +43,7 @@ impl From<LineFault> for LineError {
 
     ghost from_gives = { λ fault e. e ≡ Fault fault };
 
+    /// Turns the fault of a line into the error `Fault` with this fault.
     fn from(fault: LineFault) -> LineError {
         LineError::Fault(fault)
     }
@@ -54,14 +55,16 @@ impl From<AllocError> for LineError {
 
     ghost from_gives = { λ _ e. e ≡ Memory };
 
+    /// Turns a refused allocation into `Memory`.
     fn from(_: AllocError) -> LineError {
         LineError::Memory
     }
 }
 
-/// The number of inputs or outputs, 1 to 16, that the text after a directive states, or the fault.
-/// `known` is the number that an earlier directive stated, if there was one: this is then a fault.
-/// `outside` is the fault of a number that is not 1 to 16.
+/// The number of inputs or outputs that `text` states after the directive `.i` or `.o`. Err is
+/// `RepeatedHead` if `known` isn't None, which is the number that an earlier line stated. Otherwise
+/// it is `BadNumber` if `text` isn't exactly one word of one to nine decimal digits, or `outside`
+/// if the number isn't from 1 to 16.
 fn count(known: Option<u8>, text: &[u8], outside: LineFault) -> Result<u8, LineFault>
     ensures { MatchResult result
         (λ d. (head_fault (is_some known) (words text.now) outside ≡ None)
@@ -91,10 +94,10 @@ fn is_number_alone(text: &[u8]) -> bool
     }
 }
 
-/// Checks the names that the text after a directive lists. The error is their first fault, in this
-/// order: the number of names is unknown (`count` is None), names were listed before (`repeated`),
-/// there are more or fewer than `count`, or one of them has a byte outside 33 to 126. `count` is
-/// the number of inputs or outputs that an earlier line stated.
+/// Checks the names that `text` lists after the directive `.ilb` or `.ob`. Err is the first of
+/// these faults: `MissingHead` if `count`, the number of inputs or outputs, is None, as no line
+/// stated it; `RepeatedHead` if a line listed names already (`repeated`); `NameCount` if there are
+/// not `count` names; `BadName` if a name has a byte outside 33 to 126.
 fn check_names(count: Option<u8>, repeated: bool, text: &[u8]) -> Result<(), LineFault>
     ensures { MatchResult result
         (λ done. (naming_fault (is_some count) repeated (unwrap_or count 0) (words text.now) ≡ None)
@@ -116,8 +119,9 @@ fn check_names(count: Option<u8>, repeated: bool, text: &[u8]) -> Result<(), Lin
     }
 }
 
-/// The logical type that the text after a directive states, or the fault. `repeated` says whether a
-/// type was stated before, and `late` whether a term was read before.
+/// The logical type that `text` states after the directive `.type`. Err is `RepeatedHead` if a line
+/// stated a type already (`repeated`). Otherwise it is `UnsupportedType` if a term was read already
+/// (`late`), or if `text` is not exactly the word `f` or the word `fd`.
 fn logical_type(repeated: bool, late: bool, text: &[u8]) -> Result<LogicalType, LineFault>
     ensures { MatchResult result
         (λ kind. (type_fault repeated late (words text.now) ≡ None)
@@ -134,8 +138,8 @@ fn logical_type(repeated: bool, late: bool, text: &[u8]) -> Result<LogicalType, 
     }
 }
 
-/// The names `given`. If this is None, `count` names instead: `front` followed by 0, 1, 2 and so
-/// on.
+/// The names `given`. If this is None, `count` names instead: `front` followed by 0, `front`
+/// followed by 1, and so on.
 fn given_or_default_names(
     alloc: Global,
     given: Option<Vec<String>>,
@@ -164,7 +168,7 @@ pub(crate) struct Progress {
 }
 
 impl Progress {
-    /// The progress before the first line, which states nothing.
+    /// The progress before the first line is read: no number, name, type or term is recorded.
     pub(crate) fn new(alloc: Global) -> Progress
         ensures { state_of result ≡ start }
     {
@@ -178,23 +182,25 @@ impl Progress {
         }
     }
 
-    /// Whether an output position of a term may be `-` or `2`: only under `.type f`, where neither
-    /// has a meaning.
+    /// Whether output positions of terms may be `-` or `2`: only if the logical type f was
+    /// recorded.
     fn takes_dont_cares(&self) -> bool
         ensures { result ≡ is_f self.now.logical_type }
     {
         matches!(self.logical_type, Some(LogicalType::F))
     }
 
-    /// Whether a term was read so far.
+    /// Whether a term was recorded.
     fn has_terms(&self) -> bool
         ensures { result ≡ is_filled self.now.terms.items }
     {
         !self.terms.is_empty()
     }
 
-    /// Records the number of inputs that the text after the directive `.i` states, or returns the
-    /// fault.
+    /// Records the number of inputs that `text` states after the directive `.i`. An error changes
+    /// nothing, and is the fault: `RepeatedHead` if the number was recorded before, `BadNumber` if
+    /// `text` isn't exactly one word of one to nine decimal digits, `InputCount` if the number
+    /// isn't from 1 to 16.
     fn take_inputs(&mut self, text: &[u8]) -> Result<(), LineError>
         ensures { Takes self.old (Inputs (words text.now)) self.new result }
     {
@@ -202,8 +208,10 @@ impl Progress {
         Ok(())
     }
 
-    /// Records the number of outputs that the text after the directive `.o` states, or returns the
-    /// fault.
+    /// Records the number of outputs that `text` states after the directive `.o`. An error changes
+    /// nothing, and is the fault: `RepeatedHead` if the number was recorded before, `BadNumber` if
+    /// `text` isn't exactly one word of one to nine decimal digits, `OutputCount` if the number
+    /// isn't from 1 to 16.
     fn take_outputs(&mut self, text: &[u8]) -> Result<(), LineError>
         ensures { Takes self.old (Outputs (words text.now)) self.new result }
     {
@@ -211,8 +219,10 @@ impl Progress {
         Ok(())
     }
 
-    /// Records the names of the inputs that the text after the directive `.ilb` lists. The error is
-    /// the fault of the names, or `Memory`.
+    /// Records the names of the inputs that `text` lists after the directive `.ilb`. An error
+    /// changes nothing, and is `Memory`, or the fault: `MissingHead` without a recorded number of
+    /// inputs, `RepeatedHead` if names of inputs were recorded before, `NameCount` if there are not
+    /// as many names as inputs, `BadName` if a name has a byte outside 33 to 126.
     fn take_input_names(&mut self, alloc: Global, text: &[u8]) -> Result<(), LineError>
         ensures { Takes self.old (InputNames (words text.now)) self.new result }
     {
@@ -221,8 +231,10 @@ impl Progress {
         Ok(())
     }
 
-    /// Records the names of the outputs that the text after the directive `.ob` lists. The error is
-    /// the fault of the names, or `Memory`.
+    /// Records the names of the outputs that `text` lists after the directive `.ob`. An error
+    /// changes nothing, and is `Memory`, or the fault: `MissingHead` without a recorded number of
+    /// outputs, `RepeatedHead` if names of outputs were recorded before, `NameCount` if there are
+    /// not as many names as outputs, `BadName` if a name has a byte outside 33 to 126.
     fn take_output_names(&mut self, alloc: Global, text: &[u8]) -> Result<(), LineError>
         ensures { Takes self.old (OutputNames (words text.now)) self.new result }
     {
@@ -231,8 +243,9 @@ impl Progress {
         Ok(())
     }
 
-    /// Records the logical type that the text after the directive `.type` states, or returns the
-    /// fault.
+    /// Records the logical type that `text` states after the directive `.type`. An error changes
+    /// nothing, and is the fault: `RepeatedHead` if a type was recorded before, `UnsupportedType`
+    /// if a term was recorded before or `text` is not exactly the word `f` or the word `fd`.
     fn take_type(&mut self, text: &[u8]) -> Result<(), LineError>
         ensures { Takes self.old (TypeLine (words text.now)) self.new result }
     {
@@ -241,8 +254,10 @@ impl Progress {
         Ok(())
     }
 
-    /// Records the term that a line states. `text` is the line without its comment. The error is
-    /// the first fault of the line, or `Memory`.
+    /// Records the term that `text`, a line without its comment, states. An error changes nothing,
+    /// and is `MissingHead` if the number of inputs or that of outputs isn't recorded, else the
+    /// line's first fault from the left, or `Memory`. Requires `self` to be made by `new` and by
+    /// calls of `take` that succeeded.
     fn take_row(&mut self, text: &[u8]) -> Result<(), LineError>
         requires { IsSoundState (state_of self.old) }
         ensures { Takes self.old (Row (positions text.now)) self.new result }
@@ -257,8 +272,10 @@ impl Progress {
         }
     }
 
-    /// Records what the next line states. The error is the fault of the line, or `Memory`. A
-    /// correct `.p`, the end of the description, and a line without a word change nothing.
+    /// Records what `statement`, that of the next line, states. An error changes nothing, and is
+    /// the fault of the line, or `Memory`. `.p` with one number, the end of the description, and a
+    /// line without a word change nothing. Requires `self` to be made by `new` and by calls of
+    /// `take` that succeeded.
     pub(crate) fn take(&mut self, alloc: Global, statement: Statement) -> Result<(), LineError>
         requires { IsSoundState (state_of self.old) }
         ensures { Takes self.old (line_of statement.entry) self.new result }
@@ -282,10 +299,11 @@ impl Progress {
         }
     }
 
-    /// Makes the cover that the lines state, and uses up the progress. Inputs without stated names
-    /// get the names x0, x1 and so on, outputs y0, y1 and so on. If no line stated the number of
-    /// inputs, or of outputs, the fault is `MissingHead` at line `number`, the last line of the
-    /// description. Otherwise the only error is `OutOfMemory`.
+    /// The cover of what is recorded. If no names of inputs are recorded, they are x0, x1 and so
+    /// on; those of outputs are y0, y1 and so on. If the number of inputs or that of outputs isn't
+    /// recorded, the error is `MissingHead` at line `number`, which is the number of lines read;
+    /// else it can only be `OutOfMemory`. Requires `self` to be made by `new` and by calls of
+    /// `take` that succeeded.
     pub(crate) fn finish(self, alloc: Global, number: usize) -> Result<Cover, PlaError>
         requires { IsSoundState (state_of self) }
         ensures ok { IfOk result (IsCoverOf (state_of self)) }

@@ -16,8 +16,9 @@ use std::alloc::Global;
 /// The most bytes that an input may have: 16 MiB.
 pub const MOST_BYTES: usize = 16_777_216;
 
-/// The cover that the bytes of an input describe. The error is the first faulty line with its
-/// fault, or `OutOfMemory`. `bytes` may be longer than `MOST_BYTES`.
+/// The cover that the PLA description `bytes` states. Lines after a line `.e` or `.end` are
+/// ignored. The error is the first faulty line with its fault, or `OutOfMemory`. There is no limit
+/// to the number of bytes.
 pub fn read_bytes(alloc: Global, bytes: &[u8]) -> Result<Cover, PlaError>
     ensures { Answers bytes.now result }
 {
@@ -41,11 +42,11 @@ pub fn read_bytes(alloc: Global, bytes: &[u8]) -> Result<Cover, PlaError>
     progress.finish(alloc, number)
 }
 
-/// Reads a PLA description (espresso(5), logical types f and fd) to its end, and returns its cover,
-/// or the reason why there is none.
+/// Reads `reader` to its end, and returns the cover of the PLA description that was read
+/// (espresso(5), logical types f and fd). The error is `TooLong` for more than 16 MiB, `Device` if
+/// a call of the reader failed, `OutOfMemory`, or the first faulty line with its fault.
 ///
-/// The whole input is read before a fault is looked for. Time and memory are linear in the number
-/// of bytes.
+/// All bytes are read before a fault is looked for. Time and memory are linear in their number.
 pub fn read_cover<R: CountedRead>(alloc: Global, reader: &mut R) -> Result<Cover, PlaError>
     ensures answer { IfSome (R.remaining reader.old) (λ bytes. IsReading bytes result) }
     ensures formed { IfOk result IsCover }

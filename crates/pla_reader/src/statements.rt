@@ -41,7 +41,7 @@ pub(crate) fn is_same(a: &[u8], b: &[u8]) -> bool
     a == b
 }
 
-/// Whether a word begins with a point, as directives do.
+/// Whether a word begins with `.`, as directives do. False for an empty word.
 fn is_directive(word: &[u8]) -> bool
     ensures { result ≡ (slice_index word.now 0 == 46) }
 {
@@ -51,8 +51,9 @@ fn is_directive(word: &[u8]) -> bool
     }
 }
 
-/// The statement of a line whose first word is the directive `word` and has the text `given` after
-/// it.
+/// The statement of a line whose first word is `word`, and whose text after it is `given`, which
+/// isn't checked. `Unknown` unless the word is `.i`, `.o`, `.ilb`, `.ob`, `.p`, `.type`, `.e` or
+/// `.end`.
 #[tactic(auto, unfolding(crate::specs::Lines::directive))]
 fn directive<'a>(word: &[u8], given: &'a [u8]) -> Statement<'a>
     ensures { line_of result ≡ directive_of word.now (words given.now) }
@@ -76,7 +77,8 @@ fn directive<'a>(word: &[u8], given: &'a [u8]) -> Statement<'a>
     }
 }
 
-/// The statement of a line. The line's comment is left out.
+/// What `line` states before its comment: what its directive states if its first word begins with
+/// `.`, nothing (`Empty`) if it has no word, and else a term. Only the first word is checked.
 #[tactic(auto, unfolding(crate::specs::Lines::line_said, crate::specs::Lines::meaning))]
 pub(crate) fn statement_of(line: &[u8]) -> Statement<'_>
     ensures { line_of result ≡ line_said line.now }
@@ -93,7 +95,7 @@ pub(crate) fn statement_of(line: &[u8]) -> Statement<'_>
 }
 
 impl Statement<'_> {
-    /// Whether the statement is the end of the description.
+    /// Whether the statement is the end of the description: `.e` or `.end`.
     pub(crate) fn is_end(&self) -> bool
         ensures { result ≡ ends (line_of self.now) }
     {

@@ -20,9 +20,10 @@ pub(crate) struct Masks {
     outs: Mask,
 }
 
-/// Returns `masks` with one more input position, which has byte `b`. Position `at`, counted from 0,
-/// is that of input `at`: `0` and `1` are its literals, `-` and `2` are none. The error is the
-/// fault of any other byte.
+/// Reads byte `b` at the position of input `at` of a term. Returns `masks`, those of the term so
+/// far, with the input's complemented literal for `0`, with its plain literal for `1`, and
+/// unchanged for `-` or `2`. Err is `BadInputChar` for any other byte. Requires `at` to be below
+/// 16, and `masks` to have no literal of this input.
 fn with_input(masks: Masks, at: u8, b: u8) -> Result<Masks, LineFault>
     requires small { at < 16 }
     requires fresh { bit_at masks.value at ≡ 0 }
@@ -44,9 +45,10 @@ fn with_input(masks: Masks, at: u8, b: u8) -> Result<Masks, LineFault>
     Ok(new)
 }
 
-/// Returns `masks` with one more output position, which has byte `b`. Position `at`, counted from
-/// 0, is that of output `at`: `1` puts the term in its ON-set, `0` and `~` don't. `-` and `2` don't
-/// either, and are a fault unless `takes_dont_cares`. The error is the fault of the byte.
+/// Reads byte `b` at the position of output `at` of a term. Returns `masks`, those of the term so
+/// far, with this output for `1`, and unchanged for `0`, `~`, `-` or `2`. Err is `DontCare` for `-`
+/// or `2` unless `takes_dont_cares` is true, and `BadOutputChar` for any other byte. Requires `at`
+/// to be below 16, and `masks` not to have this output.
 fn with_output(masks: Masks, at: u8, b: u8, takes_dont_cares: bool) -> Result<Masks, LineFault>
     requires small { at < 16 }
     requires none { bit_at masks.outs at ≡ 0 }
@@ -68,9 +70,12 @@ fn with_output(masks: Masks, at: u8, b: u8, takes_dont_cares: bool) -> Result<Ma
     Ok(new)
 }
 
-/// The term of n inputs and m outputs that a line states, or the line's first fault from the left.
-/// The line has n input positions and then m output positions; blanks and `|` are passed over.
-/// `takes_dont_cares` says whether output positions `-` and `2` are allowed.
+/// The term of n inputs and m outputs that `line`, a line without its comment, states. Spaces,
+/// tabs, carriage returns and `|` are skipped; the other bytes are n input positions and then m
+/// output positions. Err is the first fault from the left: `BadInputChar` or `BadOutputChar` for a
+/// byte that isn't allowed there, `DontCare` for `-` or `2` as an output unless `takes_dont_cares`
+/// is true, `LongTerm` for a byte after the last position, or `ShortTerm` if the line ends before
+/// it. Requires n and m to be at most 16.
 pub(crate) fn row(n: u8, m: u8, takes_dont_cares: bool, line: &[u8]) -> Result<Term, LineFault>
     requires inputs { n ≤ 16 }
     requires outputs { m ≤ 16 }

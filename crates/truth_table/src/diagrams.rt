@@ -10,8 +10,8 @@ use crate::tables::Tables;
 use order_model::{Diagram, Order, Ref};
 use std::alloc::{AllocError, Global};
 
-/// The refs with these numbers: 0 is the terminal 0, 1 the terminal 1, and k + 2 node k of the
-/// diagram's list of nodes.
+/// The refs that `numbers` stand for, in their order: 0 is the terminal 0, 1 the terminal 1, and
+/// k + 2 node k of the diagram's list of nodes.
 fn refs_of(alloc: Global, numbers: &[u32]) -> Result<Vec<Ref>, AllocError>
     ensures { IfOk result (λ v. v.items ≡ map ref_named numbers.now) }
 {
@@ -22,8 +22,9 @@ fn refs_of(alloc: Global, numbers: &[u32]) -> Result<Vec<Ref>, AllocError>
     Ok(refs)
 }
 
-/// Makes the reduced diagram, under `order`, of the functions of `tables`, level by level from the
-/// bottom. In its list of nodes, lower levels come first. Takes a step for each output and point.
+/// The reduced diagram of the functions of `tables` under `order`. Its list of nodes has lower
+/// levels first. Takes time in proportion to the number of outputs times that of points. Requires
+/// `order` to have all variables of the tables.
 pub fn reduced_diagram(alloc: Global, tables: &Tables, order: &Order) -> Result<Diagram, AllocError>
     requires { length order.now ≡ tables.now.inputs }
     ensures diagram { IfOk result

@@ -9,9 +9,9 @@ ghost use Rattle.truth_table.specs.Fixing.{fixed_bit};
 use order_model::VarIx;
 use order_model::packed::lower_half;
 
-/// Fixes variable x in one word of a packed truth table, to 1 if `upper`, else to 0: the result has
-/// at each of the 64 points the value of `word` at that point with x so fixed. Requires x to be
-/// below 6.
+/// A word of a packed truth table after variable x is fixed to 1 if `upper`, else to 0. Bit b of
+/// the result is the bit of `word` whose number is b with bit x replaced by this value. Requires x
+/// to be below 6.
 fn fixed_word(word: u64, x: VarIx, upper: bool) -> u64
     requires { x < 6 }
     ensures { (k : ℕ) → k < 64 → bit_at result k ≡ bit_at word (fixed_bit x upper k) }
@@ -21,8 +21,8 @@ fn fixed_word(word: u64, x: VarIx, upper: bool) -> u64
     half | (half << step)
 }
 
-/// Fixes variable x in each word of a packed truth table, to 1 if `upper`, else to 0. Requires x to
-/// be below 6.
+/// Fixes variable x in each word of the packed truth table `words`, to 1 if `upper`, else to 0.
+/// Requires x to be below 6.
 fn fix_halves(words: &mut [u64], x: VarIx, upper: bool)
     requires { x < 6 }
     ensures { (i k : ℕ) → i < length words.new → k < 64 →
@@ -34,7 +34,8 @@ fn fix_halves(words: &mut [u64], x: VarIx, upper: bool)
     }
 }
 
-/// The index `i` with its bit r set to 1 if `upper`, else to 0.
+/// The index `i` with its bit r set to 1 if `upper`, else to 0. Requires `i` to be below 1024, and
+/// r below 10.
 fn fixed_place(i: usize, r: u8, upper: bool) -> usize
     requires place { i < 1024 }
     requires small { r < 10 }
@@ -48,8 +49,9 @@ fn fixed_place(i: usize, r: u8, upper: bool) -> usize
     }
 }
 
-/// Fixes variable r + 6 in a packed truth table, to 1 if `upper`, else to 0: word i gets the value
-/// that word `fixed_place(i, r, upper)` had. Requires that index to be in `words`, for each i.
+/// Fixes variable r + 6 in the packed truth table `words`, to 1 if `upper`, else to 0. Word i
+/// becomes the old word whose index is i with bit r replaced by this value. Requires r to be below
+/// 10, at most 1024 words, and this index to be below their number for each i.
 fn fix_rows(words: &mut [u64], r: u8, upper: bool)
     requires few { length words.old ≤ 1024 }
     requires small { r < 10 }
@@ -62,9 +64,9 @@ fn fix_rows(words: &mut [u64], r: u8, upper: bool)
     }
 }
 
-/// Fixes variable x, to 1 if `upper`, else to 0, in the packed truth table of a function of n
-/// variables. Before and after the call, `words` has `words_per_table(n)` words, whose bits past
-/// the last point are 0.
+/// Fixes variable x, to 1 if `upper`, else to 0, in the packed truth table `words` of a function of
+/// n variables. Requires n to be at most 16, x below n, 2^n / 64 words, or one if n is below 6, and
+/// the bits past the last point to be 0. These stay 0.
 pub(crate) fn fix_variable(n: u8, words: &mut [u64], x: VarIx, upper: bool)
     requires few { n ≤ 16 }
     requires variable { x < n }

@@ -20,9 +20,10 @@ pub(crate) struct Merged {
     pub(crate) unequal: u32,
 }
 
-/// Numbers the subfunctions one level higher: entries 2j and 2j + 1 of `classes` form pair j, the
-/// class numbers of the low and the high cofactor of subfunction j. Equal pairs get one number, and
-/// pairs are numbered by first occurrence.
+/// Numbers pairs of class numbers by first occurrence. Pair j is the entries 2j and 2j + 1 of
+/// `classes`, the classes of the low and the high cofactor of a subfunction. Returns the number of
+/// each pair, and how many distinct pairs have two unequal entries. Requires fewer than 2^32
+/// entries. The last one is ignored if their number is odd.
 pub(crate) fn merge(alloc: Global, classes: &[u32]) -> Result<Merged, AllocError>
     requires few { length classes.now < 2 ^ 32 }
     ensures numbers { IfOk result (λ r. IsNumbering (pairs_of classes.now) r.numbers.items) }
@@ -44,7 +45,8 @@ pub(crate) fn merge(alloc: Global, classes: &[u32]) -> Result<Merged, AllocError
     Ok(Merged { numbers, unequal })
 }
 
-/// Appends to `points` a copy of each of its points, with variable x set to 1.
+/// Appends to `points` a copy of each of its points, with bit x set to 1, in the same order.
+/// Requires x to be below 16. If memory is refused, some copies may be appended.
 fn push_upper(points: &mut Vec<u32>, x: VarIx) -> Result<(), AllocError>
     requires { x < 16 }
     ensures { OnOk result
@@ -57,9 +59,9 @@ fn push_upper(points: &mut Vec<u32>, x: VarIx) -> Result<(), AllocError>
     Ok(())
 }
 
-/// The points of all assignments to `variables`, by rising number of the assignment, whose highest
-/// bit is the first variable. Bit x of a point is the value of variable x, and all variables that
-/// are not listed are 0.
+/// The points of all assignments to `variables`. Along the list the last variable changes fastest,
+/// and the first slowest, from 0 to 1. Bit x of a point is the value of variable x, or 0 if x is
+/// not among them. Requires at most 16 variables, each below 16.
 pub(crate) fn assignment_points(alloc: Global, variables: &[VarIx]) -> Result<Vec<u32>, AllocError>
     requires small { All (λ x. x < 16) variables.now }
     requires few { length variables.now ≤ 16 }
@@ -74,7 +76,8 @@ pub(crate) fn assignment_points(alloc: Global, variables: &[VarIx]) -> Result<Ve
 }
 
 /// Appends to `values` the value, 0 or 1, of the packed truth table `words` at each of `points`.
-/// Bit x of a point is the value of variable x.
+/// Bit x of a point is the value of variable x. Requires `words` to have a bit for each point. If
+/// memory is refused, some of the values may be appended.
 pub(crate) fn push_values(
     values: &mut Vec<u32>,
     words: &[u64],

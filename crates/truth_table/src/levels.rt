@@ -20,10 +20,11 @@ pub(crate) fn ref_of(number: u32) -> Ref
     }
 }
 
-/// Returns the number of the node of variable x whose children have the numbers `low` and `high`,
-/// or of the child itself if both are equal. Numbers stand for refs as in `ref_of`. A new node is
-/// appended to `nodes`, and its children to `pairs`. `pairs` has the children of this level's nodes
-/// so far, the first of which is `nodes[base]`.
+/// The number of the node of variable x whose children have the numbers `low` and `high`, or of the
+/// child if both are equal. Numbers 0 and 1 are the terminals, and k + 2 is `nodes[k]`. The nodes
+/// of x begin at `nodes[base]`, and `pairs` has the children of each, in the same order. A node
+/// that isn't among them is appended to `nodes`, and its children to `pairs`; if memory is refused,
+/// perhaps only the children. Requires `base` plus the number of pairs to be below 2^31.
 fn number_over(
     nodes: &mut Vec<Node>,
     pairs: &mut IndexSet<(u32, u32)>,
@@ -50,10 +51,11 @@ fn number_over(
     Ok(base + place as u32 + 2)
 }
 
-/// Makes the level of variable x from the level below. Entry j of the result is the number of the
-/// node whose low child is entry 2j of `below` and whose high child is entry 2j + 1, or of the
-/// child itself if both are equal. Numbers stand for refs as in `ref_of`. Each new node is appended
-/// to `nodes` once.
+/// Makes the nodes of variable x over the nodes and terminals whose numbers `below` lists, and
+/// appends each once to `nodes`; if memory is refused, perhaps only some. Numbers 0 and 1 are the
+/// terminals, and k + 2 is `nodes[k]`. Entry j of the result is the number of the node with the
+/// entries 2j and 2j + 1 of `below` as its low and high child, or of the child if both are equal.
+/// An odd last entry is ignored. Requires fewer than 2^31 entries in `nodes` and `below` together.
 pub(crate) fn level_above(
     alloc: Global,
     nodes: &mut Vec<Node>,

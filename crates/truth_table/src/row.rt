@@ -26,8 +26,9 @@ impl Model for Row {
 }
 
 impl Row {
-    /// The truth table whose packed words are `words`, of a function of `inputs` variables.
-    /// Requires the bits past the last point to be 0.
+    /// The truth table of a function of `inputs` variables, packed in `words`. Requires 1 to 16
+    /// variables, 2^inputs / 64 words, or one for fewer than 6 variables, and the bits past the
+    /// last point to be 0.
     pub(crate) fn new(inputs: u8, words: Vec<u64>) -> Row
         requires { IsRow inputs words.items }
         ensures { result ≡ row_table inputs words.items }
@@ -35,7 +36,7 @@ impl Row {
         Row { inputs, words }
     }
 
-    /// The number of variables.
+    /// The number of variables, from 1 to 16.
     pub fn inputs(&self) -> u8
         ensures value { result ≡ self.now.inputs }
         ensures some { 1 ≤ result }
@@ -44,7 +45,7 @@ impl Row {
         self.inputs
     }
 
-    /// Whether the function depends on variable x.
+    /// Whether the function depends on variable x. Requires x to be below the number of variables.
     pub fn depends(&self, x: VarIx) -> bool
         requires { x < self.now.inputs }
         ensures { result ≡ depends self.now.inputs (from_table self.now.table) x }

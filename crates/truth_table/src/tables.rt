@@ -36,9 +36,7 @@ impl Model for Tables {
 }
 
 impl Tables {
-    /// Makes the truth tables of a cover's outputs. Threads share the work, in groups of 32 words.
-    /// Takes a step for each group and term, one for each word of a group in which the term may be
-    /// 1, and one for each output of a word in which the term is 1 somewhere.
+    /// The truth tables of a cover's outputs, in their order. The threads of `rt` share the work.
     pub fn of_cover<R: Threads + Sync>(
         rt: &R,
         alloc: Global,
@@ -58,7 +56,8 @@ impl Tables {
     }
 
     /// The truth tables of m functions of n variables, packed one after the other in `words`. Bits
-    /// past a table's last point are ignored.
+    /// past a table's last point are ignored. Requires n and m to be from 1 to 16, and 2^n / 64
+    /// words for each table, or one if n is below 6.
     pub fn of_words(alloc: Global, n: u8, m: u8, words: &[u64]) -> Result<Tables, AllocError>
         requires some_inputs { 1 ≤ n }
         requires few_inputs { n ≤ 16 }
@@ -73,15 +72,16 @@ impl Tables {
         })
     }
 
-    /// The truth tables, as a problem.
+    /// These truth tables, as a value of type `Problem`.
     pub fn problem(&self) -> &Problem
         ensures { result.now ≡ self.now }
     {
         &self.problem
     }
 
-    /// The value of output `output`, counted from 0, at a point. Bit x of `point` is the value of
-    /// variable x.
+    /// The value of output `output`, counted from 0, at `point`, whose bit x is the value of
+    /// variable x. Requires the output to be among those of the tables, and the point to be below
+    /// 2^n, for n variables.
     pub fn value(&self, output: u8, point: u32) -> bool
         requires output { output < outputs_of self.now }
         requires point { point < 2 ^ self.now.inputs }
@@ -90,9 +90,10 @@ impl Tables {
         self.problem.value(output, point)
     }
 
-    /// The truth table of a cofactor of output `output`, counted from 0: each variable x in the set
-    /// `care` is fixed to bit x of `value`. Takes a step for each variable in the set and each
-    /// word.
+    /// The truth table of a cofactor of output `output`, counted from 0, as a function of all
+    /// variables of the tables: each of these, x, that is in the set `care` is fixed to bit x of
+    /// `value`. Takes a step for each variable in the set and each word. Requires the output to be
+    /// among those of the tables.
     pub fn cofactor(
         &self,
         alloc: Global,
@@ -118,7 +119,8 @@ impl Tables {
     }
 
     /// The values of all outputs at `points`, as 0 and 1: first those of output 0 at each point,
-    /// then those of output 1, and so on. Requires `outputs` to be the number of outputs.
+    /// then those of output 1, and so on. Bit x of a point is the value of variable x. Requires
+    /// `outputs` to be the number of outputs, and points below 2^n, for n variables.
     fn values(&self, alloc: Global, outputs: u8, points: &[u32]) -> Result<Vec<u32>, AllocError>
         requires outputs { outputs ≡ outputs_of self.now }
         requires points { All (λ k. k < 2 ^ self.now.inputs) points.now }
@@ -132,8 +134,8 @@ impl Tables {
     }
 
     /// The values of all outputs at all points, as 0 and 1: first those of output 0, then those of
-    /// output 1, and so on. The values of an output stand by rising number of the assignment, whose
-    /// highest bit is the top variable of `order`.
+    /// output 1, and so on. Within an output, the top variable of `order` changes slowest and the
+    /// bottom one fastest, from 0 to 1. Requires `order` to have all variables of the tables.
     pub fn values_under(&self, alloc: Global, order: &Order) -> Result<Vec<u32>, AllocError>
         requires { length order.now ≡ self.now.inputs }
         ensures { IfOk result
@@ -144,9 +146,9 @@ impl Tables {
         self.values(alloc, self.problem.outputs(), &points)
     }
 
-    /// The level counts under an order, top first, counted directly in the truth tables: from the
-    /// bottom level up, the distinct subfunctions below each level are numbered, and those that
-    /// depend on the level's variable are counted.
+    /// The level counts of the tables' functions under `order`: entry i is the number of nodes on
+    /// level i, from the top, of their reduced diagram. They are counted in the truth tables,
+    /// without making the diagram. Requires `order` to have all variables of the tables.
     pub fn widths_of(&self, alloc: Global, order: &Order) -> Result<Vec<u32>, AllocError>
         requires { length order.now ≡ self.now.inputs }
         ensures { IfOk result

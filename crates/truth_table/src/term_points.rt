@@ -25,9 +25,9 @@ const GROUP_WORDS: usize = 32;
 /// table of output o.
 type GroupWords = [[u64; 16]; 32];
 
-/// The points of a word at which the term's literal of variable x holds: bit b of the result is 1
-/// if it holds at point b. All 64 bits are 1 if the term has no literal of x. Requires x to be
-/// below 6.
+/// The points of a word of a packed truth table at which the term's literal of variable x holds:
+/// bit b of the result is 1 if it holds at point b. All 64 bits are 1 if the term has no literal of
+/// x. Requires x to be below 6.
 fn literal_points(term: Term, x: VarIx) -> u64
     requires { x < 6 }
     ensures { (b : ℕ) → b < 64 → (bit_at result b == 1) ≡ literal_at term b x }
@@ -43,8 +43,8 @@ fn literal_points(term: Term, x: VarIx) -> u64
     }
 }
 
-/// The points of a word at which the term's literals of the variables 0 to 5 hold: bit b of the
-/// result is 1 if they hold at point b. These points are the same in each word of a table.
+/// The points of a word of a packed truth table at which the term's literals of the variables 0 to
+/// 5 hold: bit b of the result is 1 if they hold at point b. The result is the same for all words.
 fn pattern(term: Term) -> u64
     ensures { (b : ℕ) → b < 64 → (bit_at result b == 1) ≡ literals_at term b 0 6 }
 {
@@ -55,8 +55,9 @@ fn pattern(term: Term) -> u64
     points
 }
 
-/// Whether the term's literals of the variables 6 to 15 hold at the points of word `place` of a
-/// table, which all have the same values of these variables.
+/// Whether the term's literals of the variables 6 to 15 hold in word `place` of a packed truth
+/// table, counted from 0. All 64 points of a word have the same values of these variables. Requires
+/// `place` to be below 1024.
 fn holds_above(term: &Term, place: usize) -> bool
     requires { place < 1024 }
     ensures { result ≡ literals_at term.now (64 * place) 6 10 }
@@ -64,8 +65,8 @@ fn holds_above(term: &Term, place: usize) -> bool
     place & (term.care >> 6) as usize == (term.value >> 6) as usize
 }
 
-/// Sets to 1, in `words[o]` for each output o with bit o in `outs`, the bits that are 1 in
-/// `points`.
+/// Sets to 1 the bits that are 1 in `points`, in `words[o]` for each output o of the set with the
+/// mask `outs`. All other bits stay.
 #[inline(always)]
 fn add_points(words: &mut [u64; 16], outs: u16, points: u64)
     ensures { (o : ℕ) → o < 16 →
@@ -79,9 +80,9 @@ fn add_points(words: &mut [u64; 16], outs: u16, points: u64)
     }
 }
 
-/// Whether the term may be 1 at a point of group `group`, which has the words 32 * group to 32 *
-/// group + 31 of a table: its literals of the variables 11 to 15 hold there. All points of a group
-/// have the same values of these variables.
+/// Whether the term's literals of the variables 11 to 15 hold in group `group`, the 32 words from
+/// word 32 * group on of a packed truth table. All points of a group have the same values of these
+/// variables. If false, the term is 0 in the whole group. Requires `group` to be below 32.
 fn may_hold(term: &Term, group: usize) -> bool
     requires { group < 32 }
     ensures { IsFalse result → (place : ℕ) → place < 32 →
@@ -90,8 +91,10 @@ fn may_hold(term: &Term, group: usize) -> bool
     group & (term.care >> 11) as usize == (term.value >> 11) as usize
 }
 
-/// Sets to 1 the bits of the points of group `group` at which the term is 1, in the tables of the
-/// term's outputs. `words[place][o]` is word 32 * group + place in the table of output o.
+/// Sets to 1 the bits of the points at which the term is 1, in the tables of the term's outputs,
+/// for group `group`: the 32 words from word 32 * group on of each packed table. All other bits
+/// stay. Entry [p][o] of `words` is word p of the group in the table of output o. Requires `group`
+/// to be below 32.
 fn add_term(words: &mut GroupWords, term: &Term, group: usize)
     requires { group < 32 }
     ensures { (place : ℕ) → place < 32 →
@@ -106,8 +109,9 @@ fn add_term(words: &mut GroupWords, term: &Term, group: usize)
     }
 }
 
-/// Makes the words of group `group`: entry [place][o] is word 32 * group + place in the table of
-/// output o. Terms that are 0 in the whole group are not evaluated word by word.
+/// Makes group `group` of the packed tables of 16 outputs from `terms`, the terms of all of them.
+/// The group is the 32 words from word 32 * group on of each table. Entry [p][o] of the result is
+/// word p of the group in the table of output o. Requires `group` to be below 32.
 fn group_words(terms: &[Term], group: usize) -> GroupWords
     requires { group < 32 }
     ensures { AreGroupWords terms.now group result }
@@ -122,7 +126,7 @@ fn group_words(terms: &[Term], group: usize) -> GroupWords
 }
 
 /// A mask of the bits of a word that stand for points of n variables: the lowest 2^n bits, or all
-/// 64 if n is 6 or more.
+/// 64 if n is 6 or more. Requires n to be at most 16.
 pub(crate) fn points_mask(n: u8) -> u64
     requires { n ≤ 16 }
     ensures { (b : ℕ) → b < 64 → (bit_at result b == 1) ≡ nat_lt b (2 ^ n) }
@@ -134,9 +138,10 @@ pub(crate) fn points_mask(n: u8) -> u64
     }
 }
 
-/// Makes the packed tables of m outputs, one after the other, each of `size` words. Entry [g][p][o]
-/// of `groups` is word 32 g + p in the table of output o. Of each word only the bits of `mask` are
-/// kept.
+/// The packed tables of m outputs, one after the other, each of `size` words. Entry [g][p][o] of
+/// `groups` is word 32 * g + p in the table of output o. Of each word only the bits of `mask` are
+/// kept. Requires m to be at most 16, `size` to be from 1 to 1024, and `groups` to have all these
+/// words.
 fn lay_out(
     alloc: Global,
     m: u8,
@@ -161,7 +166,8 @@ fn lay_out(
     Ok(words)
 }
 
-/// How many groups a table of `size` words has.
+/// How many groups of 32 words a table of `size` words, at most 1024, has. The last one may have
+/// fewer words.
 fn groups_of(size: usize) -> usize
     requires { size ≤ 1024 }
     ensures { result ≡ (size + 31) / 32 }
@@ -172,14 +178,17 @@ fn groups_of(size: usize) -> usize
 /// How many terms, summed over its groups, a thread has to evaluate to be worth its start.
 const TERMS_WORTH_A_THREAD: usize = 8_192;
 
-/// The least number of groups that a thread has to take to be worth its start, if `terms` terms are
-/// evaluated for each group. It may be 0.
+/// The least number of groups of 32 words that a thread takes, if `terms` terms are evaluated for
+/// each group: `TERMS_WORTH_A_THREAD`, which is 8,192, divided by `terms`, rounded down. For no
+/// term it is 8,192.
 fn least_groups(terms: usize) -> usize {
     TERMS_WORTH_A_THREAD / terms.max(1)
 }
 
-/// Makes the packed truth tables of m outputs, which product terms of n inputs give, one table
-/// after the other. Threads share the groups of words.
+/// The packed truth tables of m outputs over n inputs, one after the other. An output is the
+/// disjunction of those of `terms` that belong to it. The threads of `rt` share the work. Requires
+/// n and m to be from 1 to 16, and terms that have literals of these inputs only and belong to
+/// these outputs only.
 pub(crate) fn packed_words<R: Threads + Sync>(
     rt: &R,
     alloc: Global,
@@ -212,8 +221,9 @@ pub(crate) fn packed_words<R: Threads + Sync>(
     Ok(words)
 }
 
-/// Makes the words of the groups 0 to `count` - 1, by the calling thread. Group g has the words 32
-/// g to 32 g + 31 of each table.
+/// Makes the groups 0 to `count` - 1 of the packed tables of 16 outputs from `terms`, the terms of
+/// all of them, by the calling thread. Entry [g][p][o] of the result is word 32 * g + p in the
+/// table of output o. Requires `count` to be at most 32.
 fn groups_alone(alloc: Global, terms: &[Term], count: usize) -> Result<Vec<GroupWords>, AllocError>
     requires { count ≤ 32 }
     ensures long { IfOk result (λ v. length v.items ≡ count) }
@@ -227,8 +237,7 @@ fn groups_alone(alloc: Global, terms: &[Term], count: usize) -> Result<Vec<Group
     Ok(groups)
 }
 
-/// Makes the packed truth tables of a cover's outputs, one table after the other, by the calling
-/// thread.
+/// The packed truth tables of a cover's outputs, one after the other, made by the calling thread.
 pub fn cover_words(alloc: Global, cover: &Cover) -> Result<Vec<u64>, AllocError>
     ensures packed { IfOk result (λ v. IsPacked cover.now.inputs cover.now.outputs v.items) }
     ensures tables { IfOk result (λ v. AreTablesOf cover.now

@@ -55,6 +55,7 @@ impl Model for ClosedStore {
 }
 
 impl Drop for ClosedStore {
+    /// Frees the memory of the closed store's words.
     fn drop(self) {
         let (closed, _) = self.take_apart();
         closed.free();
@@ -62,9 +63,10 @@ impl Drop for ClosedStore {
 }
 
 impl ClosedStore {
-    /// Makes the reduced diagram, under the store's order, of its functions, from their published
-    /// roots and the nodes that the roots reach. The error gives the closed store back, with the
-    /// reason: the least output whose root was not published, or `OutOfMemory`.
+    /// Makes the reduced diagram of the store's functions, under the store's order: the nodes that
+    /// the published roots of the outputs reach. Err gives the closed store back unchanged, with
+    /// the reason: `MissingRoot` with the least output whose root was not published, or
+    /// `OutOfMemory`.
     pub fn diagram(self, alloc: Global) -> Result<Diagram, (ClosedStore, CloseFault)>
         ensures roots { OnOk result (HasAllRoots self) }
         ensures order { IfOk result (λ d. d.order ≡ order_of self.plan) }
@@ -89,7 +91,8 @@ impl ClosedStore {
         Ok(Diagram::new(order, reached.nodes, reached.roots))
     }
 
-    /// Takes the closed store apart and returns its words and the order of its variables.
+    /// Takes the closed store apart and returns its words, which are not freed, and the order of
+    /// its variables.
     fn take_apart(self) -> (Closed<(), Global>, Order)
         ensures slots { slots_len result.0.slots ≡ 0 }
         ensures order { result.1 ≡ order_of self.plan }
@@ -105,8 +108,8 @@ impl ClosedStore {
         (closed, order)
     }
 
-    /// The ids of the roots, by rising output. The error is the least output whose root was not
-    /// published, or `OutOfMemory`.
+    /// The ids of the roots of the outputs, by rising output. Err is `MissingRoot` with the least
+    /// output whose root was not published, or `OutOfMemory`.
     fn root_ids(&self, alloc: Global) -> Result<Vec<u32>, CloseFault>
         ensures roots { OnOk result (HasAllRoots self.now) }
         ensures ids { IfOk result
@@ -129,7 +132,7 @@ impl ClosedStore {
     }
 
     /// The word of the root of output `output`: 0 if the root was not published, else the root's id
-    /// plus 1.
+    /// plus 1. Requires `output` to be below the number of outputs.
     fn root_word(&self, output: u8) -> u64
         requires { output < roots_count self.now.plan }
         ensures is { result ≡ root_word self.now output }

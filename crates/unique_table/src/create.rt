@@ -21,21 +21,22 @@ const MOST_WORDS: usize = NODE_PLACES + CACHE_PLACES + 1_024 + 16;
 /// The words of an empty store, all 0. No page of memory is made for them while they are only read.
 static BLANK: [u64; MOST_WORDS] = [0; MOST_WORDS];
 
-/// How many places for nodes a store has.
+/// The number of places for nodes of each store: 262,144.
 pub(crate) fn node_places() -> usize
     ensures { result ≡ 262144 }
 {
     NODE_PLACES
 }
 
-/// How many places for results of operations a store has.
+/// The number of places for results of operations of each store: 65,536.
 pub(crate) fn cache_places() -> usize
     ensures { result ≡ 65536 }
 {
     CACHE_PLACES
 }
 
-/// The first `count` words of an empty store, all 0.
+/// The first `count` words of an empty store, all 0. Requires `count` to be at most 328,720, the
+/// number of words of the largest store.
 pub(crate) fn blank_words(count: usize) -> &'static [u64]
     requires { count ≤ 328720 }
     ensures { result.now ≡ replicate count 0 }
@@ -43,7 +44,9 @@ pub(crate) fn blank_words(count: usize) -> &'static [u64]
     &BLANK[..count]
 }
 
-/// The kind of parts that a store's plan has if its caller gives `pieces`. Terms are copied.
+/// How the outputs of a store are split into parts. For `Pieces::Tables` each part is an output
+/// with its top two variables fixed (if it has one variable, that one). For `Pieces::Terms` each
+/// part is a disjunction of some of an output's terms; the result has a copy of the list of terms.
 pub(crate) fn kind_of(alloc: Global, pieces: Pieces<'_>) -> Result<PieceKind, AllocError>
     ensures { IfOk result (λ kind. IsKind kind pieces.entry) }
 {
@@ -58,8 +61,8 @@ pub(crate) fn kind_of(alloc: Global, pieces: Pieces<'_>) -> Result<PieceKind, Al
     }
 }
 
-/// The number of assignments to the top two variables of an order: 4, or 2 if the order has only
-/// one variable.
+/// The number of assignments to the top two variables of `order`: 4, or 2 if it has only one
+/// variable.
 fn top_assignments(order: &Order) -> usize
     ensures is { result ≡ top_assignments order.now }
     ensures few { result ≤ 4 }
@@ -67,9 +70,10 @@ fn top_assignments(order: &Order) -> usize
     if order.len() < 2 { 2 } else { 4 }
 }
 
-/// How many parts the `outputs` outputs of a store have together. By `kind`, the parts of an output
-/// are its cofactors by the top two variables of `order` (by the only one if there is no other), or
-/// `TERM_SHARES` disjunctions of its terms.
+/// The number of parts that `outputs` outputs have together. For `PieceKind::Restrictions` each
+/// output has 4 parts, one for each assignment to the top two variables of `order`, or 2 parts if
+/// `order` has one variable. For `PieceKind::Products` each output has 64 parts, disjunctions of
+/// its terms. Requires `outputs` to be at most 16.
 pub(crate) fn parts_count(kind: &PieceKind, order: &Order, outputs: u8) -> usize
     requires { outputs ≤ 16 }
     ensures is { (t : TruthTables) → outputs ≡ outputs_of t →

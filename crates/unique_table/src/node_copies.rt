@@ -11,8 +11,9 @@ use node_words::node_parts;
 use order_model::{Node, Ref, VarIx};
 use std::alloc::{AllocError, Global};
 
-/// The word of node place `place` of a closed table: a node's word, or 0 if the place is empty. The
-/// table's first `places` words are those of its node places. Requires that no word is missing.
+/// The word of node place `place` of a closed table: its node's word, or 0 if the place is empty.
+/// The table's first `places` words are those of its node places, and `place` is below `places`.
+/// Requires that no word was taken out of the table.
 fn word_at(closed: &Closed<(), Global>, places: usize, place: usize) -> u64
     requires full { IsFull closed.now.words }
     requires places { places ≤ slots_len closed.now.words }
@@ -22,8 +23,10 @@ fn word_at(closed: &Closed<(), Global>, places: usize, place: usize) -> u64
     closed.word(place)
 }
 
-/// Appends `node`, the copy of the store's node at place `place`, to `nodes`, and returns the ref
-/// to it. Sets the number of `place` in `numbers` to the copy's index in `nodes` plus 1.
+/// Appends `node`, the copy of the store's node at place `place`, to `nodes`, and sets the number
+/// of `place` in `numbers` to the copy's index in `nodes` plus 1. Returns the ref to the copy.
+/// Requires `numbers` to have the place, and `nodes` fewer than 2^20 nodes. After an error `nodes`
+/// may have the copy, without a number.
 fn add(
     numbers: &mut Numbers,
     nodes: &mut Vec<Node>,
@@ -44,12 +47,12 @@ fn add(
     Ok(Ref::Place(copied))
 }
 
-/// Copies the node with id `id` and all nodes that it reaches to the end of `nodes`, children
-/// first, and returns the ref to the copy of the node. A terminal's id gives the terminal. Nodes
-/// that have a copy are not copied again: `numbers` has for each place of the store 0, or the index
-/// of the copy in `nodes` plus 1, and gets those of the new copies. The first `places` words of
-/// `closed` are those of the node places, 0 where a place is empty, and `order` has the variable of
-/// each level.
+/// Copies the node with the id `id` and all nodes that it reaches to the end of `nodes`, children
+/// first, and returns the ref to its copy, or to the terminal for ids 0 and 1. `numbers` has for
+/// each of the `places` node places 0, or 1 plus the index in `nodes` of its copy, which isn't made
+/// again; it gains the new copies. `closed` begins with the words of these places, and `order[l]`
+/// is the variable of level l. Requires `id` to be 0, 1, or 2 plus a filled place. After an error a
+/// part of the copies may have been made.
 pub(crate) fn copy(
     closed: &Closed<(), Global>,
     places: usize,

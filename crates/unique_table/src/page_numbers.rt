@@ -35,9 +35,11 @@ impl Model for Numbers {
         × (n.places ≤ length n.pages.items * 64) };
 }
 
-/// Returns the index of the page that has the places from 64 * `part` to 64 * `part` + 63. If these
-/// places have the shared page of zeros, a new page of zeros is first appended to `numbers` for
-/// them, and entered in `pages`. The number of each place stays.
+/// Gives the places from 64 * `part` to 64 * `part` + 63 a page of their own if they have none, and
+/// returns its number. Page p is the 64 entries of `numbers` from 64 * p on. `pages[part]` is the
+/// page of these places, at first 0, which is a page of zeros that places share. A new page is
+/// appended, with zeros, so that no place's number changes, even if memory is refused. Requires
+/// `part` to be an index of `pages`.
 fn open_page(
     pages: &mut Vec<usize>,
     numbers: &mut Vec<u32>,
@@ -62,7 +64,7 @@ fn open_page(
 }
 
 impl Numbers {
-    /// The number 0 for each of `places` places.
+    /// Numbers for `places` places, each 0.
     pub fn zeros(alloc: Global, places: usize) -> Result<Numbers, AllocError>
         ensures { IfOk result (λ n. n ≡ replicate places 0) }
     {
@@ -73,7 +75,8 @@ impl Numbers {
         })
     }
 
-    /// The number of the place `place`: 0 if none was set.
+    /// The number of place `place`, 0 if none was set. Requires `place` to be below the number of
+    /// places.
     pub fn get(&self, place: usize) -> u32
         requires { place < length self.now }
         ensures { result ≡ slice_index self.now place }
@@ -81,7 +84,8 @@ impl Numbers {
         self.numbers[self.pages[place / PAGE] * PAGE + place % PAGE]
     }
 
-    /// Sets the number of `place` to `number`.
+    /// Sets the number of place `place` to `number`; after an error all numbers are as before.
+    /// Requires `place` to be below the number of places.
     pub fn set(&mut self, place: usize, number: u32) -> Result<(), AllocError>
         requires { place < length self.old }
         ensures many { length self.new ≡ length self.old }

@@ -20,8 +20,11 @@ pub(crate) struct Reached {
     pub roots: Vec<Ref>,
 }
 
-/// Makes the reduced diagram, under `order`, of the functions that `ids` denote, with one root per
-/// id. The first `places` words of the closed table are node words.
+/// Makes the reduced diagram, under `order`, of the functions that `ids` denote: its nodes, each
+/// after its children, and one root per id, in the order of the ids. The first `places` words of
+/// `closed`, fewer than 2^20, are those of the node places: the word of a node under `order`, or 0
+/// if the place is empty. Requires that no two places have equal nodes, and that each id is 0 or 1,
+/// a terminal, or 2 plus a place that isn't empty.
 pub(crate) fn reached_nodes(
     alloc: Global,
     closed: &Closed<(), Global>,

@@ -58,9 +58,10 @@ impl Model for Store {
 pub struct StoreFull;
 
 impl Store {
-    /// An empty store for the functions of a problem under an order, and its first session, which
-    /// has the whole stake. `pieces` says what the parts of outputs are. If `pieces` has terms,
-    /// requires these terms to give the problem's functions.
+    /// Makes an empty store for the functions of `problem` under `order`, and its first session.
+    /// `pieces` says how outputs are split into parts: by fixing the top two variables (if there is
+    /// one, that one), or into disjunctions of terms. Requires `order` to have the variables of
+    /// `problem`, and terms, if `pieces` has them, to give its functions.
     pub fn new(
         alloc: Global,
         order: Order,
@@ -110,7 +111,7 @@ impl Store {
         &self.order
     }
 
-    /// How many pieces the store has: parts of outputs, and then the outputs.
+    /// The number of the store's pieces, which are the parts of all outputs and then the outputs.
     pub fn pieces(&self) -> usize
         ensures value { result ≡ self.now.plan.pieces }
         ensures plan { IsPlan self.now.plan }
@@ -118,8 +119,8 @@ impl Store {
         self.pieces
     }
 
-    /// How many pieces are parts of outputs. The outputs are the pieces after these, so this is
-    /// also the piece number of output 0.
+    /// The number of pieces that are parts of outputs. The outputs are the pieces after these, so
+    /// this is also the number of the piece that is output 0.
     pub fn roots(&self) -> usize
         ensures value { result ≡ self.now.plan.roots }
         ensures plan { IsPlan self.now.plan }
@@ -127,7 +128,7 @@ impl Store {
         self.roots
     }
 
-    /// How many places the operation cache has.
+    /// The number of places of the operation cache.
     pub fn cache_places(&self) -> usize
         ensures value { result ≡ self.now.plan.entries }
         ensures plan { IsPlan self.now.plan }
@@ -135,11 +136,11 @@ impl Store {
         self.entries
     }
 
-    /// States what holds of each session of the store, and does nothing. No two of the node words
-    /// that the session knows are equal, so two ids are equal if they denote the same function. The
-    /// level of each id is at most the number of levels, which is the level of the terminals. If
-    /// the session is the store's only one, each node that it knows was made by it or by a session
-    /// that it was split or joined from.
+    /// Law: no two node words that `session` knows are equal, so ids that it knows are equal if
+    /// they denote the same function. The level of each of these ids is at most the number of
+    /// levels, which is the level of the terminals. If the session is the store's only one, each
+    /// node that it knows was made by it or by a session that it was split or joined from. Requires
+    /// `session` to be one of this store's. The call does nothing.
     pub fn canonical_ids(&self, session: &Session)
         requires { session.now.store ≡ self.now }
         ensures unique { HasUniqueIds session.now }
@@ -153,10 +154,12 @@ impl Store {
         let _seat = &session.seat;
     }
 
-    /// Returns the id of the node of `level` with the children `low` and `high`, after putting the
-    /// node into the store if it isn't there. If both children are equal, returns the child itself.
-    /// Requires the session to know both children, and both to lie below `level`. `StoreFull` if
-    /// every place is taken. Makes at most two atomic steps per place.
+    /// Returns the id of the node of `level`, counted from 0 at the top, with the children `low`
+    /// and `high`; puts the node into the store if it isn't there, and `session` then knows it. If
+    /// both children are equal, returns the child itself. Requires `level` to be below the number
+    /// of variables, and `session`, one of this store's, to know both children, which lie below
+    /// `level`. Err, and nothing is written, if each node place is taken by another node. Makes at
+    /// most two atomic steps per node place.
     pub fn make(
         &self,
         session: &mut Session,
@@ -185,8 +188,9 @@ impl Store {
         Ok(place as u32 + 2)
     }
 
-    /// Looks up the level and the children of the node with id `id`; `session` knows the children
-    /// from then on. None for a terminal. Makes at most one atomic step.
+    /// Looks up the level and the children of the node with the id `id`, which `session`, one of
+    /// this store's, must know; it knows the children from then on. None for a terminal. Makes at
+    /// most one atomic step.
     pub fn node(&self, session: &mut Session, id: NodeId) -> Option<NodeParts>
         requires session { session.old.store ≡ self.now }
         requires known { Knows session.old id }
@@ -206,9 +210,10 @@ impl Store {
         Some(node_parts(word))
     }
 
-    /// Looks up the operation cache: returns the id that cache place `place` holds as the result of
-    /// `operation` on `first` and `second`. None if the place is empty or holds another result.
-    /// Makes one atomic step.
+    /// Looks in place `place` of the operation cache for the result of `operation` on the functions
+    /// of `first` and `second`, and returns its id, which `session` then knows. None if the place
+    /// is empty or has another result. Requires `place` to be below `cache_places()`, and
+    /// `session`, one of this store's, to know `first` and `second`. Makes one atomic step.
     pub fn entry(
         &self,
         session: &mut Session,
@@ -235,8 +240,10 @@ impl Store {
         Some((word % (1 << 20)) as u32)
     }
 
-    /// Stores `id` in cache place `place` as the result of `operation` on `first` and `second`, in
-    /// place of what was there. Requires `id` to denote this result. Makes one atomic step.
+    /// Stores `id` in place `place` of the operation cache, over what is there, as the result of
+    /// `operation` on the functions of `first` and `second`. Requires `place` to be below
+    /// `cache_places()`, `session`, one of this store's, to know the three ids, and `id` to denote
+    /// this result. Makes one atomic step.
     pub fn set_entry(
         &self,
         session: &mut Session,
@@ -259,8 +266,9 @@ impl Store {
         words::remember(&self.table.shared, seat, at, place, word);
     }
 
-    /// Publishes `id` to all sessions as the id of piece `piece`. Requires `id` to denote the
-    /// piece's function. Makes one atomic step.
+    /// Publishes `id` to all sessions as the id of piece `piece`. If the piece was published
+    /// before, its id was the same. Requires `piece` to be below `pieces()`, `session`, one of this
+    /// store's, to know `id`, and `id` to denote the piece's function. Makes one atomic step.
     pub fn publish(&self, session: &mut Session, piece: usize, id: NodeId)
         requires session { session.old.store ≡ self.now }
         requires piece { piece < self.now.plan.pieces }
@@ -272,8 +280,9 @@ impl Store {
         words::publish(&self.table.shared, &mut session.seat, place, piece, id);
     }
 
-    /// Reads the published id of piece `piece`, which denotes the piece's function. None if no
-    /// published id is seen. Makes one atomic step.
+    /// Reads the published id of piece `piece`, which denotes the piece's function; `session` then
+    /// knows it. None if `session` sees no published id. Requires `piece` to be below `pieces()`,
+    /// and `session` to be one of this store's. Makes one atomic step.
     pub fn collect(&self, session: &mut Session, piece: usize) -> Option<NodeId>
         requires session { session.old.store ≡ self.now }
         requires piece { piece < self.now.plan.pieces }
@@ -291,9 +300,9 @@ impl Store {
         Some((word - 1) as u32)
     }
 
-    /// Splits a session in two, each of which knows what `session` knew and has half of its stake.
-    /// Makes one atomic step, which the first session counts. The first one keeps the counts of
-    /// steps and writes, and those of the second one begin at 0.
+    /// Splits `session`, one of this store's, in two. Each one knows what `session` knew, and has
+    /// half of its stake, which is its share of the store. Makes one atomic step. The first one
+    /// keeps the counts of steps and writes, with this step; those of the second one begin at 0.
     pub fn split(&self, session: Session) -> (Session, Session)
         requires { session.store ≡ self.now }
         ensures first { result.0 ≡
@@ -306,8 +315,9 @@ impl Store {
         (Session { seat }, Session { seat: other })
     }
 
-    /// Joins two sessions into one, which knows what both knew and has the sums of their stakes and
-    /// counts. Makes two atomic steps.
+    /// Joins two sessions of this store into one, which knows what both knew. Its stake, which is
+    /// its share of the store, is the sum of theirs, and so are its counts of steps and writes.
+    /// Makes two atomic steps, which are counted too.
     pub fn join(&self, one: Session, two: Session) -> Session
         requires one { one.store ≡ self.now }
         requires two { two.store ≡ self.now }
@@ -326,8 +336,8 @@ impl Store {
         Session { seat }
     }
 
-    /// Closes the store, and uses up `session`, which is one of its sessions. No word changes from
-    /// then on. Other sessions may have published roots that `session` doesn't know of.
+    /// Closes the store, so that no word changes any more, and uses up `session`, one of its
+    /// sessions. Other sessions may have published roots that `session` doesn't know of.
     pub fn into_closed(self, session: Session) -> ClosedStore
         requires { session.store ≡ self }
         ensures plan { result.plan ≡ self.plan }
@@ -349,9 +359,11 @@ impl Store {
         }
     }
 
-    /// Closes the store and makes the reduced diagram of its functions: their published roots and
-    /// the nodes that the roots reach. The error gives the closed store, and the reason why there
-    /// is no diagram. Other sessions may have published roots that `session` doesn't know of.
+    /// Closes the store by `session`, one of its sessions, and makes the reduced diagram of its
+    /// functions: the nodes that the published roots of the outputs reach. Roots count that other
+    /// sessions published, even if `session` doesn't know of them. Err gives the closed store and
+    /// the reason: `MissingRoot` with the least output whose root was not published, or
+    /// `OutOfMemory`.
     pub fn close(
         self,
         alloc: Global,

@@ -19,7 +19,9 @@ use node_words::{probe, start};
 /// The words of a store as its sessions share them.
 type SharedWords = Shared<(), View, Plan, Words>;
 
-/// Loads the node word at `place`, 0 if the place is empty. The seat knows this word from then on.
+/// Loads the word of node place `place`: its node's word, or 0 if the place is empty. The seat
+/// knows this word from then on. Requires `seat` to be a seat of `shared`, and `place` to be below
+/// the number of node places.
 pub(crate) fn look(shared: &SharedWords, seat: &mut Seat<(), View>, place: usize) -> u64
     requires seat { IsSeatOf shared.now seat.old }
     requires place { IsNodePlace shared.now place }
@@ -29,9 +31,10 @@ pub(crate) fn look(shared: &SharedWords, seat: &mut Seat<(), View>, place: usize
     shared.load::<Looks>(seat, place)
 }
 
-/// Stores the node word `word` at `place` if the place is empty, and returns the word that was
-/// there before: 0 if the place was empty. Requires `place` to be the next place in the search for
-/// `word`.
+/// Stores the node word `word` at node place `place` if that is empty, and returns the word that
+/// was there before, 0 if empty. The seat then knows the place's word. Requires `seat`, a seat of
+/// `shared`, to know the children of the node. Requires `place` to be one that the search for
+/// `word` comes to, and the seat to have seen other nodes at all places before it in the search.
 fn put(shared: &SharedWords, seat: &mut Seat<(), View>, place: usize, word: u64) -> u64
     requires { MayPut shared.now seat.old word place }
     ensures seat { IsSeatOf shared.now seat.new }
@@ -44,8 +47,10 @@ fn put(shared: &SharedWords, seat: &mut Seat<(), View>, place: usize, word: u64)
     shared.compare_exchange::<Puts>(seat, place, 0, word)
 }
 
-/// Stores the node word `word` at `place` if the place is empty. Returns whether the place has
-/// `word` then. Requires `place` to be the next place in the search for `word`.
+/// Stores the node word `word` at node place `place` if that is empty. Returns whether the place
+/// then has `word`; the seat knows the place's word from then on. Requires `seat`, a seat of
+/// `shared`, to know the children of the node. Requires `place` to be one that the search for
+/// `word` comes to, and the seat to have seen other nodes at all places before it in the search.
 pub(crate) fn take(shared: &SharedWords, seat: &mut Seat<(), View>, place: usize, word: u64) -> bool
     requires { MayPut shared.now seat.old word place }
     ensures searches { Searches shared.now seat.old seat.new word 2 }
@@ -61,8 +66,10 @@ pub(crate) fn take(shared: &SharedWords, seat: &mut Seat<(), View>, place: usize
     found == 0 || found == word
 }
 
-/// Stores `id` plus 1 as the word of piece `piece`, which has the index `place` among the store's
-/// words. Requires `id` to denote the piece's function.
+/// Stores `id` plus 1 as the word of piece `piece`; the seat then knows it. Requires `piece` to be
+/// below the number of pieces, and `place` to be this word's index among the store's words: `piece`
+/// plus the numbers of node places and of cache entries. Requires `seat`, a seat of `shared`, to
+/// know `id`, and `id` to denote the piece's function.
 pub(crate) fn publish(
     shared: &SharedWords,
     seat: &mut Seat<(), View>,
@@ -81,8 +88,10 @@ pub(crate) fn publish(
     shared.store::<Publishes>(seat, place, u64::from(id) + 1);
 }
 
-/// Loads the word of piece `piece`, which has the index `place` among the store's words. It is 0
-/// until the id of the piece's function is published, then this id plus 1.
+/// Loads the word of piece `piece`, which the seat then knows: 0 if it sees no published id, else
+/// the id of the piece's function plus 1. Requires `seat` to be a seat of `shared`, `piece` to be
+/// below the number of pieces, and `place` to be this word's index among the store's words: `piece`
+/// plus the numbers of node places and of cache entries.
 pub(crate) fn collect(
     shared: &SharedWords,
     seat: &mut Seat<(), View>,
@@ -97,9 +106,10 @@ pub(crate) fn collect(
     shared.load::<Collects>(seat, place)
 }
 
-/// Loads the word of entry `entry` of the operation cache, which has the index `place` among the
-/// store's words. It is 0 if the entry is empty, else has an operation, its two operands, and the
-/// id of its result.
+/// Loads the word of entry `entry` of the operation cache: 0 if the entry is empty, else an
+/// operation, its two operands, and the id of its result, all of which the seat then knows.
+/// Requires `seat` to be a seat of `shared`, `entry` to be below the number of entries, and `place`
+/// to be this word's index among the store's words: `entry` plus the number of node places.
 pub(crate) fn recall(
     shared: &SharedWords,
     seat: &mut Seat<(), View>,
@@ -114,8 +124,10 @@ pub(crate) fn recall(
     shared.load::<Recalls>(seat, place)
 }
 
-/// Stores `word` in entry `entry` of the operation cache, which has the index `place` among the
-/// store's words. Requires `word` to have an operation, its two operands, and the id of its result.
+/// Stores `word` in entry `entry` of the operation cache. The seat makes one atomic step and learns
+/// nothing. Requires `entry` to be below the number of entries, and `place` to be the entry's index
+/// among the store's words: `entry` plus the number of node places. Requires `word` to have an
+/// operation, its two operands, and the id of its result, all known to `seat`, a seat of `shared`.
 pub(crate) fn remember(
     shared: &SharedWords,
     seat: &mut Seat<(), View>,
@@ -131,9 +143,11 @@ pub(crate) fn remember(
     shared.store::<Remembers>(seat, place, word);
 }
 
-/// Searches the store's `places` places for the node word `word`, and stores it at the first empty
-/// place that the search comes to if it wasn't found before. Returns the place that has the word
-/// then. None if each of the places is taken by another word.
+/// Searches the node places for the node word `word`, and stores it at the first empty place that
+/// the search comes to if it isn't found before. Returns the place that then has the word, which
+/// the seat then knows. None, and nothing is written, if each place has another word. Requires
+/// `places` to be the store's number of node places, from 1 to 2^32 - 1, and `seat`, a seat of
+/// `shared`, to know the children of the node.
 pub(crate) fn find_or_put(
     shared: &SharedWords,
     seat: &mut Seat<(), View>,
