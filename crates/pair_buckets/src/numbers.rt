@@ -30,8 +30,9 @@ impl Numbered {
     }
 }
 
-/// The index of the entry of pair j in which variable x is 0, in the class table of a set without
-/// variables below x.
+/// In the class table of a set that has neither x nor a variable below x, the index of the first
+/// entry of pair j, that where x is 0. A pair is two entries that differ in x alone. Requires j,
+/// counted from 0, to be below 2^32.
 #[inline(always)]
 fn low_place(x: VarIx, j: usize) -> usize
     requires variable { x < 16 }
@@ -42,9 +43,9 @@ fn low_place(x: VarIx, j: usize) -> usize
     2 * j - (j & below)
 }
 
-/// Pair j of the class table `numbers`: the class number in the entry where variable x is 0, and
-/// that where x is 1, of the entries that agree otherwise. Entries of a pair stand 2^x apart,
-/// because the table's set has no variable below x.
+/// Pair j, counted from 0, of the class table `numbers`: the class numbers of two entries that
+/// differ in x alone, that where x is 0 first. Requires the table's set to have neither x nor a
+/// variable below x, and j to be below half the number of entries.
 #[inline(always)]
 pub fn pair_at(numbers: &[u32], x: VarIx, j: usize) -> (u32, u32)
     requires paired { IsPaired numbers.now x }
@@ -59,8 +60,9 @@ pub fn pair_at(numbers: &[u32], x: VarIx, j: usize) -> (u32, u32)
 /// The odd multiplier of the hash: its multiples spread over the words of 32 bits.
 const SPREAD: u32 = 2_654_435_761;
 
-/// How many buckets `pairs` pairs get whose class numbers are below `classes`: the smaller of
-/// `pairs + 1` and `classes * classes`, but at least 1, rounded up to a power of two.
+/// The number of buckets for `pairs` pairs of class numbers below `classes`: the smaller of
+/// `pairs + 1` and `classes * classes`, but at least 1, rounded up to a power of two. Requires both
+/// arguments to be at most 2^20.
 fn buckets_for(pairs: usize, classes: usize) -> usize
     requires pairs { pairs ≤ 2 ^ 20 }
     requires classes { classes ≤ 2 ^ 20 }
@@ -72,7 +74,7 @@ fn buckets_for(pairs: usize, classes: usize) -> usize
 
 /// The factor by which the first class number of a pair is multiplied to find the pair's bucket. It
 /// is `classes`, the number of classes, if there are at least `classes * classes` buckets, so that
-/// each pair has its own. Else it is `SPREAD`.
+/// each pair has its own. Else it is `SPREAD`. Requires at most 2^20 classes.
 fn factor_for(buckets: usize, classes: usize) -> u32
     requires { classes ≤ 2 ^ 20 }
 {
@@ -83,9 +85,9 @@ fn factor_for(buckets: usize, classes: usize) -> u32
     }
 }
 
-/// Replaces `joined` by a list of masks. Its entry k is the mask of the pair of classes with number
-/// k: that of the function whose cofactors by x = 0 and x = 1 are the two classes. Entry c of
-/// `masks` is the mask of class c.
+/// Overwrites `joined`: entry k becomes the mask of the function whose cofactors by x = 0 and x = 1
+/// are the two classes of pair k. `masks[c]` has, for each class c, the variables on which it
+/// depends. Requires x to be below 16. If memory is refused, `joined` has no meaning.
 fn fill_masks(
     pairs: &PairNumbers,
     x: VarIx,
@@ -107,7 +109,8 @@ fn fill_masks(
     Ok(())
 }
 
-/// Whether `numbers` is 0, 1, 2 and so on. If so, no two entries of the class table are equal.
+/// Whether `numbers` is 0, 1, 2 and so on. If it is a class table, no two of its entries are then
+/// equal.
 pub fn are_own(numbers: &[u32]) -> bool
     ensures { IsTrue result → AreOwn numbers.now }
 {
@@ -119,10 +122,11 @@ pub fn are_own(numbers: &[u32]) -> bool
     true
 }
 
-/// Writes to `to`, in place of what it has, the numbers of a class table's pairs and the mask of
-/// each number. Requires all entries of the table to be different: no two pairs are then equal, and
-/// pair j gets the number j. The entries of a pair differ in x. Entry c of `masks` is the mask of
-/// class c.
+/// Overwrites `to` with the numbers of the pairs of entries of the class table `numbers` that
+/// differ in x alone, which are 0, 1, 2 and so on, and for each pair the mask of the function whose
+/// cofactors are the pair. Requires all entries of `numbers` to be different, and the table's set
+/// to have neither x nor a variable below x. `masks[c]` has the variables on which class c depends.
+/// If memory is refused, `to` has no meaning.
 fn number_distinct_pairs(
     numbers: &[u32],
     x: VarIx,
@@ -145,10 +149,11 @@ fn number_distinct_pairs(
     Ok(())
 }
 
-/// Writes to `to`, in place of what it has, the number of each pair of a class table, by first
-/// occurrence, and the mask of each number. The entries of a pair have x = 0 and x = 1; the table's
-/// set has neither x nor a variable below it. Entry c of `masks` is the mask of class c. `seen` is
-/// working memory, and may have any pairs before.
+/// Overwrites `to`: numbers by first occurrence the pairs of entries of the class table `numbers`
+/// that differ in x alone, and writes the number of each pair, and for each number the mask of the
+/// function whose cofactors are the pair. Requires the table's set to have neither x nor a variable
+/// below x. `masks[c]` has the variables on which class c depends. `seen` is working memory; what
+/// it holds before doesn't matter. If memory is refused, `to` has no meaning.
 pub fn number_pairs(
     numbers: &[u32],
     x: VarIx,
@@ -178,9 +183,10 @@ pub fn number_pairs(
     Ok(())
 }
 
-/// The number of each pair of a class table, by first occurrence, and the mask of each number. The
-/// entries of a pair have x = 0 and x = 1; the table's set has neither x nor a variable below it.
-/// Entry c of `masks` is the mask of class c.
+/// Numbers by first occurrence the pairs of entries of the class table `numbers` that differ in x
+/// alone: the number of each pair, and for each number the mask of the function whose cofactors are
+/// the pair. Requires the table's set to have neither x nor a variable below x. `masks[c]` has the
+/// variables on which class c depends.
 pub fn numbered_pairs(
     alloc: Global,
     numbers: &[u32],

@@ -54,9 +54,10 @@ fn bucket(factor: u32, buckets: usize, pair: (u32, u32)) -> usize
     key as usize & (buckets - 1)
 }
 
-/// The number of `pair`, its index in `links`. None if it was not put in. Requires `home` to be the
-/// pair's bucket, whose pairs are compared from the last one to the first. `last` has for each
-/// bucket one more than the number of its last pair, or 0 if it is empty.
+/// The index of `pair` in `links`; None if it isn't there. `last` has an entry for each bucket: one
+/// more than the index of its last pair, or 0 if it is empty. `before` in a link is one more than
+/// the index of the pair before it in its bucket, or 0 if there is none. Requires `home` to be the
+/// bucket of `pair`, found with `factor` and that number of buckets.
 #[inline(always)]
 fn find(factor: u32, links: &[Link], last: &[u32], home: usize, pair: (u32, u32)) -> Option<u32>
     requires chained { AreChainedPairs factor (pairs_of links.now) (befores_of links.now) last.now }
@@ -79,7 +80,8 @@ fn find(factor: u32, links: &[Link], last: &[u32], home: usize, pair: (u32, u32)
 }
 
 impl PairNumbers {
-    /// An empty list of pairs.
+    /// An empty list of pairs, with one bucket. Pairs may be put in at once; `restart` makes more
+    /// buckets, so that they are found faster.
     pub fn new(alloc: Global) -> Result<PairNumbers, AllocError>
         ensures { IfOk result (λ s. s ≡ []) }
     {
@@ -91,9 +93,11 @@ impl PairNumbers {
         })
     }
 
-    /// Removes all pairs, and makes `buckets` buckets and room for as many pairs. `factor` is what
-    /// the first class number of a pair is multiplied by to find the pair's bucket. All pairs are
-    /// removed even if memory is refused.
+    /// Removes all pairs, and makes `buckets` buckets and room for as many pairs. The bucket of a
+    /// pair is found from its first class number times `factor`, plus the second. Any factor and
+    /// number of buckets will do; pairs are found fastest if the number is a power of two. Requires
+    /// `buckets` to be at least 1. If memory is refused the pairs are removed, and the list can
+    /// still be used.
     pub fn restart(&mut self, factor: u32, buckets: usize) -> Result<(), AllocError>
         requires { 0 < buckets }
         ensures { self.new ≡ [] }
@@ -105,8 +109,8 @@ impl PairNumbers {
         self.links.reserve(buckets)
     }
 
-    /// Returns the number of `pair` by first occurrence, after putting the pair in if it is new. If
-    /// memory is refused nothing changes.
+    /// Puts `pair` in if it is new, and returns its number: how many pairs were put in before it.
+    /// If memory is refused nothing changes. Requires fewer than 2^20 pairs before.
     #[inline(always)]
     pub fn insert(&mut self, pair: (u32, u32)) -> Result<u32, AllocError>
         requires { length self.old < 2 ^ 20 }
@@ -134,7 +138,7 @@ impl PairNumbers {
         self.links.len()
     }
 
-    /// The pair that has the number `number`.
+    /// The pair with the number `number`, which has to be below the number of pairs.
     #[inline(always)]
     pub fn pair(&self, number: usize) -> (u32, u32)
         requires { number < length self.now }

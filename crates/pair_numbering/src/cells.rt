@@ -19,10 +19,12 @@ const MOST_NUMBERS: usize = 65_535;
 /// often be mispredicted.
 const MANY_NEW: usize = 4;
 
-/// Writes the numbers of the pairs of block number `block` to `out` and, plus one, to the pairs'
-/// cells, and the masks of new numbers to `joined`. `from` is how many numbers there were before;
-/// returns how many there are then. If `EVENLY` is true a mask is written for each pair, without a
-/// branch on whether it is new.
+/// Numbers the 2^rank pairs of block `block`, counted from 0, after those of the blocks before it,
+/// by first occurrence. `from` is how many numbers there were before; returns how many there are
+/// then. `out` and `joined` have an entry for each pair of all blocks. Of pair j, counted over all
+/// blocks, `out[j]` becomes the number, and if it is a new number k, `joined[k]` the mask of the
+/// function with these cofactors. `cells[c * n + d]`, for n classes, is 0 or one more than the
+/// number of pair (c, d). Requires `from` + 2^rank to be below 2^16. `EVENLY` affects speed only.
 #[inline(always)]
 fn number_block<const EVENLY: bool>(
     pairs: &MaskedPairs<'_>,
@@ -62,10 +64,12 @@ fn number_block<const EVENLY: bool>(
 }
 
 // The loops of `number_blocks` need all registers, so it isn't inlined.
-/// Writes the number of each pair to `out`, and the mask of each number to `joined`, one block of
-/// 2^rank pairs after another. Requires a zero in `cells` for each pair of classes. Returns how
-/// many numbers there are. None if they may be too many for cells of 16 bits: then `out` and
-/// `joined` are unfinished.
+/// Numbers the pairs of classes in `pairs` by first occurrence. Writes to `out[j]` the number of
+/// pair j, and to `joined[k]`, for each number k, the mask of the function whose cofactors are the
+/// pair. Both have an entry for each pair. Returns how many numbers there are, or None if these and
+/// the pairs of one more block could exceed `MOST_NUMBERS`: then `out` and `joined` are unfinished.
+/// `cells` is working memory with n * n entries for n classes. Requires all to be 0 before; they
+/// aren't cleared after.
 #[inline(never)]
 fn number_blocks(
     pairs: &MaskedPairs<'_>,
@@ -95,9 +99,9 @@ fn number_blocks(
     Some(count)
 }
 
-/// Numbers the pairs by first occurrence: the number of each pair, and the mask of each number.
-/// `cells` has a cell for each pair of classes; requires that all are 0 before. A pair's cell
-/// becomes one more than its number. None if there may be more numbers than a cell can hold.
+/// Numbers the pairs by first occurrence: the number of each pair, and for each number the mask of
+/// the function whose cofactors are the pair. `cells` is working memory: n * n entries for n
+/// classes, all 0 before. None if there may be more than `MOST_NUMBERS` numbers.
 pub(crate) fn number_pairs_by_cells(
     alloc: Global,
     pairs: &MaskedPairs<'_>,

@@ -25,7 +25,10 @@ struct Chains<'e, 'r> {
 }
 
 impl<'e, 'r> Chains<'e, 'r> {
-    /// The chains that `chain` wrote to `heads` and `next`.
+    /// Puts together the chains of the pairs of `entries`, one for each lower class. Requires that
+    /// `chain` has written them: `heads[c]`, for each of fewer than 2^31 classes c, is the first
+    /// pair with the lower class c, and `next[j]`, for each pair j, the pair after it with the same
+    /// lower class. Where there is none it is the number of pairs.
     #[inline(always)]
     fn of(entries: &'e EntryPairs<'e>, heads: &'r [u32], next: &'r [u32]) -> Chains<'e, 'r>
         requires few { length heads.now < 2 ^ 31 }
@@ -43,9 +46,9 @@ impl<'e, 'r> Chains<'e, 'r> {
 }
 
 /// Chains the pairs by their lower class. Writes to `heads[c]` the first pair with the lower class
-/// c, and to `next[j]` the next pair after pair j with the same lower class. The number of pairs
-/// stands for the end of a chain. Requires that all entries of `heads` are the number of pairs
-/// before.
+/// c, and to `next[j]` the next pair after pair j with the same lower class; where there is none,
+/// the number of pairs. Requires an entry of `heads` for each class, which is the number of pairs
+/// before, and an entry of `next` for each pair.
 fn chain(entries: &EntryPairs<'_>, heads: &mut [u32], next: &mut [u32])
     requires paired { IsPaired entries.now.numbers entries.now.rank }
     requires classes { AllBelow entries.now.numbers (length heads.old) }
@@ -65,7 +68,7 @@ fn chain(entries: &EntryPairs<'_>, heads: &mut [u32], next: &mut [u32])
 }
 
 /// Numbers the pairs by first occurrence: the number of each pair, and the pair of each number.
-/// `first[j]` is the least i for which pair i is equal to pair j.
+/// `first[j]` has to be, for each pair j, the least i for which pair i is equal to pair j.
 pub(crate) fn number_firsts(
     alloc: Global,
     entries: &EntryPairs<'_>,
@@ -95,9 +98,10 @@ pub(crate) fn number_firsts(
     })
 }
 
-/// For each pair j whose lower class is `lower`, writes to `first[j]` the least i for which pair i
-/// is equal to pair j. In this chain `marks[u]` is the first pair with the upper class u if
-/// `stamps[u]` is `lower + 1`; a smaller stamp is left from another chain.
+/// For each pair j with the lower class `lower`, writes to `first[j]` the least i for which pair i
+/// is equal to pair j. `first` has an entry for each pair; those of other pairs stay. `stamps` and
+/// `marks` are working memory, with an entry for each class. Each of `stamps` has to be at most
+/// `lower` before, and is at most `lower` + 1 afterwards; what `marks` holds before doesn't matter.
 #[inline(always)]
 fn walk_chain(
     chains: &Chains<'_, '_>,
@@ -131,8 +135,9 @@ fn walk_chain(
     }
 }
 
-/// For each pair j, writes to `first[j]` the least i for which pair i is equal to pair j, chain by
-/// chain. `stamps` and `marks` are working memory; requires that `stamps` is all 0 before.
+/// For each pair j, writes to `first[j]` the least i for which pair i is equal to pair j; `first`
+/// has an entry for each pair. `stamps` and `marks` are working memory, with an entry for each
+/// class; requires all `stamps` to be 0 before. What `marks` holds before doesn't matter.
 #[inline(always)]
 fn first_occurrences(
     chains: &Chains<'_, '_>,
@@ -151,8 +156,9 @@ fn first_occurrences(
 }
 
 /// For each pair j, writes to `first[j]` the least i for which pair i is equal to pair j. `heads`,
-/// `next`, `stamps` and `marks` are working memory, which may hold anything before. Requires that
-/// all classes are below the length of `heads`.
+/// `next`, `stamps` and `marks` are working memory; what they hold before doesn't matter. Requires
+/// `heads`, `stamps` and `marks` to be of one length, above each class number and below 2^31, and
+/// `next` and `first` to have an entry for each pair.
 pub fn first_pairs(
     entries: &EntryPairs<'_>,
     heads: &mut [u32],
@@ -176,8 +182,8 @@ pub fn first_pairs(
     first_occurrences(&chains, stamps, marks, first);
 }
 
-/// For each pair j the least i for which pair i is equal to pair j. Requires that all classes are
-/// below `classes`.
+/// For each pair j, at entry j, the least i for which pair i is equal to pair j. Requires all
+/// classes to be below `classes`, which is at most 2^20.
 pub(crate) fn find_first_pairs(
     alloc: Global,
     entries: &EntryPairs<'_>,

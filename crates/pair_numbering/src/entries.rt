@@ -44,8 +44,9 @@ pub(crate) struct BlockHalves<'a> {
     pub(crate) high: &'a [u32],
 }
 
-/// The numbers of the two strips of block number `block`: where the variable is 0, and where it is
-/// 1. If `names` is None, they stand side by side: strips 2 * `block` and 2 * `block` + 1.
+/// The numbers of the two strips that have the entries of block `block`, counted from 0, of the
+/// pairs: where the variable is 0, and where it is 1. They are `names[block]`, which has to exist.
+/// If `names` is None, the strips stand side by side: they are `2 * block` and `2 * block + 1`.
 #[inline(always)]
 fn strips_of(names: Option<&[(u32, u32)]>, block: usize) -> (usize, usize)
     requires named { IfSome names (λ r. block < length r.now) }
@@ -61,7 +62,8 @@ fn strips_of(names: Option<&[(u32, u32)]>, block: usize) -> (usize, usize)
     }
 }
 
-/// Strip number `name` of `numbers`, in which strips of 2^rank entries stand one behind the other.
+/// Strip number `name`, counted from 0, of `numbers`, in which strips of 2^rank entries stand one
+/// behind the other. Requires `numbers` to have this strip, and `rank` to be below 16.
 #[inline(always)]
 fn strip_at(numbers: &[u32], rank: u32, name: usize) -> &[u32]
     requires rank { rank < 16 }
@@ -76,9 +78,9 @@ fn strip_at(numbers: &[u32], rank: u32, name: usize) -> &[u32]
 }
 
 impl<'a> EntryPairs<'a> {
-    /// The pairs of entries of the table `numbers` that differ in one variable. `rank` is how many
-    /// variables outside the table's set are below that one: entry i, if bit `rank` of i is 0, is
-    /// paired with entry i + 2^rank.
+    /// The pairs of entries of the class table `numbers` that differ in one variable alone. `rank`
+    /// is how many variables outside the table's set are below that one: entry i, if bit `rank` of
+    /// i is 0, is paired with entry i + 2^rank.
     #[inline(always)]
     pub fn of_table(numbers: &'a [u32], rank: u32) -> EntryPairs<'a>
         requires { IsPaired numbers.now rank }
@@ -92,8 +94,11 @@ impl<'a> EntryPairs<'a> {
         }
     }
 
-    /// The pairs of entries of strips that stand in `numbers`, 2^bits entries each. `names` has the
-    /// numbers of two strips for each block of pairs: where the variable is 0, and where it is 1.
+    /// The pairs of entries of a class table that differ in one variable alone. The table's entries
+    /// stand in `numbers`, in strips of 2^bits entries. `names[k]` has the numbers of two strips,
+    /// whose entries are paired: where the variable is 0, and where it is 1. Requires `numbers` to
+    /// have these strips, `bits` to be below 16, and at most 2^20 entries in `numbers` and in the
+    /// table.
     #[inline(always)]
     pub(crate) fn of_strips(
         names: &'a [(u32, u32)],
@@ -114,7 +119,8 @@ impl<'a> EntryPairs<'a> {
         }
     }
 
-    /// The rank r: a block has 2^r pairs.
+    /// The rank r. Each 2^r pairs are a block: their entries where the variable is 0 stand one
+    /// behind the other, and so do those where it is 1.
     #[inline(always)]
     pub(crate) fn rank(&self) -> u32
         ensures rank { result ≡ self.now.rank }
@@ -135,7 +141,8 @@ impl<'a> EntryPairs<'a> {
         }
     }
 
-    /// The entries of the 2^rank pairs of block number `block`.
+    /// The entries of the 2^rank pairs of block `block`, counted from 0: those where the variable
+    /// is 0, and those where it is 1. Requires `block` to be below the number of blocks.
     #[inline(always)]
     pub(crate) fn block(&self, block: usize) -> BlockHalves<'a>
         requires { block < length self.now.numbers / 2 / 2 ^ self.now.rank }
@@ -153,7 +160,8 @@ impl<'a> EntryPairs<'a> {
         }
     }
 
-    /// Pair `j`: the entry where the variable is 0, and the entry where it is 1.
+    /// Pair `j`, counted from 0: the entry where the variable is 0, and the entry where it is 1.
+    /// Requires `j` to be below the number of pairs.
     #[inline(always)]
     pub fn pair(&self, j: usize) -> (u32, u32)
         requires { j < length self.now.numbers / 2 }

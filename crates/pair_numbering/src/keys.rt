@@ -29,8 +29,10 @@ pub struct PairKeys {
     pub all_used: bool,
 }
 
-/// Writes the joined number of each pair, low + base * high, to `joined`, block by block. A block
-/// has 2^rank pairs. Requires that all entries are below `base`.
+/// Writes the joined number of each pair j, low + base * high, to `joined[j]`: low is the pair's
+/// entry where the variable is 0, and high that where it is 1. Requires an entry of `joined` for
+/// each pair, `rank` to be the rank of `entries`, all entries to be below `base`, and `base` to be
+/// at most 256.
 #[inline(always)]
 fn join_blocks(entries: &EntryPairs<'_>, rank: u32, base: u32, joined: &mut [u32])
     requires rank { rank ≡ entries.now.rank }
@@ -49,9 +51,9 @@ fn join_blocks(entries: &EntryPairs<'_>, rank: u32, base: u32, joined: &mut [u32
     }
 }
 
-/// The joined number of each pair, low + base * high, block by block: low is the pair's entry where
-/// the variable is 0, and high that where it is 1. Requires that all entries are below `base`.
-/// Blocks of 1, 2, 4 and 8 pairs, which are frequent, have a loop each.
+/// The joined number of each pair j, low + base * high, at entry j: low is the pair's entry where
+/// the variable is 0, and high that where it is 1. Requires all entries to be below `base`, and
+/// `base` to be at most 256.
 fn join_keys(alloc: Global, entries: &EntryPairs<'_>, base: u32) -> Result<Vec<u32>, AllocError>
     requires below { AllBelow entries.now.numbers base }
     requires base { base ≤ 256 }
@@ -69,8 +71,9 @@ fn join_keys(alloc: Global, entries: &EntryPairs<'_>, base: u32) -> Result<Vec<u
     Ok(joined)
 }
 
-/// The mask of each joined number low + base * high, by rising number. `masks` has the mask of each
-/// class, and base is how many these are. The entries of a pair differ in the variable `x`.
+/// The mask for each joined number low + base * high, by rising number: that of the function with
+/// the cofactors low by x = 0 and high by x = 1. `masks[c]` has the variables on which class c
+/// depends, and base is the number of classes, at most 256.
 fn join_key_masks(alloc: Global, masks: &[Mask], x: VarIx) -> Result<Vec<Mask>, AllocError>
     requires variable { x < 16 }
     requires few { length masks.now ≤ 256 }
@@ -88,9 +91,11 @@ fn join_key_masks(alloc: Global, masks: &[Mask], x: VarIx) -> Result<Vec<Mask>, 
     Ok(joined)
 }
 
-/// A number for each pair, equal for equal pairs and no others, and the mask of each number. Pairs
-/// get joined numbers if there are at most `MOST_JOINED` classes, and no more joined numbers than
-/// entries, else numbers by first occurrence.
+/// Numbers the pairs, equal ones alike and others differently, and finds for each number the mask
+/// of the function whose cofactors are the pair. If there are at most `MOST_JOINED` classes, and no
+/// more pairs of classes than table entries, the number is low + classes * high: low is the class
+/// where the variable is 0, and high that where it is 1. Else pairs are numbered by first
+/// occurrence.
 pub fn label_pairs(alloc: Global, pairs: &MaskedPairs<'_>) -> Result<PairKeys, AllocError>
     ensures tells { IfOk result
         (λ v. TellsPairs pairs.now.masks.now pairs.now.x

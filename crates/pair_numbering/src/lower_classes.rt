@@ -20,9 +20,10 @@ pub(crate) struct CountedPairs<'e> {
     ghost lone: { AreLone (places.pairs entries.now.numbers (2 ^ entries.now.rank)) counts.now },
 }
 
-/// Counts the pairs of block number `block` in `counts`, each at its lower class, that of its entry
-/// where the variable is 0. A count is 0, 1, or 2 for two or more. Requires that exactly the blocks
-/// before this one are counted.
+/// Counts the 2^rank pairs of block `block`, counted from 0, by lower class, that of the entry
+/// where the variable is 0. `counts[c]` is how many pairs have the lower class c: 0, 1, or 2 for
+/// two or more. Requires an entry for each class, and that exactly the blocks before this one are
+/// counted.
 #[inline(always)]
 fn count_block(entries: &EntryPairs<'_>, block: usize, counts: &mut [u8])
     requires few { length entries.now.numbers ≤ 2 ^ 20 }
@@ -40,9 +41,9 @@ fn count_block(entries: &EntryPairs<'_>, block: usize, counts: &mut [u8])
     }
 }
 
-/// For each of the `classes` classes how many pairs have it as their lower class: 0, 1, or 2 for
-/// two or more. If there are no more classes than pairs, few classes are the lower class of one
-/// pair alone: then nothing is counted, and all counts are 0.
+/// How many pairs have each class as their lower class: entry c, for each c below `classes`, is 0,
+/// 1, or 2 for two or more. If there are no more classes than pairs, nothing is counted and all
+/// entries are 0. Requires all classes to be below `classes`.
 pub(crate) fn count_lowers(
     alloc: Global,
     entries: &EntryPairs<'_>,

@@ -12,7 +12,8 @@ use definitions::{Mask, VarIx};
 use std::alloc::{AllocError, Global};
 use subfunction_classes::join_mask;
 
-/// The pairs of a class table's entries that differ in variable `x`, and the mask of each class.
+/// The pairs of a class table's entries that differ in variable `x`. `masks` has for each class the
+/// variables that it depends on.
 #[derive(Drop)]
 pub struct MaskedPairs<'e> {
     pub entries: EntryPairs<'e>,
@@ -25,9 +26,9 @@ pub struct MaskedPairs<'e> {
 }
 
 impl<'e> MaskedPairs<'e> {
-    /// The pairs of entries of the table `numbers` by the variable `x`: entries 2^rank apart are a
-    /// pair. `rank` is how many variables outside the table's set are below `x`, and `masks` has
-    /// the mask of each class.
+    /// The pairs of entries of the class table `numbers` that differ in `x` alone. `rank` is how
+    /// many variables outside the table's set are below `x`: the entries of a pair stand 2^rank
+    /// apart. `masks[c]` has, for each class c, the variables on which it depends.
     #[inline(always)]
     pub fn of_table(numbers: &'e [u32], rank: u32, x: VarIx, masks: &'e [Mask]) -> MaskedPairs<'e>
         requires table { IsPairTable numbers.now rank (length masks.now) }
@@ -45,9 +46,11 @@ impl<'e> MaskedPairs<'e> {
         }
     }
 
-    /// The pairs of entries of strips by the variable `x`. `numbers` has the strips, 2^bits entries
-    /// each, `names` the numbers of two strips for each block of pairs, where `x` is 0 and where it
-    /// is 1, and `masks` the mask of each class.
+    /// The pairs of entries of a class table that differ in `x` alone. The table's entries stand in
+    /// `numbers`, in strips of 2^bits entries. `names[k]` has the numbers of two strips, whose
+    /// entries are paired: where `x` is 0, and where it is 1. `masks[c]` has, for each class c, the
+    /// variables on which it depends. Requires `numbers` to have these strips, `bits` to be below
+    /// 16, and at most 2^20 entries in `numbers` and in the table.
     #[inline(always)]
     pub fn of_strips(
         names: &'e [(u32, u32)],
@@ -72,7 +75,8 @@ impl<'e> MaskedPairs<'e> {
         }
     }
 
-    /// The rank r: the two entries of a pair stand 2^r apart, in a block of 2^r pairs.
+    /// The rank r. Pairs come in blocks of 2^r; in a table without strips, the two entries of a
+    /// pair stand 2^r apart.
     #[inline(always)]
     pub fn rank(&self) -> u32
         ensures rank { result ≡ self.now.entries.rank }
@@ -83,8 +87,9 @@ impl<'e> MaskedPairs<'e> {
     }
 }
 
-/// For each pair of classes in `pairs` the mask of the function that is the first class where `x`
-/// is 0, and the second where `x` is 1. `masks` has the mask of each class.
+/// For each pair of classes in `pairs` the mask of the function with these two cofactors, first
+/// that by x = 0, then that by x = 1. `masks[c]` has, for each class c, the variables on which it
+/// depends.
 pub fn join_masks(
     alloc: Global,
     pairs: &[(u32, u32)],

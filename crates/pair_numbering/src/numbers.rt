@@ -32,9 +32,8 @@ pub struct NumberedPairs {
     pub pairs: Vec<(u32, u32)>,
 }
 
-/// Numbers the pairs by first occurrence: the number of each pair, and the pair of each number. It
-/// does so by slots, or by chains if slots are crowded or too few. Requires that all classes are
-/// below `classes`.
+/// Numbers the pairs by first occurrence: the number of each pair, and the pair of each number.
+/// Requires all classes to be below `classes`, which is at most 2^20.
 pub fn number_entries(
     alloc: Global,
     entries: &EntryPairs<'_>,
@@ -53,9 +52,8 @@ pub fn number_entries(
     number_firsts(alloc, entries, &first)
 }
 
-/// Numbers the pairs by first occurrence: the number of each pair, and the mask of each number. It
-/// does so by a cell for each pair of classes if there are at most `MOST_CELLS_PER_PAIR` cells for
-/// each pair and the numbers fit into them, else by slots or chains.
+/// Numbers the pairs by first occurrence: the number of each pair, and for each number the mask of
+/// the function whose cofactors are the pair.
 pub fn number_with_masks(
     alloc: Global,
     pairs: &MaskedPairs<'_>,

@@ -20,7 +20,8 @@ const SLOTS_PER_PAIR: usize = 4;
 /// The factor of Fibonacci hashing: 2^64 divided by the golden ratio, rounded down.
 const SPREAD: u64 = 0x9E37_79B9_7F4A_7C15;
 
-/// The slot at which the search for a pair begins: a hash of the pair, below `homes`.
+/// The slot at which the search for a pair begins: a hash of the pair, below `homes`. Requires
+/// `homes` to be from 1 to 2^21.
 #[inline(always)]
 fn home(homes: usize, pair: (u32, u32)) -> usize
     requires some { 0 < homes }
@@ -33,9 +34,10 @@ fn home(homes: usize, pair: (u32, u32)) -> usize
     ((high * homes as u64) >> 32) as usize
 }
 
-/// The first of the `TRIES` slots from `home` on that has the number of `pair` or is free; None if
-/// there is none. `keys[k]` is the pair of number k for each k below `count`, and `keys[count]` is
-/// `pair` itself: a free slot is taken to have the number `count`.
+/// The index of the first slot, of the `TRIES` from index `home` on, that is free or has the number
+/// of `pair`; None if there is none. `keys[k]` is the pair with the number k, for each k below
+/// `count`, the number of pairs so far. A slot is free if it has `count` or more. Requires
+/// `keys[count]` to be `pair`, and `slots` to have at least `home` + `TRIES` entries.
 #[inline(always)]
 fn find_slot(
     slots: &[u16],
@@ -57,9 +59,12 @@ fn find_slot(
     None
 }
 
-/// Writes the numbers of the pairs of block number `block` to `out`, and new pairs to `keys` and
-/// their numbers to `slots`. `count` is how many numbers there were before; returns how many there
-/// are then, or None if a pair finds no slot.
+/// Numbers the 2^rank pairs of block `block`, counted from 0, after those of the blocks before it,
+/// by first occurrence. `count` is how many numbers there were before; returns how many there are
+/// then. Of pair j, counted over all blocks, `out[j]` becomes the number, and if it is a new number
+/// k, `keys[k]` the pair; both have an entry for each pair, at most 2^15 in all. `slots` is a hash
+/// table of numbers: `SLOTS_PER_PAIR` slots for each pair and `TRIES` more, `out.len()` in free
+/// ones. None if others have all `TRIES` slots of a pair; then the three have no meaning.
 #[inline(always)]
 fn number_block(
     pairs: &CountedPairs<'_>,
@@ -97,9 +102,11 @@ fn number_block(
     Some(count)
 }
 
-/// Writes the number of each pair to `out`, and the pair of each number to `keys`. Requires that
-/// all `slots` are free before: they have the number of pairs. Returns how many numbers there are,
-/// or None if a pair finds no slot.
+/// Numbers the pairs by first occurrence: writes the number of pair j to `out[j]`, and the pair of
+/// number k to `keys[k]`. Both have an entry for each of the at most 2^15 pairs. `slots` is working
+/// memory: `SLOTS_PER_PAIR` entries for each pair and `TRIES` more, which all have to be
+/// `out.len()` before. Returns how many numbers there are. None if all `TRIES` slots that are tried
+/// for a pair are taken by others; then `out` and `keys` have no meaning.
 #[inline(always)]
 fn number_blocks(
     pairs: &CountedPairs<'_>,
@@ -126,10 +133,9 @@ fn number_blocks(
 /// The most pairs that are numbered by slots of 16 bits.
 const MOST_PAIRS: usize = 1 << 15;
 
-/// Numbers the pairs by first occurrence: the number of each pair, and the pair of each number. A
-/// pair's slot is the first free one from its home on. None if there are more pairs than slots of
-/// 16 bits can name, or too many of them have homes close together. Requires that all classes are
-/// below `classes`.
+/// Numbers the pairs by first occurrence, in a hash table: the number of each pair, and the pair of
+/// each number. None if there are more than `MOST_PAIRS` pairs, or if other pairs hold all `TRIES`
+/// slots that are tried for a pair. Requires all classes to be below `classes`.
 pub(crate) fn number_pairs_by_slots(
     alloc: Global,
     entries: &EntryPairs<'_>,

@@ -15,8 +15,8 @@ use indexmap::IndexSet;
 use order_model::{Node, Ref, VarIx};
 use std::alloc::{AllocError, Global};
 
-/// The code of a ref: 0 is the terminal 0, 1 the terminal 1, and k + 2 node k of the diagram's list
-/// of nodes.
+/// The code of `r`: 0 for the terminal 0, 1 for the terminal 1, and k + 2 for node k of the
+/// diagram's list of nodes. Requires k to be below 2^32.
 fn code(r: Ref) -> usize
     requires { IsBefore (2 ^ 32) r }
     ensures { result ≡ code_of r }
@@ -28,8 +28,8 @@ fn code(r: Ref) -> usize
     }
 }
 
-/// The ref with this code: 0 is the terminal 0, 1 the terminal 1, and k + 2 node k of the diagram's
-/// list of nodes.
+/// The ref with the code `code`: 0 is the terminal 0, 1 the terminal 1, and k + 2 node k of the
+/// diagram's list of nodes.
 fn reference(code: usize) -> Ref
     ensures { result ≡ ref_named code }
 {
@@ -40,8 +40,8 @@ fn reference(code: usize) -> Ref
     }
 }
 
-/// The refs with these codes: 0 is the terminal 0, 1 the terminal 1, and k + 2 node k of the
-/// diagram's list of nodes.
+/// The refs with these codes, in the same order: 0 is the terminal 0, 1 the terminal 1, and k + 2
+/// node k of the diagram's list of nodes.
 fn references(alloc: Global, codes: &[usize]) -> Result<Vec<Ref>, AllocError>
     ensures { IfOk result (λ v. v.items ≡ map ref_named codes.now) }
 {
@@ -52,8 +52,8 @@ fn references(alloc: Global, codes: &[usize]) -> Result<Vec<Ref>, AllocError>
     Ok(refs)
 }
 
-/// The low and the high cofactor of `r` by `variable`: its children if it is a node of `variable`,
-/// else `r` itself twice.
+/// The low and the high cofactor by `variable` of `r`, a ref into the diagram's list `nodes`: its
+/// children if it is a node of `variable`, else `r` itself twice.
 fn halves(nodes: &[Node], variable: VarIx, r: Ref) -> (Ref, Ref)
     requires { IsBefore (length nodes.now) r }
     ensures { result ≡ split_ref nodes.now variable r }
@@ -71,11 +71,11 @@ fn halves(nodes: &[Node], variable: VarIx, r: Ref) -> (Ref, Ref)
     }
 }
 
-/// Appends to `level`, for each ref of `cut`, a node of `variable`: the places of its low and its
-/// high child in the cut below. Appends to `codes` the codes (see `code`) of the refs in the cut
-/// below, each once, by first occurrence: a ref's place in the cut is its index in `codes`.
-/// Requires both lists to be empty. `cut` is the cut above the level, and n the number of
-/// variables.
+/// Numbers the cofactors by `variable` of the refs of `cut`. Appends each distinct one to `codes`,
+/// by first occurrence: 0 and 1 for the terminals, k + 2 for `nodes[k]`. Appends to `level`, for
+/// each ref, the indexes in `codes` of its low and its high cofactor. Requires `codes` and `level`
+/// to be empty, and at most 2^31 - 1 refs in `cut`, all into `nodes`: fewer than 2^32 nodes of a
+/// diagram of `n` variables. If memory is refused, `codes` and `level` may have a part.
 fn number_halves(
     n: u8,
     nodes: &[Node],
@@ -102,9 +102,11 @@ fn number_halves(
     Ok(())
 }
 
-/// Returns the nodes of the level of `variable`, one for each ref of `cut` and in the same order,
-/// and the cut below the level. `cut` is the cut above the level: the distinct refs that paths from
-/// the roots come to when the variables above are fixed. n is the number of variables.
+/// Takes the level of `variable` off a diagram with `n` variables and the nodes `nodes`. `cut` has
+/// the distinct refs that paths from the roots come to when the variables above `variable` are
+/// fixed, at most 2^31 - 1. Returns the level's nodes, one for each ref of `cut` and in the same
+/// order, and the cut below: the distinct cofactors by `variable` of these refs. A node is the
+/// indexes of its low and its high cofactor in the cut below.
 fn split(
     alloc: Global,
     n: u8,
@@ -125,9 +127,10 @@ fn split(
     Ok((level, next))
 }
 
-/// Appends to `numbers` the place of each root in the topmost cut. Appends to `codes` the codes
-/// (see `code`) of the refs in this cut, each once, by first occurrence: a ref's place in the cut
-/// is its index in `codes`. Requires both lists to be empty.
+/// Appends a number for each distinct root to `codes`, by first occurrence: 0 and 1 for the
+/// terminals, k + 2 for node k of the diagram's list of nodes. Appends the index in `codes` of each
+/// root's number to `numbers`. Requires both lists to be empty, at most 16 roots, and each k to be
+/// below 2^32. If memory is refused, both lists may have a part.
 fn number_roots(
     roots: &[Ref],
     codes: &mut IndexSet<usize>,
@@ -147,8 +150,8 @@ fn number_roots(
     Ok(())
 }
 
-/// Returns the place of each root in the topmost cut, and this cut: the distinct roots, by first
-/// occurrence. `size` is the number of nodes in the diagram.
+/// Returns the index of each root in the topmost cut, and this cut: the distinct roots, by first
+/// occurrence. Requires at most 16 roots, each a terminal or one of the `size` nodes of a diagram.
 fn first_cut(alloc: Global, size: usize, roots: &[Ref]) -> Result<(Vec<u32>, Vec<Ref>), AllocError>
     requires small { size < 2 ^ 32 }
     requires few { length roots.now ≤ 16 }
@@ -162,8 +165,8 @@ fn first_cut(alloc: Global, size: usize, roots: &[Ref]) -> Result<(Vec<u32>, Vec
     Ok((numbers, cut))
 }
 
-/// The terminals of the cut below the lowest level: entry k is true if ref k of `cut` is the
-/// terminal 1.
+/// For each ref of `cut`, in the same order: true for the terminal 1, false for any other ref.
+/// `cut` is meant to be the cut below the lowest level, which has terminals alone.
 fn terminal_values(alloc: Global, cut: &[Ref]) -> Result<Vec<bool>, AllocError>
     ensures { IfOk result (λ v. v.items ≡ map is_true cut.now) }
 {
@@ -187,8 +190,11 @@ pub(crate) struct BuiltLevels {
     pub(crate) terminals: Vec<bool>,
 }
 
-/// Makes the levels of a diagram with these nodes, each after its children, and these roots.
-/// `order` has the diagram's variables, top first. Requires the diagram to be ordered and reduced.
+/// Turns a reduced diagram into levels. The result has three lists: the levels, top first; the
+/// terminals, to which the edges of the lowest level go; and for each root the index of its node on
+/// the top level. Nodes with two equal children are added, so that each edge goes to the next
+/// level. The diagram's order is `order`, top first; `nodes` has each of its nodes after the node's
+/// children, and `roots` its roots, at most 16.
 pub(crate) fn levels_of(
     alloc: Global,
     order: &[VarIx],

@@ -30,9 +30,9 @@ fn is_near(size: u32, other: u32) -> bool {
 }
 
 impl Manager {
-    /// Reverses the manager's order as far as the pairs allow, and returns the manager. The
+    /// Reverses the manager's order as far as its pairs allow, and returns the manager. The
     /// variables are taken from the top of the order at the start; each is moved up until it is at
-    /// the top or a pair stops it.
+    /// the top, or a pair requires the variable above it to stay above.
     fn turned_over(self, alloc: Global) -> Result<Manager, AllocError>
         ensures functions { IfOk result (λ m. m.problem ≡ self.problem) }
         ensures pairs { IfOk result (λ m. m.pairs ≡ self.pairs) }
@@ -51,9 +51,9 @@ impl Manager {
 impl Sifted {
     ghost use Rattle.sifting.specs.Managed.{IsNoLarger};
 
-    /// Repeats passes of sifting from this order on until a pass leaves the size as it is, but
-    /// makes at most `MOST_PASSES`. Returns the result of the last pass. `sifter` moves the
-    /// variables.
+    /// Repeats passes of sifting, the first from this order, until a pass leaves the size as it is,
+    /// but makes at most 16 passes. Returns the result of the last one, which is no larger than
+    /// this order. `sifter` moves the variables.
     fn repeat<S: Sifter>(self, sifter: &S, alloc: Global) -> Result<Sifted, AllocError>
         ensures { IfOk result (IsNoLarger self) }
     {
@@ -69,8 +69,8 @@ impl Sifted {
     }
 
     /// A second start of sifting: a copy of the diagram, with this order reversed as far as the
-    /// pairs allow. None if the copy's size differs from this order's by at most a sixty-fourth of
-    /// the latter.
+    /// pairs allow. None if the sizes under the two orders differ by at most a sixty-fourth of this
+    /// order's size, rounded down.
     fn other_start(&self, alloc: Global) -> Result<Option<Manager>, AllocError>
         ensures { IfOk result (λ o. IfSome o (λ m. (m.problem ≡ self.now.problem)
             × (m.pairs ≡ self.now.pairs))) }
@@ -83,7 +83,7 @@ impl Sifted {
         }
     }
 
-    /// Of two orders the one of smaller size, or this order if the sizes are equal.
+    /// Whichever of this order and `other` has the smaller size; this order if the sizes are equal.
     fn or_smaller(self, other: Sifted) -> Sifted
         ensures size { result.size ≤ self.size }
         ensures either { (result ≡ self) ⊎ (result ≡ other) }
@@ -96,9 +96,10 @@ impl Sifted {
     }
 
     /// Sifts from two starts, this order and this order reversed as far as its pairs allow, each
-    /// until a pass leaves the size as it is or `MOST_PASSES` are done (one more for the reversed
-    /// order). Returns the smaller of both results, which is no larger than this order. If
-    /// reversing changes the size by at most a sixty-fourth, returns this order unchanged.
+    /// until a pass leaves the size as it is, and returns the smaller result. It is no larger than
+    /// this order. Makes at most 16 passes from this order, and 17 from the reversed one. Returns
+    /// this order unchanged if the sizes under the two starts differ by at most a sixty-fourth of
+    /// this order's size, rounded down.
     pub fn sifted_to_convergence(self, alloc: Global) -> Result<Sifted, AllocError>
         ensures { IfOk result (IsNoLarger self) }
     {
@@ -110,9 +111,11 @@ impl Sifted {
         Ok(here.or_smaller(there))
     }
 
-    /// The order whose size bounds the search: the result of sifting to convergence. With fewer
-    /// than `LEAST_INPUTS` variables it is this order unchanged, because a search then takes no
-    /// longer than sifting again.
+    /// The order whose size bounds the search. Sifts from two starts, this order and this order
+    /// reversed as far as its pairs allow, each until a pass leaves the size as it is, in at most
+    /// 17 passes, and returns the smaller result. Returns this order unchanged if it has fewer than
+    /// 13 variables, or if the sizes under the two starts differ by at most a sixty-fourth of this
+    /// order's size, rounded down.
     pub fn search_bound(self, alloc: Global) -> Result<Sifted, AllocError>
         ensures { IfOk result (IsNoLarger self) }
     {
@@ -122,10 +125,12 @@ impl Sifted {
         self.sifted_to_convergence(alloc)
     }
 
-    /// The order whose size bounds the search, as `search_bound` returns it. With one worker the
-    /// calling thread does all. With two or three, one thread sifts from this order, and one from
-    /// this order reversed. With four or more, each of the two starts has two threads while its
-    /// diagram is large.
+    /// The order whose size bounds the search, the same for any number of workers. Sifts from this
+    /// order and from this order reversed as far as its pairs allow, each in at most 17 passes,
+    /// until one leaves the size as it is, and returns the smaller result. Returns this order
+    /// unchanged if it has fewer than 13 variables, or if the two starts differ in size by at most
+    /// a sixty-fourth of this order's, rounded down. With two or three workers each start has a
+    /// thread, with four or more it has two while its diagram has at least 4,096 nodes.
     pub fn search_bound_by_threads<R: Threads + Sync>(
         self,
         rt: &R,

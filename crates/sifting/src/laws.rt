@@ -10,8 +10,8 @@ ghost use Rattle.sifting.specs.Managed.{truth_tables_of};
 
 use order_model::Problem;
 
-/// A diagram that represents a list of functions has one root for each function, in the same order,
-/// and the truth table of each root is that of its function.
+/// Law: a diagram that represents a list of functions has one root for each function, in the same
+/// order, and the truth table of each root is that of its function.
 pub fn diagrams_have_their_functions_tables()
     ensures roots { (n : ℕ) (F : List Function) (order : List ℕ) (d : OrderedGraph) →
         Represents n F order d.graph → length d.graph.roots ≡ length F }
@@ -20,8 +20,8 @@ pub fn diagrams_have_their_functions_tables()
         truth_tables_of d ≡ record { inputs = n; tables = map (table n) F } }
 {}
 
-/// A diagram that represents the functions of a problem has at most 16 roots, and the truth tables
-/// of its roots are those of the problem.
+/// Law: a diagram that represents the functions of `problem` has at most 16 roots, and the truth
+/// tables of its roots are those of `problem`.
 pub fn diagrams_have_their_problems_tables(problem: &Problem)
     ensures roots { (order : List ℕ) (d : OrderedGraph) →
         Represents problem.now.inputs (functions problem.now) order d.graph →
@@ -34,7 +34,7 @@ pub fn diagrams_have_their_problems_tables(problem: &Problem)
     tables_have_all_points(problem);
 }
 
-/// Each truth table of a problem of n variables has 2 ^ n values.
+/// Law: each truth table of a problem of n variables has 2^n values.
 fn tables_have_all_points(problem: &Problem)
     ensures { (j : ℕ) → j < outputs_of problem.now →
         length (table_at problem.now j) ≡ 2 ^ problem.now.inputs }

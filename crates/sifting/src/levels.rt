@@ -26,7 +26,7 @@ pub(crate) struct Level {
     pub ghost counted: { count ≡ branching nodes.items },
 }
 
-/// How many nodes have two different children, and so are nodes of the reduced diagram.
+/// How many of `nodes` have two different children, and so are nodes of the reduced diagram.
 fn count_of(nodes: &[Children]) -> u32
     requires { length nodes.now < 2 ^ 32 }
     ensures { result ≡ branching nodes.now }
@@ -41,7 +41,8 @@ fn count_of(nodes: &[Children]) -> u32
 }
 
 impl Level {
-    /// The level with these nodes.
+    /// The level with the nodes `nodes`, each the indexes of its low and its high child in the next
+    /// level. Requires fewer than 2^32 nodes.
     pub fn new(nodes: Vec<Children>) -> Level
         requires { length nodes.items < 2 ^ 32 }
         ensures { result.nodes ≡ nodes }
@@ -61,9 +62,10 @@ impl Level {
     }
 }
 
-/// Swaps the variables of two adjacent levels, whose nodes are `upper` and `lower`. Returns the new
-/// upper level and then the new lower one. The new upper level has as many nodes as `upper`, in the
-/// same places. `table` numbers the new nodes of the lower level and lends its memory.
+/// Swaps the variables of two adjacent levels, whose nodes are `upper` and `lower`, and returns the
+/// new upper level and the new lower one. Node k of the new upper level has the function of
+/// `upper[k]`. Requires each child in `upper` to be an index in `lower`, and at most 2^30 nodes in
+/// `upper`. `table` is working memory: what it has before and after the call doesn't matter.
 pub(crate) fn swap_levels(
     alloc: Global,
     table: &mut NodeTable,

@@ -48,7 +48,7 @@ impl Model for Manager {
         (nodes_of m.levels.items) m.terminals.items m.order m.roots.items m.pairs };
 }
 
-/// Copies `levels`.
+/// A copy of each of `levels`, in the same order.
 fn copies_of(alloc: Global, levels: &[Level]) -> Result<Vec<Level>, AllocError>
     ensures { IfOk result (λ v. nodes_of v.items ≡ nodes_of levels.now) }
 {
@@ -60,9 +60,9 @@ fn copies_of(alloc: Global, levels: &[Level]) -> Result<Vec<Level>, AllocError>
 }
 
 impl Manager {
-    /// Makes the manager of a diagram, without pairs. Requires the diagram to be ordered and
-    /// reduced, and to have at most 16 roots. Takes a step for each node and for each level that an
-    /// edge passes over.
+    /// Makes the manager of a diagram, with no pairs to keep. Requires the diagram to be ordered
+    /// and reduced, and to have at most 16 roots. The time is at most in proportion to the number
+    /// of nodes, plus, for each edge, the number of levels that it passes over.
     pub fn of(alloc: Global, diagram: Diagram) -> Result<Manager, AllocError>
         requires few { length diagram.graph.roots ≤ 16 }
         requires ordered { IsOrdered diagram.order diagram.graph }
@@ -76,9 +76,10 @@ impl Manager {
         Ok(manager)
     }
 
-    /// Makes the manager of a diagram whose order keeps `pairs`. Requires the diagram to be ordered
-    /// and reduced, and to have at most 16 roots. Takes a step for each node and for each level
-    /// that an edge passes over.
+    /// Makes the manager of a diagram whose order must keep `pairs`. Requires `pairs` to be of the
+    /// diagram's variables, its order to keep them, and the diagram to be ordered and reduced and
+    /// to have at most 16 roots. The time is at most in proportion to the number of nodes, plus,
+    /// for each edge, the number of levels that it passes over.
     pub fn with_pairs(alloc: Global, diagram: Diagram, pairs: Pairs) -> Result<Manager, AllocError>
         requires few { length diagram.graph.roots ≤ 16 }
         requires ordered { IsOrdered diagram.order diagram.graph }
@@ -102,7 +103,8 @@ impl Manager {
     }
 
     /// Whether `level`, counted from 0 at the top, may be swapped with the level below it: no pair
-    /// requires the upper level's variable to stand above the lower one's.
+    /// requires the upper level's variable to stand above the lower one's. Requires that there is a
+    /// level below.
     pub fn may_swap(&self, level: usize) -> bool
         requires { level + 1 < length self.now.order }
         ensures { result ≡ not
@@ -114,8 +116,9 @@ impl Manager {
     }
 
     /// Swaps `level`, counted from 0 at the top, with the level below it, and returns the manager.
-    /// Requires `may_swap`. The functions and all other levels stay, and the diagram stays reduced.
-    /// Takes a step for each node of the two levels.
+    /// Requires that there is a level below, and that no pair requires the upper variable to stand
+    /// above the lower one. The functions and all other levels stay, and the diagram stays reduced.
+    /// Takes time in proportion to the number of nodes on the two levels before the swap.
     pub fn swap(self, alloc: Global, level: usize) -> Result<Manager, AllocError>
         requires below { level + 1 < length self.order }
         requires lawful { IsFalse
@@ -139,8 +142,7 @@ impl Manager {
         Ok(manager)
     }
 
-    /// The number of nodes in the reduced diagram. Each level stores its own count, so no nodes are
-    /// counted again.
+    /// The number of nodes in the reduced diagram.
     pub fn size(&self) -> u32
         ensures value { result ≡ size_of self.now }
         ensures managed { IsManagedOrder self.now }

@@ -33,7 +33,8 @@ pub(crate) struct NodeTable {
 /// The odd multiplier of the hash: its multiples spread over the words of 64 bits.
 const SPREAD: u64 = 11_400_714_819_323_198_485;
 
-/// The slot, from 0 to `homes`, at which the search for `node` begins: a hash of the node.
+/// The slot, from 0 to `homes` inclusive, at which the search for `node` begins: a hash of the
+/// node. Requires `homes` to be at most 2^32.
 #[inline(always)]
 fn home(homes: usize, node: Children) -> usize
     requires { homes ≤ 2 ^ 32 }
@@ -45,9 +46,9 @@ fn home(homes: usize, node: Children) -> usize
     ((high * homes as u64) >> 32) as usize
 }
 
-/// The number of the node in a slot whose value is `slot`: `slot - base`, if this is from 0 to
+/// The number of the node in a slot with the value `slot`: `slot - base`, if this is from 0 to
 /// `count` - 1. Otherwise the slot is free, and the result is None. `count` is the number of nodes
-/// in the level so far.
+/// in the level so far, and `base` what is added to a node's number in its slot.
 #[inline(always)]
 fn number_in(slot: u32, base: u32, count: usize) -> Option<usize>
     ensures some { IfSome result (HasNumber base count slot) }
@@ -57,9 +58,12 @@ fn number_in(slot: u32, base: u32, count: usize) -> Option<usize>
     if number < count { Some(number) } else { None }
 }
 
-/// Searches `nodes` for `node` by linear probing from the slot `home`. `Ok` has the node's number.
-/// If the node is not there, `Err` has the first free slot, which may be the one behind all slots.
-/// A slot with a node has the node's number plus `base`.
+/// Searches `nodes` for `node` by linear probing, from the slot with the index `home` up to the
+/// last slot. The slot of node k has the value `base` + k, and a slot with the value of no node is
+/// free and ends the search. `Ok` has the node's number, its index in `nodes`. `Err`, if it isn't
+/// found, has the index of the free slot that ended the search, or the number of slots if none did.
+/// Requires `home` to be at most the number of slots, and `base` plus the number of nodes to be
+/// below 2^32.
 #[inline(always)]
 fn find(
     slots: &[u32],
@@ -84,7 +88,8 @@ fn find(
     Err(slots.len())
 }
 
-/// Writes the value `slot` to the slot at index `at`, or appends it if `at` is the number of slots.
+/// Writes the value `slot` to the slot with the index `at`, or appends it if `at` is the number of
+/// slots. Requires `at` to be no larger.
 fn set_slot(slots: &mut Vec<u32>, at: usize, slot: u32) -> Result<(), AllocError>
     requires { at ≤ length slots.old.items }
     ensures { OnOk result (IsSet slots.old.items slots.new.items at slot) }
@@ -111,14 +116,17 @@ impl NodeTable {
         }
     }
 
-    /// Takes two levels that are no longer needed, and keeps the memory of their nodes for the next
-    /// levels. Is called between `finish` and `begin`, because it replaces the table's nodes.
+    /// Takes over the memory of the nodes of two levels that are not needed any more, for the
+    /// levels that are made next. Not to be called between `begin` and `finish`, because it
+    /// replaces the table's nodes.
     pub fn reuse(&mut self, upper: Level, lower: Level) {
         self.spare = upper.nodes;
         self.nodes = lower.nodes;
     }
 
-    /// An empty list with room for `most` nodes, in the memory of an earlier level if there is one.
+    /// An empty list with room for `most` nodes. It takes over the memory of the upper level that
+    /// the last call of `reuse` was given, unless an earlier call took it, and allocates what is
+    /// missing.
     pub fn spare_list(&mut self, alloc: Global, most: usize) -> Result<Vec<Children>, AllocError>
         ensures { IfOk result (λ v. v.items ≡ []) }
     {
@@ -128,8 +136,8 @@ impl NodeTable {
         Ok(list)
     }
 
-    /// Begins a new level, which may get at most `most` nodes. The table then has no nodes, and all
-    /// its slots are free.
+    /// Begins a new level, which may get at most `most` nodes: the table then has no nodes, and all
+    /// its slots are free. Requires `most` to be at most 2^31. After an error no level is begun.
     pub fn begin(&mut self, most: usize) -> Result<(), AllocError>
         requires { 2 * most ≤ 2 ^ 32 }
         ensures table { OnOk result (IsNodeTable self.new) }
@@ -149,8 +157,10 @@ impl NodeTable {
         Ok(())
     }
 
-    /// Returns the number of `node` in the level, counted from 0, after adding the node to the
-    /// level if it is new.
+    /// Returns the number of `node` in the level that was begun: nodes are numbered from 0, by
+    /// first occurrence. Adds the node to the table if it is new. Requires that `begin` was called,
+    /// and that the level gets no more nodes than its `most`. After an error a level has to be
+    /// begun anew.
     #[inline(always)]
     pub fn number_of(&mut self, node: Children) -> Result<u32, AllocError>
         requires table { IsNodeTable self.old }
@@ -172,8 +182,8 @@ impl NodeTable {
         Ok(number)
     }
 
-    /// Takes the finished level out of the table, which has then no nodes. The slots' values become
-    /// old ones.
+    /// Takes the level that was begun out of the table and returns it: its nodes by number. The
+    /// table then has no nodes, and all its slots are free.
     pub fn finish(&mut self, alloc: Global) -> Level
         requires table { IsNodeTable self.old }
         requires room { self.old.base + length self.old.nodes.items < 2 ^ 32 }

@@ -18,7 +18,8 @@ use std::thread::Threads;
 /// moving it takes no longer than starting a thread.
 const LEAST_NODES: u32 = 4096;
 
-/// Moves the variable at place `from` down to place `to`, both counted from 0 at the top. Requires
+/// Moves the variable at place `from` down to place `to`, both counted from 0 at the top, and
+/// returns the manager. Requires `to` to be at least `from` and below the number of variables, and
 /// that no pair requires one of the variables that it passes to stay below it.
 fn lower(alloc: Global, manager: Manager, from: usize, to: usize) -> Result<Manager, AllocError>
     requires within { to < length manager.order }
@@ -34,8 +35,10 @@ fn lower(alloc: Global, manager: Manager, from: usize, to: usize) -> Result<Mana
 }
 
 /// Moves the variable at place `from`, counted from 0 at the top, up in one copy of the diagram and
-/// down in another one, each as far as the pairs allow and by a thread of its own. Returns the
-/// result of `walk_up` and then that of `walk_down`.
+/// down in another one, each as far as the pairs allow and by a thread of its own. Returns for up
+/// and then for down the manager, the new place, and the best place with its size: of the places
+/// from `from` to the new one, both inclusive, the uppermost at which the diagram has the fewest
+/// nodes. Requires `from` to be below the number of variables.
 fn walk_both<R: Threads>(
     rt: &R,
     alloc: Global,
@@ -63,8 +66,9 @@ fn walk_both<R: Threads>(
 
 /// A way to move a variable to its best place. All ways give the same order.
 pub(crate) trait Sifter {
-    /// Moves variable x to its best place: of the places that keep the pairs, the uppermost at
-    /// which the diagram has the fewest nodes. Returns the manager.
+    /// Moves variable `x` to its best place: of the places that keep the pairs, the uppermost at
+    /// which the diagram has the fewest nodes. Returns the manager. Requires `x` to be one of its
+    /// variables.
     fn put_best(&self, alloc: Global, manager: Manager, x: VarIx) -> Result<Manager, AllocError>
         requires { x < length manager.order }
         ensures order { IfOk result
@@ -90,12 +94,19 @@ pub(crate) struct ThreadedSifter<'r, R> {
 }
 
 impl Sifter for SerialSifter {
+    /// Moves variable `x`, by the calling thread, to its best place: of the places that keep the
+    /// pairs, the uppermost at which the diagram has the fewest nodes. Returns the manager.
+    /// Requires `x` to be one of its variables.
     fn put_best(&self, alloc: Global, manager: Manager, x: VarIx) -> Result<Manager, AllocError> {
         manager.put_best(alloc, x)
     }
 }
 
 impl<'r, R: Threads> Sifter for ThreadedSifter<'r, R> {
+    /// Moves variable `x` to its best place: of the places that keep the pairs, the uppermost at
+    /// which the diagram has the fewest nodes. Returns the manager. Requires `x` to be one of its
+    /// variables. Two threads move it, one up and one down, if there are two workers or more and
+    /// the diagram has at least 4,096 nodes, else the calling thread.
     fn put_best(&self, alloc: Global, manager: Manager, x: VarIx) -> Result<Manager, AllocError> {
         if self.workers.count() == 1 || manager.size() < LEAST_NODES {
             return manager.put_best(alloc, x);
@@ -112,7 +123,10 @@ impl<'r, R: Threads> Sifter for ThreadedSifter<'r, R> {
 }
 
 impl Manager {
-    /// One pass of sifting, in which `sifter` moves the variables. Returns what `sift` returns.
+    /// One pass of sifting: `sifter` moves each variable once to its best place. This is, of the
+    /// places that keep the pairs, the uppermost at which the diagram has the fewest nodes. The
+    /// variables are taken by falling level count in the order at the start, and those of equal
+    /// counts by rising number.
     pub(crate) fn sift_by<S: Sifter>(self, sifter: &S, alloc: Global) -> Result<Sifted, AllocError>
         ensures order { IfOk result (λ s. s.order ≡ sifted_order self) }
         ensures functions { IfOk result (λ s. s.problem ≡ self.problem) }
@@ -127,9 +141,10 @@ impl Manager {
         Ok(Sifted::of(manager))
     }
 
-    /// One pass of sifting. With two workers or more, two threads move a variable if the diagram
-    /// then has at least `LEAST_NODES` nodes; the calling thread moves the other variables. Returns
-    /// what `sift` returns.
+    /// One pass of sifting, with the same result for any number of workers: moves each variable
+    /// once to the uppermost place, of those that keep the pairs, at which the diagram has the
+    /// fewest nodes. With two workers or more, two threads move a variable if the diagram then has
+    /// at least 4,096 nodes; else the calling thread does.
     pub fn sift_by_threads<R: Threads>(
         self,
         rt: &R,

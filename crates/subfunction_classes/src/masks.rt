@@ -8,9 +8,9 @@ ghost use Rattle.subfunction_classes.specs.Dependence.{joined_mask};
 
 use definitions::{Mask, VarIx, contains};
 
-/// The mask of the function whose cofactors by x = 0 and x = 1 are the classes `pair.0` and
-/// `pair.1`: the union of the masks of both, with x added if they differ. Entry c of `masks` is the
-/// mask of class c.
+/// The set of the variables on which a function depends whose cofactors are class `pair.0` by x = 0
+/// and class `pair.1` by x = 1: the union of the two classes' masks, with x added if the classes
+/// differ. `masks[c]` has the variables on which class c depends.
 #[inline(always)]
 pub fn join_mask(masks: &[Mask], x: VarIx, pair: (u32, u32)) -> Mask
     requires variable { x < 16 }
@@ -27,7 +27,7 @@ pub fn join_mask(masks: &[Mask], x: VarIx, pair: (u32, u32)) -> Mask
     }
 }
 
-/// How many of `masks` contain variable x.
+/// How many of `masks`, at most 2^20, contain variable x.
 pub fn count_with(masks: &[Mask], x: VarIx) -> u32
     requires variable { x < 16 }
     requires few { length masks.now ≤ 2 ^ 20 }

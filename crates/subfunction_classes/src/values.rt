@@ -18,8 +18,8 @@ pub fn number_of_value(value: bool, first: bool) -> u32
 }
 
 /// Appends to `numbers` the class numbers of a function's values, by rising point: 0 for the value
-/// `first`, and 1 for the other one. `words` is the packed truth table of the function, which has
-/// `inputs` variables.
+/// `first`, and 1 for the other value. `words` is the packed truth table of the function, which has
+/// `inputs` variables, at most 16. If memory is refused, some of the numbers may be missing.
 fn push_values(
     numbers: &mut Vec<u32>,
     words: &[u64],

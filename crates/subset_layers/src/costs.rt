@@ -44,7 +44,8 @@ impl Model for Costs {
 impl Costs {
     ghost use Rattle.subset_layers.specs.Costs.{start_costs, costs_with, layer_of_costs, cell_at, cost_at, as_pair, AreTrueCosts, AreTrueCells};
 
-    /// The finished layer of the empty set, with the cost 0, for a problem of `inputs` variables.
+    /// The costs of the layer of the empty set, whose cost is 0, for `inputs` variables, at most
+    /// 16.
     pub fn start(alloc: Global, inputs: u8) -> Result<Costs, AllocError>
         requires { inputs ≤ 16 }
         ensures value { IfOk result (λ c. c ≡ start_costs inputs) }
@@ -59,8 +60,8 @@ impl Costs {
         })
     }
 
-    /// The finished layer `layer`, whose sets have the cells `cells`, in the layer's order.
-    /// Requires a cell for each set, and that the layer is not that of the empty set.
+    /// The costs of the sets of `layer`. `cells` has the cell of each set, by rising mask. Requires
+    /// a cell for each set, and that the layer is not that of the empty set.
     pub fn of(layer: Layer, cells: Vec<Cell>) -> Costs
         requires inputs { layer.inputs ≤ 16 }
         requires size { 0 < layer.size }
@@ -82,7 +83,7 @@ impl Costs {
         self.layer.inputs()
     }
 
-    /// The cell of a set of the layer. None for a set of another layer, and for the empty set.
+    /// The cell of the set `mask`. None if the set is not in the layer, or is empty.
     pub fn cell_of(&self, mask: Mask) -> Option<Cell>
         ensures value { result ≡ cell_at self.now mask }
         ensures some { IsSome result ↔
@@ -99,8 +100,8 @@ impl Costs {
         }
     }
 
-    /// The cost of a set of the layer: that of its cell, or 0 for the empty set. None for a set of
-    /// another layer.
+    /// The cost of the set `mask`: that of its cell, or 0 for the empty set. None if the set is not
+    /// in the layer.
     pub fn cost_of(&self, mask: Mask) -> Option<u32>
         ensures value { result ≡ cost_at self.now mask }
         ensures some { IsSome result ↔ IsTrue

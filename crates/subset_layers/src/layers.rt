@@ -62,7 +62,8 @@ impl Model for Block {
         × (b.low < 2 ^ b.inputs) };
 }
 
-/// Entry k of 2^`inputs`: whether the mask k has `size` members.
+/// A flag for each set of `inputs` variables, at most 16: entry m says whether the set with the
+/// mask m has `size` members.
 fn size_flags(alloc: Global, inputs: u8, size: u8) -> Result<Vec<bool>, AllocError>
     requires { inputs ≤ 16 }
     ensures { IfOk result
@@ -76,8 +77,8 @@ fn size_flags(alloc: Global, inputs: u8, size: u8) -> Result<Vec<bool>, AllocErr
     Ok(flags)
 }
 
-/// Entry k: whether k is the low byte of one of the masks. Requires `limit`, the number of entries,
-/// to be 256.
+/// A flag for each number below 256: entry k says whether k is the low byte of one of `masks`.
+/// Requires `limit`, the number of flags, to be 256.
 fn low_flags(alloc: Global, masks: &[u16], limit: usize) -> Result<Vec<bool>, AllocError>
     requires { limit ≡ 256 }
     ensures { IfOk result
@@ -91,7 +92,7 @@ fn low_flags(alloc: Global, masks: &[u16], limit: usize) -> Result<Vec<bool>, Al
     Ok(flags)
 }
 
-/// Zeros, as room for the at most 256 masks of a block.
+/// A list of 256 zeros, as room for the masks of a block.
 fn no_masks() -> [u16; 256] {
     [0; 256]
 }
@@ -99,7 +100,8 @@ fn no_masks() -> [u16; 256] {
 impl Layer {
     ghost use Rattle.subset_layers.specs.Layers.{layer_with, masks_of, blocks_of, block_place};
 
-    /// The layer of the sets of `size` of the variables below `inputs`.
+    /// The layer of the sets that have `size` members, all of them below `inputs`. It has no sets
+    /// if `size` exceeds `inputs`. Requires `inputs` to be at most 16.
     pub fn of(alloc: Global, inputs: u8, size: u8) -> Result<Layer, AllocError>
         requires { inputs ≤ 16 }
         ensures { IfOk result (λ l. l ≡ layer_with inputs size) }
@@ -150,7 +152,8 @@ impl Layer {
         self.masks.numbers.len()
     }
 
-    /// The mask at place `i`, counted from 0, of the layer's masks in rising order.
+    /// The mask at place `i`, counted from 0, of the layer's masks in rising order. Requires `i` to
+    /// be below the number of masks.
     pub fn mask_at(&self, i: usize) -> Mask
         requires { i < length (masks_of self.now) }
         ensures { slice_get (masks_of self.now) i ≡ Some result }
@@ -174,8 +177,9 @@ impl Layer {
         self.lows.numbers.len()
     }
 
-    /// The place, counted from 0, of the block that has the mask at place `i` of the layer. Blocks
-    /// are arranged by rising low byte.
+    /// The place of the block that has the mask at place `i` of the layer. Places are counted from
+    /// 0; masks are in rising order, and blocks in that of their low bytes. Requires `i` to be
+    /// below the number of masks.
     pub fn block_place(&self, i: usize) -> usize
         requires { i < length (masks_of self.now) }
         ensures place { result ≡ block_place self.now i }
@@ -185,7 +189,8 @@ impl Layer {
         self.lows.places[low as usize] as usize
     }
 
-    /// The block at place `i`, counted from 0. Blocks are arranged by rising low byte.
+    /// The block at place `i`, counted from 0. Blocks are arranged by rising low byte. Requires `i`
+    /// to be below the number of blocks.
     pub fn block(&self, i: usize) -> Block
         requires { i < length (blocks_of self.now) }
         ensures { slice_get (blocks_of self.now) i ≡ Some result }
@@ -197,8 +202,9 @@ impl Layer {
 impl Block {
     ghost use Rattle.subset_layers.specs.Layers.{block_of, block_masks};
 
-    /// The block of the sets of `size` of the variables below `inputs` whose masks have the low
-    /// byte `low`.
+    /// The block of the sets that have `size` members, all of them below `inputs`, and whose masks
+    /// have the low byte `low`. Requires `inputs` to be at most 16, and `low` to be below 256 and
+    /// below `2^inputs`.
     fn with_low(inputs: u8, size: u8, low: u16) -> Block
         requires inputs { inputs ≤ 16 }
         requires low { low < 256 }
@@ -254,7 +260,8 @@ impl Block {
         &self.masks[..self.count]
     }
 
-    /// The mask at place `i`, counted from 0, of the block's masks in rising order.
+    /// The mask at place `i`, counted from 0, of the block's masks in rising order. Requires `i` to
+    /// be below the number of masks.
     pub fn mask(&self, i: usize) -> Mask
         requires { i < length (block_masks self.now) }
         ensures { slice_get (block_masks self.now) i ≡ Some result }

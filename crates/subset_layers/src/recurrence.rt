@@ -30,9 +30,10 @@ fn smaller(best: Option<Sum>, next: Sum) -> Sum
     }
 }
 
-/// The least sum `below[x] + widths[x]` over the members x of a set with `below[x]` at most the
-/// bound, and the smallest x that gives it. `below[x]` is the cost of the set without x, and
-/// `widths[x]` the width of x. None if each `below[x]` exceeds the bound.
+/// The least sum `below[x] + widths[x]` over the members x of the set `mask` with `below[x]` at
+/// most `bound`, and the smallest x that gives it. `below[x]` is the cost of the set without x, and
+/// `widths[x]` the width of x over that smaller set. None if there is no such member. Requires the
+/// members to be below `inputs`, which is at most 16.
 fn best_sum(mask: Mask, inputs: u8, below: &[u32; 16], widths: &WidthRow, bound: u32) -> Option<Sum>
     requires few { inputs ≤ 16 }
     requires within { mask < 2 ^ inputs }
@@ -55,7 +56,8 @@ fn best_sum(mask: Mask, inputs: u8, below: &[u32; 16], widths: &WidthRow, bound:
     best
 }
 
-/// The cell of a pruned set: its cost is the bound plus 1, and its variable the smallest member.
+/// The cell of the set `mask` if it is pruned: its cost is `bound` plus 1, and its variable the
+/// smallest member. Requires the set not to be empty, and `bound` to be less than 2^32 - 1.
 fn clipped_cell(mask: Mask, bound: u32) -> Cell
     requires some { 0 < mask }
     requires room { bound + 1 < 2 ^ 32 }
@@ -67,11 +69,11 @@ fn clipped_cell(mask: Mask, bound: u32) -> Cell
     }
 }
 
-/// The cell of a lawful set that isn't empty: the least sum `below[x] + widths[x]` over its members
-/// x with `below[x]` at most the bound, and the smallest x that gives this sum. `below[x]` is the
-/// cost of the set without x, and `widths[x]` the width of x. If there is no such x, or the sum
-/// plus the lower bound on the nodes above exceeds the bound, the set is pruned: its cell has the
-/// bound plus 1 and the smallest member.
+/// The cell of the set `mask`, which is lawful and not empty: the least sum `below[x] + widths[x]`
+/// over its members x, and the smallest x that gives it. `below[x]` is the cost of the set without
+/// x, and `widths[x]` the width of x over the other members. If the sum plus the lower bound on the
+/// nodes above, by `lower_bounds`, exceeds `bound`, the cell has `bound` plus 1 and the smallest
+/// member. Requires `bound` to be less than 2^32 - 1. `inputs` is the number of variables.
 fn lawful_cell(
     mask: Mask,
     inputs: u8,
@@ -105,10 +107,12 @@ fn lawful_cell(
     }
 }
 
-/// The cell of a set that is not empty; a set that is not lawful is pruned. `below[x]` is the cost
-/// of the set without its member x, and `widths[x]` the width of x. Only the widths of members with
-/// `below[x]` at most the bound are needed, or those of all members if the lower bound is by
-/// widths.
+/// The cell of the nonempty set `mask`: the least sum `below[x] + widths[x]` over its members x,
+/// and the smallest x that gives it. `below[x]` is the cost of the set without x, and `widths[x]`
+/// the width of x over the other members. If the set isn't lawful by `pairs`, or the sum plus the
+/// lower bound on the nodes above, by `lower_bounds`, exceeds `bound` (less than 2^32 - 1), the
+/// cell has `bound` plus 1 and the smallest member. If `lower_bounds` goes by variables,
+/// `widths[x]` isn't read where `below[x]` exceeds `bound`.
 pub fn cell_from(
     mask: Mask,
     below: &[u32; 16],
@@ -132,8 +136,8 @@ pub fn cell_from(
     }
 }
 
-/// Entry x is the cost of the set `mask` without its member x, or 0 if x is not a member. Requires
-/// `costs` to be the layer of the sets with one variable less.
+/// The costs of the set `mask` without one member: entry x is the cost without member x, or 0 if x
+/// is not a member. Requires `costs` to be those of the layer whose sets have one member less.
 fn costs_below(mask: Mask, costs: &Costs) -> [u32; 16]
     requires { IsTrue (has (masks_of (layer_with costs.now.inputs (costs.now.size + 1))) mask) }
     ensures { (x : ℕ) → IsTrue (has (members costs.now.inputs mask) x) →
@@ -149,10 +153,12 @@ fn costs_below(mask: Mask, costs: &Costs) -> [u32; 16]
     below
 }
 
-/// The cell of the set `mask`, which has one member more than the sets of the finished layer
-/// `costs`. `widths[x]` is the width of member x. Only the widths of members without which the
-/// set's cost is at most the bound are needed, or those of all members if the lower bound is by
-/// widths.
+/// The cell of the set `mask`: its least cost, and the smallest variable that gives this cost on
+/// top. `costs` has to be of the sets with one member less, and `widths[x]` is the width of x over
+/// the other members. If the set isn't lawful by `pairs`, or the least cost plus the lower bound on
+/// the nodes above, by `lower_bounds`, exceeds `bound` (less than 2^32 - 1), the cell has `bound`
+/// plus 1 and the smallest member. If `lower_bounds` goes by variables, `widths[x]` isn't read
+/// where the cost without x exceeds `bound`.
 pub fn least_cell(
     mask: Mask,
     costs: &Costs,

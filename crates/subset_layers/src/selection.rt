@@ -19,7 +19,8 @@ pub(crate) struct Selection {
 impl Selection {
     ghost use Rattle.subset_layers.specs.Selections.{chosen};
 
-    /// The numbers k for which `flags[k]` is true, rising, with the table of their places.
+    /// The numbers k for which `flags[k]` is true, rising, with the table of their places. Requires
+    /// at most 2^16 flags.
     pub fn of(alloc: Global, flags: &[bool]) -> Result<Selection, AllocError>
         requires { length flags.now ≤ 2 ^ 16 }
         ensures { IfOk result (λ s. s.numbers.items ≡ chosen flags.now) }
@@ -45,7 +46,8 @@ impl Selection {
         })
     }
 
-    /// The place, counted from 0, of `number` in `numbers`. None if it isn't chosen.
+    /// The place of `number`, counted from 0, among the chosen numbers in rising order. None if it
+    /// isn't chosen.
     pub fn position(&self, number: u16) -> Option<usize>
         ensures found { IfSome result (λ i. slice_get self.now.numbers.items i ≡ Some number) }
         ensures none { IsNone result → (i : ℕ) → i < length self.now.numbers.items →

@@ -6,9 +6,9 @@ ghost use Rattle.definitions.specs.Diagrams.{IsFirst, IsFirstKeeping};
 ghost use Rattle.definitions.specs.Pairs.{Pair};
 ghost use Rattle.symmetric_pairs.specs.SymmetricPairs.{AreSymmetricPairs};
 
-/// Let each pair in P have two variables in which all functions are symmetric, the smaller one
-/// first. Then the first order of the fewest nodes among those that keep P is the first one of the
-/// fewest nodes among all orders.
+/// Law: let P have pairs of variables in which all functions are symmetric, the smaller variable
+/// first. Then the first order of the fewest nodes among those that keep P is also the first one of
+/// the fewest nodes among all orders.
 pub fn symmetric_pairs_may_be_kept()
     ensures { (n : ℕ) (F : List Function) (P : List Pair) (order : List ℕ) →
         AreSymmetricPairs n F P → IsFirstKeeping n F P order → IsFirst n F order }

@@ -10,7 +10,9 @@ use crate::words::is_symmetric_in;
 use order_model::{Pairs, Problem, VarIx};
 use std::alloc::{AllocError, Global};
 
-/// Whether all functions are symmetric in `a` and `b`.
+/// Whether all functions of `problem` are symmetric in the variables `a` and `b`: exchanging the
+/// two changes none. Requires `a` to be less than `b`, and `b` to be one of the problem's
+/// variables.
 fn are_symmetric(problem: &Problem, a: VarIx, b: VarIx) -> bool
     requires first { a < b }
     requires inside { b < problem.now.inputs }
@@ -24,8 +26,8 @@ fn are_symmetric(problem: &Problem, a: VarIx, b: VarIx) -> bool
     true
 }
 
-/// The smallest variable above `a` such that all functions are symmetric in `a` and this variable;
-/// None if there is none.
+/// The smallest variable greater than `a` such that all functions are symmetric in `a` and this
+/// variable. None if there is none. Requires `a` to be one of the problem's variables.
 fn next_symmetric(problem: &Problem, a: VarIx) -> Option<VarIx>
     requires few { problem.now.inputs ≤ 16 }
     requires inside { a < problem.now.inputs }
@@ -39,8 +41,8 @@ fn next_symmetric(problem: &Problem, a: VarIx) -> Option<VarIx>
     None
 }
 
-/// For each variable a the pair (a, b) in which b is the smallest variable above a such that all
-/// functions are symmetric in both; no pair for a if there is no such b.
+/// For each variable a the pair (a, b) in which b is the smallest variable greater than a such that
+/// all functions are symmetric in both; no pair for a if there is no such b.
 fn symmetric_pairs(alloc: Global, problem: &Problem) -> Result<Pairs, AllocError>
     ensures inputs { IfOk result (λ p. p.inputs ≡ problem.now.inputs) }
     ensures pairs { IfOk result
@@ -59,8 +61,10 @@ fn symmetric_pairs(alloc: Global, problem: &Problem) -> Result<Pairs, AllocError
     }
 }
 
-/// The pairs that a search keeps if the caller requires those in `asked`: these, or, if there are
-/// none, pairs (a, b) with a < b such that all functions are symmetric in a and b.
+/// The pairs that a search keeps if its caller requires those in `asked`: these, if there are any.
+/// Else, for each variable a, the pair (a, b) in which b is the smallest variable greater than a
+/// such that all functions are symmetric in both, if there is one. Requires `asked` to have as many
+/// variables as `problem`.
 pub fn pairs_to_keep(alloc: Global, problem: &Problem, asked: &Pairs) -> Result<Pairs, AllocError>
     requires { asked.now.inputs ≡ problem.now.inputs }
     ensures inputs { IfOk result (λ p. p.inputs ≡ problem.now.inputs) }

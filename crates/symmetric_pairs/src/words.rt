@@ -8,8 +8,9 @@ ghost use Rattle.definitions.specs.Problems.{packed_bit, words_per_table};
 use order_model::VarIx;
 use order_model::packed::lower_half;
 
-/// Whether `word` has different bits at some two points that differ only in `a` and `b`: `a` is 1
-/// and `b` is 0 at one, `a` is 0 and `b` is 1 at the other.
+/// Whether exchanging variables `a` and `b` changes the function of six variables with the truth
+/// table `word`. Bit k of `word` is the value at point k. Requires `a` to be less than `b`, and `b`
+/// to be below 6.
 #[inline(always)]
 fn changes_inside(word: u64, a: VarIx, b: VarIx) -> bool
     requires first { a < b }
@@ -23,9 +24,9 @@ fn changes_inside(word: u64, a: VarIx, b: VarIx) -> bool
     ((word >> apart) ^ word) & with_a != 0
 }
 
-/// Whether exchanging `a` with a variable that is 0 at the points of `lower` and 1 at those of
-/// `upper` changes these words: whether, for some k below 64 in which bit `a` is 1, bit k of
-/// `lower` differs from bit k - 2^a of `upper`.
+/// Whether exchanging variable `a` with a variable v changes the function of seven variables with
+/// the truth tables `lower` for v = 0 and `upper` for v = 1. Bit k of each is the value at point k
+/// of the other six variables. Requires `a`, one of these, to be below 6.
 #[inline(always)]
 fn changes_across(lower: u64, upper: u64, a: VarIx) -> bool
     requires { a < 6 }
@@ -35,8 +36,8 @@ fn changes_across(lower: u64, upper: u64, a: VarIx) -> bool
     ((lower >> (1u32 << a)) ^ upper) & lower_half(a) != 0
 }
 
-/// Whether the function with the packed truth table `words` is symmetric in `a` and `b`, both below
-/// 6. Compares points within each word.
+/// Whether the function with the packed truth table `words` is symmetric in the variables `a` and
+/// `b`. Requires `a` to be less than `b`, and `b` to be below 6.
 fn is_symmetric_inside(words: &[u64], a: VarIx, b: VarIx) -> bool
     requires first { a < b }
     requires low { b < 6 }
@@ -53,8 +54,9 @@ fn is_symmetric_inside(words: &[u64], a: VarIx, b: VarIx) -> bool
     true
 }
 
-/// Whether the function with the packed truth table `words` is symmetric in `a`, which is below 6,
-/// and variable `s` + 6, which is bit `s` of a word's index. Compares points of two words.
+/// Whether the function with the packed truth table `words` is symmetric in variable `a` and
+/// variable `s` + 6, which is bit `s` of a word's index. Requires `a` to be below 6, `s` below 10,
+/// and the number of words to be a multiple of `2^(s + 1)` and at most 1024.
 fn is_symmetric_across(words: &[u64], a: VarIx, s: u8) -> bool
     requires few { length words.now ≤ 1024 }
     requires low { a < 6 }
@@ -75,7 +77,8 @@ fn is_symmetric_across(words: &[u64], a: VarIx, s: u8) -> bool
 }
 
 /// Whether the function with the packed truth table `words` is symmetric in the variables `r` + 6
-/// and `s` + 6, which are bits `r` and `s` of a word's index. Compares whole words.
+/// and `s` + 6, which are bits `r` and `s` of a word's index. Requires `r` to be less than `s`, `s`
+/// to be below 10, and the number of words to be a multiple of `2^(s + 1)` and at most 1024.
 fn is_symmetric_between(words: &[u64], r: u8, s: u8) -> bool
     requires few { length words.now ≤ 1024 }
     requires first { r < s }
@@ -95,8 +98,9 @@ fn is_symmetric_between(words: &[u64], r: u8, s: u8) -> bool
     true
 }
 
-/// Whether the function of `inputs` variables with the packed truth table `words` is symmetric in
-/// `a` and `b`: equal at each two points that differ only in which of `a` and `b` is 1.
+/// Whether the function of `inputs` variables, at most 16, with the packed truth table `words` is
+/// symmetric in the variables `a` and `b`: exchanging the two changes no value. Requires `a` to be
+/// less than `b`, and `b` to be below `inputs`.
 pub(crate) fn is_symmetric_in(words: &[u64], inputs: u8, a: VarIx, b: VarIx) -> bool
     requires few { inputs ≤ 16 }
     requires long { length words.now ≡ words_per_table inputs }

@@ -34,8 +34,9 @@ impl Model for Exchange {
 impl Exchange {
     ghost use Rattle.definitions.specs.Problems.{TruthTables};
 
-    /// The exchange that `partners` lists: `partners[x]` is the partner of x. None unless the list
-    /// has `inputs` entries, each below `inputs`, and each variable is its partner's partner.
+    /// The exchange of `inputs` variables, at most 16, in which `partners[x]` is the partner of x.
+    /// None unless `partners` has `inputs` entries, each below `inputs`, and each variable is its
+    /// partner's partner.
     pub(crate) fn of(
         alloc: Global,
         inputs: u8,
@@ -53,9 +54,10 @@ impl Exchange {
         Ok(Some(Exchange { partners, images }))
     }
 
-    /// The exchange that `partners` lists, if no function changes under it. None if some function
-    /// changes, or if the list is no exchange. `points[p]` has the values of all functions at point
-    /// p, as one number.
+    /// The exchange of `inputs` variables, at most 16, in which `partners[x]` is the partner of x,
+    /// if no function changes under it. None if some function changes, or if `partners` lists no
+    /// exchange. `points[p]` has the values of all functions at point p, as one number, for each p
+    /// below `2^inputs`.
     fn if_alike(
         alloc: Global,
         inputs: u8,
@@ -83,8 +85,8 @@ impl Exchange {
         &self.partners
     }
 
-    /// The images of all sets: at index m that of the set with the mask m, which has the partners
-    /// of its members.
+    /// The images of all sets: entry m is the set of the partners of the members of the set with
+    /// the mask m.
     pub fn images(&self) -> &[Mask]
         ensures { result.now ≡ self.now.images }
     {
@@ -101,7 +103,8 @@ struct Groups {
 }
 
 impl Groups {
-    /// The groups of variables that `pairs` connect.
+    /// The groups of variables that `pairs` connect, directly or through other variables. A
+    /// variable in no pair is a group by itself.
     fn of(pairs: &Pairs) -> Groups {
         let mut groups = Groups {
             representative: [0, 1, 2, 3, 4, 5, 6, 7, 8, 9, 10, 11, 12, 13, 14, 15],
@@ -117,7 +120,8 @@ impl Groups {
         groups
     }
 
-    /// Unites the groups of x and y.
+    /// Unites the group of variable x with that of variable y; other groups stay. Requires x and y
+    /// to be below 16.
     fn join(&mut self, x: VarIx, y: VarIx)
         requires first { x < 16 }
         requires second { y < 16 }
@@ -142,7 +146,7 @@ impl Groups {
         }
     }
 
-    /// Whether x and y are in different groups.
+    /// Whether the variables x and y, both below 16, are in different groups.
     fn are_apart(&self, x: VarIx, y: VarIx) -> bool
         requires first { x < 16 }
         requires second { y < 16 }
@@ -150,8 +154,8 @@ impl Groups {
         self.representative[x as usize] != self.representative[y as usize]
     }
 
-    /// Whether two of the `inputs` variables have equal marks and are in different groups.
-    /// `marks[x]` is the mark of x.
+    /// Whether two variables below `inputs` that are in different groups have equal marks.
+    /// `marks[x]` is the mark of variable x, a number. Requires `inputs` to be at most 16.
     fn have_equal_marks(&self, inputs: u8, marks: &[u32; 16]) -> bool
         requires { inputs ≤ 16 }
     {
@@ -185,8 +189,8 @@ struct Search<'a> {
 }
 
 impl<'a> Search<'a> {
-    /// A search for exchanges under which no function of `problem` changes, before any is tried. No
-    /// exchange is sought of two variables in one of `groups`.
+    /// A new search for exchanges under which no function of `problem` changes. It seeks no
+    /// exchange of two variables that are in one group of `groups`.
     fn new(alloc: Global, problem: &'a Problem, groups: Groups) -> Result<Search<'a>, AllocError>
         ensures { IfOk result (λ s. s.problem.now ≡ problem.now) }
     {
@@ -201,10 +205,12 @@ impl<'a> Search<'a> {
         })
     }
 
-    /// Looks for an exchange with x and y as partners under which no function changes. If one is
-    /// found, the groups of all its partners are united. An exchange that is tried and changes a
-    /// function counts as a failure. None if none is found, and without a try if x and y are in one
-    /// group or after `MOST_FAILURES` failures.
+    /// Looks for an exchange that changes no function and has the variables x and y as partners.
+    /// Guesses at most one, from hashes of variables and of pairs that such an exchange keeps, and
+    /// tests it. If it changes no function, returns it and unites the group of each variable with
+    /// that of its partner; else counts a failure and returns None. None without a test if x and y
+    /// are in one group, after `MOST_FAILURES` failures, or if there is no guess. If memory is
+    /// refused nothing changes.
     fn exchange_of(
         &mut self,
         alloc: Global,
@@ -234,16 +240,11 @@ impl<'a> Search<'a> {
     }
 }
 
-/// Finds exchanges of `problem`'s variables under which no function changes. Chains of them should
-/// lead from each variable to any other that it may be exchanged with, but some exchanges may be
-/// missed. None are sought of two variables that `pairs` connect, directly or through other
-/// variables.
-///
-/// Finds at most n - 1 exchanges of n variables, and stops after `MOST_FAILURES` tried exchanges
-/// that change a function. Testing one takes a step for each point. A mark is a hash that is equal
-/// for two variables that an exchange without a change takes to each other; if `pairs` connect all
-/// variables with equal quick marks, no exchange is tried. Each variable is tried with the nearest
-/// smaller ones first: then few sets are left that no found exchange takes to a greater mask.
+/// Exchanges of `problem`'s variables under which no function changes, at most n - 1 for n
+/// variables. Each variable is tried as the partner of each smaller one, the nearest first, unless
+/// `pairs`, or exchanges found before, connect the two, directly or through other variables. Some
+/// exchanges may be missed: the search ends when `MOST_FAILURES` tested ones have changed a
+/// function.
 pub fn exchanges_of(
     alloc: Global,
     problem: &Problem,

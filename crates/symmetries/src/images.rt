@@ -8,8 +8,8 @@ ghost use Rattle.symmetries.specs.Images.{AreImages};
 use order_model::{Mask, VarIx};
 use std::alloc::{AllocError, Global};
 
-/// Whether `partners` has one of the `inputs` variables for each of them, and each variable is its
-/// partner's partner.
+/// Whether `partners` lists an exchange of `inputs` variables: it has `inputs` entries, each below
+/// `inputs`, and `partners[y]` is x if `partners[x]` is y.
 pub(crate) fn is_exchange(inputs: u8, partners: &[VarIx]) -> bool
     ensures { IsTrue result → IsExchange inputs partners.now }
 {
@@ -25,8 +25,9 @@ pub(crate) fn is_exchange(inputs: u8, partners: &[VarIx]) -> bool
     true
 }
 
-/// Appends to `images` the images of the sets that have the next variable as their highest. Before,
-/// `images` has those of all sets of smaller variables. `partner` is the next variable's partner.
+/// Adds a variable x to the images of an exchange. `images` has the image of each set of variables
+/// below x, at the index of its mask, and gets those of the sets with x as their highest member.
+/// `partner` is the partner of x. If memory is refused, some of them may be missing.
 fn add_variable(images: &mut Vec<Mask>, partner: VarIx) -> Result<(), AllocError>
     requires partner { partner < 16 }
     ensures { OnOk result
@@ -40,8 +41,9 @@ fn add_variable(images: &mut Vec<Mask>, partner: VarIx) -> Result<(), AllocError
     Ok(())
 }
 
-/// The images of all sets of the `inputs` variables: at index m that of the set with the mask m,
-/// which has the partners of its members.
+/// The images of all sets of `inputs` variables, at most 16, under the exchange in which
+/// `partners[x]` is the partner of x: entry m is the set of the partners of the members of the set
+/// with the mask m. Requires `partners` to list an exchange of these variables.
 pub(crate) fn images_of(
     alloc: Global,
     inputs: u8,
@@ -59,8 +61,10 @@ pub(crate) fn images_of(
     Ok(images)
 }
 
-/// Whether each point has the same entry in `values` as its image. `images[p]` is the image of
-/// point p.
+/// Whether `values[p]` is `values[images[p]]` for each point p: whether no function changes if each
+/// point takes the place of its image. `values[p]` has the values of all functions at p as one
+/// number, and `images[p]` is the image of p. Requires both to have an entry for each point, and
+/// each image to be a point.
 pub(crate) fn are_alike(values: &[u16], images: &[Mask]) -> bool
     requires long { length images.now ≡ length values.now }
     requires inside { (p : ℕ) → p < length images.now →

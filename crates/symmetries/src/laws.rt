@@ -6,8 +6,9 @@ ghost use Rattle.definitions.specs.Orders.{has};
 ghost use Rattle.definitions.specs.Widths.{width};
 ghost use Rattle.symmetries.specs.Exchanges.{AreSymmetric, IsExchange};
 
-/// Under an exchange that changes no function, the width of x's partner over the image T of a set S
-/// is at most the width of x over S. An exchange is its own inverse, so the two are equal.
+/// Law: under an exchange that changes no function, the width of x's partner over the image T of a
+/// set S is at most the width of x over S. Because an exchange is its own inverse, the two are
+/// equal.
 pub fn exchanges_keep_widths()
     ensures { (n : ℕ) (F : List Function) (partners : List ℕ) → IsExchange n partners →
         AreSymmetric n F partners → (S T : List ℕ) (x : ℕ) → x < n →

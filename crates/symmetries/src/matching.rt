@@ -21,7 +21,7 @@ struct Matching {
 }
 
 impl Matching {
-    /// The matching of `inputs` variables in which none has a partner.
+    /// The matching of `inputs` variables, at most 16, in which none has a partner.
     fn none(inputs: u8) -> Matching
         requires { inputs ≤ 16 }
     {
@@ -32,7 +32,8 @@ impl Matching {
         }
     }
 
-    /// Makes x and y each other's partner. If they are equal, the variable is its own partner.
+    /// Makes x and y each other's partner. If they are equal, the variable is its own partner. Both
+    /// are below 16, and have no partner yet.
     fn place(&mut self, x: VarIx, y: VarIx)
         requires first { x < 16 }
         requires second { y < 16 }
@@ -42,8 +43,9 @@ impl Matching {
         self.placed |= 1 << x | 1 << y;
     }
 
-    /// Whether the marks allow x and y as partners: x and y have equal marks, and for each z that
-    /// has a partner, the pair (x, z) has the mark of (y, z's partner).
+    /// Whether x and y, both below 16, may be partners by `marks`, hashes of variables and of pairs
+    /// of them: x and y have equal marks, and for each z that has a partner, the pair (x, z) has
+    /// the same mark as the pair (y, partner of z).
     fn keep_marks(&self, marks: &Marks, x: VarIx, y: VarIx) -> bool
         requires first { x < 16 }
         requires second { y < 16 }
@@ -60,8 +62,9 @@ impl Matching {
         true
     }
 
-    /// The mask of the variables without a partner that the marks allow as partner of x. x itself
-    /// may be among them.
+    /// The possible partners of x, which has no partner yet, as a mask: those variables y without a
+    /// partner for which x and y have equal marks and, for each z that has a partner, the pair
+    /// (x, z) has the same mark as the pair (y, partner of z). The variable x itself may be one.
     fn candidates(&self, marks: &Marks, x: VarIx) -> Mask
         requires { x < 16 }
     {
@@ -74,9 +77,10 @@ impl Matching {
         found
     }
 
-    /// Of the variables without a partner, the one with the fewest candidates for a partner (the
-    /// lowest of several), and the mask of these candidates, which may be empty. None if each
-    /// variable has a partner.
+    /// The variable without a partner that has the fewest possible partners, the lowest of several,
+    /// and the mask of its possible partners, which may be empty. None if each variable has a
+    /// partner. A variable y is a possible partner of x if it has no partner, x and y have equal
+    /// marks and, for each z that has a partner, so do the pairs (x, z) and (y, partner of z).
     fn next(&self, marks: &Marks) -> Option<(VarIx, Mask)>
         ensures { IfSome result (λ r. r.0 < 16) }
     {
@@ -95,8 +99,8 @@ impl Matching {
     }
 }
 
-/// The partner that x gets among `candidates`, a mask: x itself if it is one, else the smallest.
-/// None if the mask is empty.
+/// The partner for x from the mask `candidates`: x itself if it is in the mask, else the smallest
+/// member. None if the mask is empty.
 fn chosen(x: VarIx, candidates: Mask) -> Option<VarIx>
     requires { x < 16 }
     ensures { IfSome result (λ y. y < 16) }
@@ -110,10 +114,10 @@ fn chosen(x: VarIx, candidates: Mask) -> Option<VarIx>
     Some(candidates.trailing_zeros() as VarIx)
 }
 
-/// Guesses an exchange of x with y: entry z of the result is the partner of z, for each of the
-/// `inputs` variables. The marks suggest the partners, and the variable with the fewest candidates
-/// gets its partner first. None if the marks don't allow x and y as partners, or if a variable is
-/// left without candidates.
+/// Guesses an exchange of `inputs` variables, at most 16, with x and y, two of these, as partners:
+/// entry z is the partner of z. Each variable has the same mark as its partner, and each two
+/// variables have the same as their partners; yet some function may change under the exchange. None
+/// if the marks of x and y differ, or a variable is left without a possible partner.
 pub(crate) fn partners_of(marks: &Marks, inputs: u8, x: VarIx, y: VarIx) -> Option<[VarIx; 16]>
     requires few { inputs ≤ 16 }
     requires first { x < 16 }

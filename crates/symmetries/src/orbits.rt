@@ -18,7 +18,7 @@ pub struct Image {
     pub variables: [VarIx; 16],
 }
 
-/// The list in which entry x is x.
+/// The list 0, 1, .., 15, in which entry x is x.
 fn own_variables() -> [VarIx; 16]
     ensures { (x : ℕ) → x < 16 → slice_index result x ≡ x }
 {
@@ -29,7 +29,7 @@ fn own_variables() -> [VarIx; 16]
     variables
 }
 
-/// The partner of x in `partners`; 0 if the list has none for it.
+/// Entry `partners[x]`, which is the partner of x, or 0 if there is no such entry.
 fn partner_of(partners: &[VarIx], x: VarIx) -> VarIx
     ensures { result ≡ slice_index partners.now x }
 {
@@ -39,8 +39,8 @@ fn partner_of(partners: &[VarIx], x: VarIx) -> VarIx
     }
 }
 
-/// The partner of each of `variables`, in the same order. `partners[x]` is the partner of x; for
-/// variables that `partners` doesn't have, the result has 0.
+/// The partners of `variables`: entry i is the partner of `variables[i]`. `partners[x]` is the
+/// partner of x; if there is no such entry, it is 0.
 fn moved(variables: &[VarIx; 16], partners: &[VarIx]) -> [VarIx; 16]
     ensures { (x : ℕ) → x < 16 →
         slice_index result x ≡ slice_index partners.now (slice_index variables.now x) }
@@ -66,8 +66,9 @@ impl Image {
         }
     }
 
-    /// Let S be the set whose image this is, and T the set that `exchange` takes to S. Returns the
-    /// image of T: each variable goes to its partner, and on to where this image takes the partner.
+    /// `exchange`, followed by this image: the image of T, if this image is that of S and
+    /// `exchange` takes T to S. T goes where S goes, and each variable goes where this image takes
+    /// its partner. A variable that `exchange` lacks goes where 0 goes.
     fn through(&self, exchange: &Exchange) -> Image
         ensures set { result.set ≡ self.now.set }
         ensures each { (x : ℕ) → x < 16 →
@@ -85,8 +86,9 @@ impl Image {
         }
     }
 
-    /// This image, taken on by `exchange`: its set goes to that set's image, and each of its
-    /// variables to the partner. If the exchange has no image of the set, nothing changes.
+    /// This image, followed by `exchange`: `set` becomes its image under the exchange, and each
+    /// entry of `variables` its partner, or 0 if it has none. If the exchange has no image of
+    /// `set`, the result is this image.
     pub(crate) fn after(self, exchange: &Exchange) -> Image
         ensures { self.set < length exchange.now.images →
             IsAfter exchange.now self.set self.variables result.set result.variables }
@@ -111,7 +113,8 @@ struct Reached {
 }
 
 impl Reached {
-    /// Of the sets of `inputs` variables, none is reached or seen yet.
+    /// A record in which no set of `inputs` variables, at most 16, is reached: `sets` is empty, and
+    /// each of the `2^inputs` entries of `seen` is false.
     fn none(alloc: Global, inputs: u8) -> Result<Reached, AllocError>
         requires { inputs ≤ 16 }
     {
@@ -121,8 +124,8 @@ impl Reached {
         })
     }
 
-    /// Marks `set` as seen. Returns true if it was not seen before, false if it was, or if the
-    /// problem lacks one of its variables.
+    /// Marks `set` as seen, and returns whether it wasn't seen before. If the problem lacks one of
+    /// its variables, marks nothing and returns false.
     fn see(&mut self, set: Mask) -> bool {
         match self.seen.get_mut(usize::from(set)) {
             Some(seen) if !*seen => {
@@ -134,8 +137,8 @@ impl Reached {
     }
 }
 
-/// The images of all sets of `inputs` variables under no exchange: at index m that of the set with
-/// the mask m.
+/// The images of all sets of `inputs` variables, at most 16, under no exchange: at entry m that of
+/// the set with the mask m, which is the set itself, and each variable itself.
 fn own_images(alloc: Global, inputs: u8) -> Result<Vec<Image>, AllocError>
     requires { inputs ≤ 16 }
     ensures { (p : TruthTables) → p.inputs ≤ 16 →
@@ -175,9 +178,9 @@ impl<'a> Model for Orbits<'a> {
 }
 
 impl<'a> Orbits<'a> {
-    /// Seeks exchanges under which no function of `problem` changes, and finds the orbits of the
-    /// sets that are lawful by `pairs`. Sets that aren't lawful stay their own images. None if no
-    /// exchange is found.
+    /// Looks for exchanges under which no function of `problem` changes, and finds the orbits,
+    /// under these, of the sets that are lawful by `pairs`, with the image of each set: the first
+    /// set of its orbit. A set that isn't lawful is its own image. None if no exchange is found.
     pub fn of(
         alloc: Global,
         problem: &'a Problem,
@@ -199,16 +202,18 @@ impl<'a> Orbits<'a> {
         Ok(Some(orbits))
     }
 
-    /// The set to which exchange `number` takes `set`. None if there is no such exchange or set.
+    /// The set to which the exchange with index `number`, counted from 0, takes `set`. None if
+    /// there is no such exchange, or if the problem lacks a variable of `set`.
     fn image(&self, set: Mask, number: usize) -> Option<Mask> {
         let exchange = self.exchanges.get(number)?;
         let image = exchange.images().get(usize::from(set))?;
         Some(*image)
     }
 
-    /// Rewrites the image of T, the set to which exchange `number` takes `set`: it becomes the
-    /// image of `set`, with each variable going to its partner first. If there is no such exchange
-    /// or set, nothing changes.
+    /// Sets the image of T, the set to which the exchange with index `number`, counted from 0,
+    /// takes `set`. This exchange takes T back to `set`, so T's image becomes the exchange followed
+    /// by the image of `set`. If there is no such exchange, or the problem lacks a variable of
+    /// `set`, nothing changes.
     fn link(&mut self, set: Mask, number: usize)
         ensures { self.new ≡ self.old }
     {
@@ -229,9 +234,10 @@ impl<'a> Orbits<'a> {
         }
     }
 
-    /// Marks each set to which an exchange takes `set` as seen in `reached`. If it wasn't seen
-    /// before and is lawful by `pairs`, its image becomes that of `set`, and it is appended to
-    /// `reached.sets`.
+    /// Marks as seen in `reached` each set T to which one of the exchanges takes `set`. If T wasn't
+    /// seen before and is lawful by `pairs`, appends it to `reached.sets`, and sets its image: the
+    /// exchange, which takes T back to `set`, followed by the image of `set`. If memory is refused,
+    /// the last set that got an image isn't appended, and further ones aren't visited.
     fn step_from(
         &mut self,
         set: Mask,
@@ -252,9 +258,11 @@ impl<'a> Orbits<'a> {
         Ok(())
     }
 
-    /// Sets the image of each set that exchanges reach from `first`, from set to set, to the image
-    /// of `first`. Sets that aren't lawful by `pairs`, or that `reached` has seen before, are left
-    /// out. `reached.sets` is overwritten with `first` and the sets reached.
+    /// Follows the exchanges from `first`, set by set, to all sets that are lawful by `pairs` and
+    /// that `reached` has not seen before. Marks the sets that it meets as seen. Each that it
+    /// reaches gets an image: exchanges that take it back to `first`, followed by the image of
+    /// `first`. `reached.sets`, whatever it had, becomes `first` and the sets reached; if memory is
+    /// refused, some are missing.
     fn reach_from(
         &mut self,
         first: Mask,
@@ -274,8 +282,9 @@ impl<'a> Orbits<'a> {
         Ok(())
     }
 
-    /// Sets the image of each set that is lawful by `pairs` to the first set of its orbit. Expects
-    /// each set to be its own image; sets that aren't lawful stay so.
+    /// Sets the image of each set that is lawful by `pairs` to the first set of its orbit under the
+    /// exchanges. Expects that each set is its own image before; sets that aren't lawful stay so.
+    /// If memory is refused, some lawful sets may stay so too.
     fn reach_all(&mut self, alloc: Global, pairs: &Pairs) -> Result<(), AllocError>
         ensures { self.new ≡ self.old }
     {
@@ -293,8 +302,8 @@ impl<'a> Orbits<'a> {
         Ok(())
     }
 
-    /// Whether `set` is the first set of its orbit. True of each set that isn't lawful, or that has
-    /// a variable which the problem lacks.
+    /// Whether `set` is the first set of its orbit. True also if the set isn't lawful, or has a
+    /// variable that the problem lacks.
     pub fn is_first(&self, set: Mask) -> bool {
         match self.images.get(usize::from(set)) {
             Some(image) => image.set == set,
@@ -302,8 +311,9 @@ impl<'a> Orbits<'a> {
         }
     }
 
-    /// Where exchanges take `set` and each variable: `set` goes to the first set of its orbit. A
-    /// set that isn't lawful stays itself.
+    /// The image of `set`: exchanges take it to the first set of its orbit, and each variable along
+    /// with it. A set that isn't lawful, and each variable with it, stays itself. Requires the
+    /// members of `set` to be variables of the problem.
     pub fn first_of(&self, set: Mask) -> Image
         requires { set < 2 ^ self.now.inputs }
         ensures { KeepsWidths self.now set result.set result.variables }
@@ -312,9 +322,9 @@ impl<'a> Orbits<'a> {
         self.first_from(Image::of(set))
     }
 
-    /// The image `from` of a set, taken on by exchanges: `from.set` goes to the first set of its
-    /// orbit, and `from.variables` go along. If `from.set` is no set of the problem's variables,
-    /// `from` stays as it is.
+    /// The image `from`, followed by the exchanges that take its set to the first set of its orbit:
+    /// `set` becomes that first set, and each entry of `variables` the variable to which they take
+    /// it. If `from.set` has a variable that the problem lacks, the result is `from`.
     pub fn first_from(&self, from: Image) -> Image
         ensures { (p : TruthTables) (S : ℕ) → p.inputs ≤ 16 →
             TakesWidths p self.now S from.set from.variables →

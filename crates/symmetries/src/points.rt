@@ -9,9 +9,10 @@ use order_model::Problem;
 use order_model::packed::bit_of;
 use std::alloc::{AllocError, Global};
 
-/// Makes a function's value at each point the new lowest bit of that point's entry in `values`, and
-/// moves the entry's other bits up by one. `words` is the function's packed truth table. Requires
-/// that each entry has at most `before` bits.
+/// Adds a function's values to `values`: its value at each point p becomes the lowest bit of entry
+/// p, and the entry's other bits move up by one. `words` is the function's packed truth table, with
+/// a bit for each entry. Requires each entry to have at most `before` bits, and `before` to be
+/// below 16.
 fn append_bits(values: &mut Vec<u16>, words: &[u64], before: u8)
     requires few { before < 16 }
     requires long { length values.old.items ≤ 64 * length words.now }
@@ -26,7 +27,7 @@ fn append_bits(values: &mut Vec<u16>, words: &[u64], before: u8)
     }
 }
 
-/// The values of all functions at each point p, at index p, as one number: the last function's
+/// The values of all functions at each point p, at entry p, as one number: the last function's
 /// value is its lowest bit, the one before that the next bit, and so on.
 pub(crate) fn values_by_point(alloc: Global, problem: &Problem) -> Result<Vec<u16>, AllocError>
     ensures long { IfOk result (λ v. length v.items ≡ 2 ^ problem.now.inputs) }

@@ -26,9 +26,10 @@ impl Model for Renamed {
     ghost view = { λ r. record { problem = r.problem; exchange = r.exchange } };
 }
 
-/// Writes function f, number `output`, of `renamed`: at each point p its value is that of f of
-/// `problem` at `images[p]`. Requires that f of `renamed` is 0 everywhere before. No other function
-/// changes.
+/// Writes function `output`, counted from 0, of `renamed`: its value at each point p becomes that
+/// of the same function of `problem` at `images[p]`. No other function changes. Requires this
+/// function to be 0 everywhere before, both problems to have the same numbers of variables and of
+/// functions, and `images` to have a point for each point.
 fn set_values(renamed: &mut Problem, problem: &Problem, images: &[Mask], output: u8)
     requires inputs { renamed.old.inputs ≡ problem.now.inputs }
     requires outputs { outputs_of renamed.old ≡ outputs_of problem.now }
@@ -52,8 +53,8 @@ fn set_values(renamed: &mut Problem, problem: &Problem, images: &[Mask], output:
     }
 }
 
-/// The problem whose functions have at each point p the values that those of `problem` have at
-/// `images[p]`.
+/// The problem each of whose functions has at each point p the value that the same function of
+/// `problem` has at `images[p]`. Requires `images` to have a point for each point.
 fn renamed_problem(alloc: Global, problem: &Problem, images: &[Mask]) -> Result<Problem, AllocError>
     requires long { length images.now ≡ 2 ^ problem.now.inputs }
     requires inside { (k : ℕ) → k < 2 ^ problem.now.inputs →
@@ -71,9 +72,10 @@ fn renamed_problem(alloc: Global, problem: &Problem, images: &[Mask]) -> Result<
     Ok(renamed)
 }
 
-/// An exchange by which the k members of `set` become the k lowest variables: entry x of the result
-/// is the partner of x. Each member from k on is exchanged with a variable below k that is outside
-/// the set. All other variables are their own partners.
+/// An exchange of `inputs` variables, at most 16, by which the k members of `set`, all below
+/// `inputs`, become the k lowest variables: entry x of the result is the partner of x. Each member
+/// from k on is exchanged with a variable below k that is outside the set. All other variables are
+/// their own partners.
 fn partners_to_lower(inputs: u8, set: Mask) -> [VarIx; 16]
     requires { inputs ≤ 16 }
 {
@@ -94,8 +96,8 @@ fn partners_to_lower(inputs: u8, set: Mask) -> [VarIx; 16]
 }
 
 impl Renamed {
-    /// `problem` with variables exchanged in pairs so that the members of `set` are the lowest
-    /// ones. None if the partners that were chosen are no exchange.
+    /// `problem` with variables exchanged in pairs so that the k members of `set` become the k
+    /// lowest variables. `problem` has to have all members of `set`; then the result is never None.
     fn of(alloc: Global, problem: &Problem, set: Mask) -> Result<Option<Renamed>, AllocError>
         ensures { IfOk result (λ r. IfSome r (IsRenamed problem.now)) }
     {
@@ -111,7 +113,9 @@ impl Renamed {
         }))
     }
 
-    /// Where the exchange takes `set`, and where it takes each variable.
+    /// The image of `set` under the exchange: the set of its members' partners, and the partner of
+    /// each variable. If the problem lacks a member of `set`, the set and each variable stay
+    /// themselves.
     fn image_of(&self, set: Mask) -> Image
         ensures { (p : TruthTables) → p.inputs ≤ 16 → IsRenamed p self.now → set < 2 ^ p.inputs →
             TakesWidths p self.now.problem set result.set result.variables }
@@ -151,8 +155,9 @@ impl<'a> Renaming<'a> {
         }
     }
 
-    /// The renaming of `problem` that makes the members of `set` the lowest variables. Each member
-    /// that is too high is exchanged with a low variable outside the set.
+    /// The renaming of `problem` by which the k members of `set`, which have to be variables of the
+    /// problem, become the k lowest variables. Each member from k on is exchanged with a variable
+    /// below k that is outside the set.
     pub fn to_lowest(
         alloc: Global,
         problem: &'a Problem,
@@ -166,14 +171,15 @@ impl<'a> Renaming<'a> {
         })
     }
 
-    /// The problem with its own variables.
+    /// The problem as it was given, before variables were exchanged.
     pub fn problem(&self) -> &'a Problem
         ensures { result.now ≡ self.now.problem }
     {
         self.problem
     }
 
-    /// Whether the renaming has an exchange. It may be one that leaves each variable where it is.
+    /// Whether the renaming has an exchange. This may be one under which each variable is its own
+    /// partner.
     pub fn is_renamed(&self) -> bool {
         self.renamed.is_some()
     }
@@ -188,8 +194,9 @@ impl<'a> Renaming<'a> {
         }
     }
 
-    /// Where the renaming takes `set`, and where it takes each variable: to variables of the
-    /// problem that `renamed` returns.
+    /// Where the renaming takes `set`, and where it takes each variable: to a set of variables, and
+    /// to variables, of the renamed problem. Requires the members of `set` to be variables of the
+    /// problem.
     pub fn image_of(&self, set: Mask) -> Image
         requires { set < 2 ^ self.now.problem.inputs }
         ensures { TakesWidths self.now.problem (renamed_of self.now.problem self.now.renamed) set
@@ -202,8 +209,8 @@ impl<'a> Renaming<'a> {
         }
     }
 
-    /// `pairs` with each variable replaced by the one to which the renaming takes it; no pairs if
-    /// no order keeps the replaced ones.
+    /// `pairs` with each variable replaced by the one to which the renaming takes it. If variables
+    /// are exchanged, pairs with a variable that the problem lacks are left out.
     pub fn pairs(&self, alloc: Global, pairs: &Pairs) -> Result<Pairs, AllocError> {
         let Some(renamed) = &self.renamed else {
             return Ok(pairs.copied());

@@ -33,7 +33,10 @@ struct NamedStrips {
     strips: IndexSet<[u64; 4]>,
 }
 
-/// Adds to `found` the strips of a function, whose packed truth table is `words`.
+/// Appends to `found` the strips, of four words each, of a function with the packed truth table
+/// `words`: the name of each strip, and the words of strips that are new. Requires the number of
+/// words to be a multiple of 4 and at most 1024, and at most 2^16 distinct strips before. If memory
+/// is refused, some strips may be missing.
 fn push_strips(found: &mut NamedStrips, words: &[u64]) -> Result<(), AllocError>
     requires whole { (strips : ℕ) × (length words.now ≡ strips * 4) }
     requires few { length words.now ≤ 2 ^ 10 }
@@ -49,8 +52,8 @@ fn push_strips(found: &mut NamedStrips, words: &[u64]) -> Result<(), AllocError>
     Ok(())
 }
 
-/// The strips of all functions of a problem, function by function. Requires at least eight
-/// variables.
+/// The distinct strips of 256 points of all functions' truth tables, and the name of each strip,
+/// function by function: its number among the distinct ones. Requires at least eight variables.
 fn name_strips(alloc: Global, problem: &Problem) -> Result<NamedStrips, AllocError>
     requires { 8 ≤ problem.now.inputs }
     ensures some { 0 < outputs_of problem.now }
@@ -71,8 +74,8 @@ fn name_strips(alloc: Global, problem: &Problem) -> Result<NamedStrips, AllocErr
     Ok(found)
 }
 
-/// The class numbers of the values in `strips`, of 256 points each, one strip after the other: 0
-/// for the value `first`, and 1 for the other value.
+/// The class numbers of the values in `strips`, at most 2^12 strips of 256 points each, one strip
+/// after the other: 0 for the value `first`, and 1 for the other value.
 fn numbers_of(alloc: Global, strips: &[[u64; 4]], first: bool) -> Result<Vec<u32>, AllocError>
     requires { length strips.now ≤ 2 ^ 12 }
     ensures { IfOk result (λ v. v.items ≡
@@ -86,7 +89,9 @@ fn numbers_of(alloc: Global, strips: &[[u64; 4]], first: bool) -> Result<Vec<u32
     Ok(numbers)
 }
 
-/// The class numbers of a problem's values, with a strip for each function.
+/// The class numbers of a problem's values, for problems of fewer than eight variables: the strip
+/// of each function is its whole truth table, and is stored even if it is equal to another one. The
+/// value of function 0 at point 0 has the class number 0, and the other value has 1.
 fn whole_strips(alloc: Global, problem: &Problem) -> Result<ValueStrips, AllocError>
     ensures { IfOk result (λ v. HoldsValues problem.now v.outer.items v.numbers.items
         (2 ^ problem.now.inputs)) }
@@ -100,8 +105,9 @@ fn whole_strips(alloc: Global, problem: &Problem) -> Result<ValueStrips, AllocEr
 }
 
 /// The class numbers of a problem's values, in strips of the points that differ in the lowest eight
-/// variables alone. The value of the first function at point 0 has class number 0, the other value
-/// 1. With fewer than eight variables there is a strip for each function.
+/// variables alone; equal strips are stored once. The value of function 0 at point 0 has the class
+/// number 0, and the other value has 1. With fewer than eight variables there is a strip for each
+/// function instead, which is its whole truth table.
 pub fn value_strips(alloc: Global, problem: &Problem) -> Result<ValueStrips, AllocError>
     ensures { IfOk result (λ v. HoldsValues problem.now v.outer.items v.numbers.items
         (2 ^ min problem.now.inputs 8)) }
