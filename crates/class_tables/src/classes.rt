@@ -43,7 +43,7 @@ impl<'a> Model for Classes<'a> {
 impl<'a> Classes<'a> {
     ghost use Rattle.subfunction_classes.specs.Table.{set_of, functions_of, with_variable, classes_of};
 
-    /// The class table of the empty set.
+    /// The class table of the empty set, for the functions of `problem`.
     pub fn of_problem(alloc: Global, problem: &'a Problem) -> Result<Classes<'a>, AllocError>
         ensures { IfOk result (λ c. c ≡ classes_of problem.now 0) }
     {
@@ -57,7 +57,8 @@ impl<'a> Classes<'a> {
         })
     }
 
-    /// The class table of the set `mask`.
+    /// The class table of the set `mask`, for the functions of `problem`. Requires that all members
+    /// of the set are variables of the problem.
     pub fn of_set(
         alloc: Global,
         problem: &'a Problem,
@@ -75,8 +76,8 @@ impl<'a> Classes<'a> {
         Ok(classes)
     }
 
-    /// Whether x is a variable of the problem that is not in the set, so that it may be added to
-    /// it.
+    /// Whether `x` is a variable of the problem that is not in the set, so that it may be added to
+    /// the set.
     pub fn lacks(&self, x: VarIx) -> bool
         ensures inside { IsTrue result → x < self.now.problem.inputs }
         ensures new { IsTrue result → IsFalse (has (set_of self.now) x) }
@@ -86,8 +87,9 @@ impl<'a> Classes<'a> {
         x < self.problem.inputs() && !contains(self.set, x)
     }
 
-    /// The class number of each subfunction, by first occurrence: function by function, assignments
-    /// of the variables outside the set rising, the lowest variable in the lowest bit.
+    /// The class number of each subfunction over the set: function by function, by rising
+    /// assignments of the variables outside the set, of which the lowest is the lowest bit. Classes
+    /// are numbered by first occurrence.
     pub fn numbers(&self) -> &[u32]
         ensures { result.now ≡ class_numbers self.now.problem.inputs (functions_of self.now)
             (set_of self.now) }
@@ -95,7 +97,8 @@ impl<'a> Classes<'a> {
         self.numbers.as_slice()
     }
 
-    /// The width of `x` over the set. The tally rises by one, unless memory is refused.
+    /// The width of `x` over the set. `tally` rises by one, unless memory is refused. Requires that
+    /// `x` is a variable of the problem and not in the set, and `tally` below 2^32.
     pub fn width(&self, alloc: Global, x: VarIx, tally: &mut Tally) -> Result<u32, AllocError>
         requires inside { x < self.now.problem.inputs }
         requires new { IsFalse (has (set_of self.now) x) }
@@ -112,8 +115,10 @@ impl<'a> Classes<'a> {
         Ok(width)
     }
 
-    /// The width of x over the set, counted in the working memory `scratch`. Requires `scratch` to
-    /// be long enough for all class tables of the problem. The tally rises by one.
+    /// The width of `x` over the set. `tally` rises by one. `scratch` is working memory, which
+    /// keeps its length; what it holds before doesn't matter. Requires that `x` is a variable of
+    /// the problem and not in the set, that `scratch` is long enough for all class tables of the
+    /// problem, and that `tally` is below 2^32.
     pub fn width_in(&self, x: VarIx, scratch: &mut Scratch, tally: &mut Tally) -> u32
         requires inside { x < self.now.problem.inputs }
         requires new { IsFalse (has (set_of self.now) x) }
@@ -131,7 +136,7 @@ impl<'a> Classes<'a> {
         width
     }
 
-    /// The width of x, a member of the set, over the set without it.
+    /// The width of `x` over the set without `x`. Requires that `x` is a member of the set.
     fn width_into(&self, x: VarIx) -> u32
         requires { IsTrue (has (set_of self.now) x) }
         ensures { result ≡ width_over self.now.problem.inputs (functions_of self.now)
@@ -147,7 +152,8 @@ impl<'a> Classes<'a> {
         self.set
     }
 
-    /// The class table of the set with x added.
+    /// The class table of the set with `x` added. Requires that `x` is a variable of the problem
+    /// and not in the set.
     pub fn compact(&self, alloc: Global, x: VarIx) -> Result<Classes<'a>, AllocError>
         requires inside { x < self.now.problem.inputs }
         requires new { IsFalse (has (set_of self.now) x) }
@@ -156,8 +162,9 @@ impl<'a> Classes<'a> {
         self.compact_by(alloc, x, false)
     }
 
-    /// The class table of the set with x added. Pairs of class numbers are numbered in an
-    /// `IndexSet`. It is slower than `compact`, and serves tests for comparison.
+    /// The class table of the set with `x` added. Requires that `x` is a variable of the problem
+    /// and not in the set. Pairs of class numbers are numbered in an `IndexSet`: slower than
+    /// `compact`, for comparison in tests.
     pub fn compact_indexed(&self, alloc: Global, x: VarIx) -> Result<Classes<'a>, AllocError>
         requires inside { x < self.now.problem.inputs }
         requires new { IsFalse (has (set_of self.now) x) }
@@ -166,8 +173,9 @@ impl<'a> Classes<'a> {
         self.compact_by(alloc, x, true)
     }
 
-    /// The class table of the set with x added. An `IndexSet` numbers the pairs of class numbers if
-    /// `indexed` is true, else `number_with_masks` does; the result is the same.
+    /// The class table of the set with `x` added. Requires that `x` is a variable of the problem
+    /// and not in the set. An `IndexSet` numbers the pairs of class numbers if `indexed` is true,
+    /// else `number_with_masks` does; the result is the same.
     fn compact_by(&self, alloc: Global, x: VarIx, indexed: bool) -> Result<Classes<'a>, AllocError>
         requires inside { x < self.now.problem.inputs }
         requires new { IsFalse (has (set_of self.now) x) }

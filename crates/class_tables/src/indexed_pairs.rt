@@ -11,8 +11,8 @@ use indexmap::IndexSet;
 use pair_numbering::{EntryPairs, MaskedNumbers, MaskedPairs, join_masks, number_with_masks};
 use std::alloc::{AllocError, Global};
 
-/// The number, by first occurrence, of each pair of a class table's entries, found with an
-/// `IndexSet`.
+/// The number, by first occurrence, of each pair in `entries`, found with an `IndexSet`. A pair has
+/// the class numbers of two entries of a class table that differ in one variable.
 fn index_pairs(alloc: Global, entries: &EntryPairs<'_>) -> Result<Vec<u32>, AllocError>
     ensures { IfOk result (λ v. v.items ≡
         ranks same_pair (places.pairs entries.now.numbers (2 ^ entries.now.rank))) }
@@ -27,8 +27,8 @@ fn index_pairs(alloc: Global, entries: &EntryPairs<'_>) -> Result<Vec<u32>, Allo
     Ok(out)
 }
 
-/// The distinct pairs of a class table's entries: at index k the pair that has the number k.
-/// Requires `numbered` to have the number of each pair by first occurrence.
+/// The distinct pairs in `entries`, each of two class numbers, by rising number. Requires that
+/// `numbered[j]` is the number of pair j by first occurrence.
 fn distinct_pairs(
     alloc: Global,
     entries: &EntryPairs<'_>,
@@ -48,8 +48,8 @@ fn distinct_pairs(
     Ok(pairs)
 }
 
-/// The number, by first occurrence, of each pair of a class table's entries, and for each number
-/// the mask of the variables that the functions of its pair depend on. An `IndexSet` finds the
+/// The number, by first occurrence, of each pair of class numbers in `pairs`, and for each number
+/// the mask of the function whose cofactors by `pairs.x` are the pair. An `IndexSet` finds the
 /// numbers.
 fn number_pairs_by_index(
     alloc: Global,
@@ -67,9 +67,9 @@ fn number_pairs_by_index(
     })
 }
 
-/// The number, by first occurrence, of each pair of a class table's entries, and for each number
-/// the mask of the variables that the functions of its pair depend on. An `IndexSet` finds the
-/// numbers if `indexed` is true, else `number_with_masks` does.
+/// The number, by first occurrence, of each pair of class numbers in `pairs`, and for each number
+/// the mask of the function whose cofactors by `pairs.x` are the pair. An `IndexSet` finds the
+/// numbers if `indexed` is true, else `number_with_masks` does; the result is the same.
 pub(crate) fn number_by(
     alloc: Global,
     pairs: &MaskedPairs<'_>,

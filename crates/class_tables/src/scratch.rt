@@ -43,7 +43,7 @@ impl Model for Scratch {
 }
 
 impl Scratch {
-    /// Working memory for all class tables of a problem.
+    /// Working memory that is long enough for all class tables of `problem`.
     pub fn of(alloc: Global, problem: &Problem) -> Result<Scratch, AllocError>
         ensures { IfOk result (λ s. s ≡ most_entries problem.now) }
     {
@@ -57,9 +57,11 @@ impl Scratch {
         })
     }
 
-    /// Counts the distinct pairs whose joined mask has the variable in which their entries differ:
-    /// the width of that variable. The joined mask of a pair is the mask of the function whose
-    /// cofactors are the pair's classes.
+    /// The width of `pairs.x`: how many distinct pairs of class numbers in `pairs` are the
+    /// cofactors, by `pairs.x`, of a function that depends on `pairs.x`. The working memory keeps
+    /// its length; what it holds before doesn't matter. Requires that the class table whose pairs
+    /// these are has no more entries than this memory has room for, and no more classes than
+    /// entries.
     pub fn count_joined(&mut self, pairs: &MaskedPairs<'_>) -> u32
         requires few { length pairs.now.masks.now ≤ length pairs.now.entries.numbers }
         requires long { length pairs.now.entries.numbers ≤ self.old }
@@ -78,8 +80,11 @@ impl Scratch {
     }
 }
 
-/// Counts the distinct pairs whose joined mask has the variable in which their entries differ. The
-/// five slices are working memory as in `Scratch`, long enough for the pairs.
+/// Counts the distinct pairs of class numbers in `pairs` that are the cofactors, by `pairs.x`, of a
+/// function that depends on `pairs.x`. The five slices are working memory: what they hold before
+/// doesn't matter, and what they hold after has no meaning. They must be equally long, with at
+/// least a word for each entry of the class table whose pairs these are. Requires that this table
+/// has no more classes than entries.
 fn count_in(
     pairs: &MaskedPairs<'_>,
     heads: &mut [u32],
@@ -106,9 +111,9 @@ fn count_in(
     count_firsts(pairs, first)
 }
 
-/// Counts the distinct pairs whose joined mask has the variable in which their entries differ.
-/// `first[j]` is the first pair that is equal to pair j, so a distinct pair is counted at the j
-/// with `first[j] = j`.
+/// Counts the distinct pairs of class numbers in `pairs` that are the cofactors, by `pairs.x`, of a
+/// function that depends on `pairs.x`. Requires that `first[j]`, for each pair j, is the index of
+/// the first pair equal to it.
 fn count_firsts(pairs: &MaskedPairs<'_>, first: &[u32]) -> u32
     requires first { AreFirsts pairs.now.entries first.now }
     ensures { CountsMasks pairs.now.masks.now pairs.now.x

@@ -54,9 +54,10 @@ impl Model for Board {
 }
 
 impl Board {
-    /// A board for a layer, with empty cells, and a seat for each worker. Cells that are posted
-    /// must be those that the definition gives for the problem, the pairs and the limit: the upper
-    /// bound on the size of an order, and the rule of the lower bound.
+    /// A board for `layer`, with empty cells, and a seat for each worker. A cell may be posted to
+    /// it only if the definition of cells gives it for the set by `problem`, `pairs` and `limit`:
+    /// the upper bound on the size of an order, and the rule of the lower bound. Requires `layer`
+    /// to be of the problem's variables.
     pub fn new(
         alloc: Global,
         problem: &Problem,
@@ -91,7 +92,8 @@ impl Board {
         Ok((board, seats))
     }
 
-    /// Splits the first seat of a new board into the seats of `count` workers, and returns them.
+    /// Splits `first`, the only seat at the words of this new board, into the seats of `count`
+    /// workers, at least 1, and returns them.
     fn seats(
         &self,
         alloc: Global,
@@ -115,8 +117,8 @@ impl Board {
     }
 
     /// Claims the next block that no worker has claimed, and returns it with its place among the
-    /// layer's blocks. None if no block is left. A seat that got None gets None ever after, and
-    /// makes no atomic step for it.
+    /// layer's blocks; `seat`, one of the board's, has it among its claims from then on. None if no
+    /// block is left. A seat that got None gets None ever after, and makes no atomic step for it.
     pub fn claim(&self, seat: &mut BoardSeat) -> Option<Claim>
         requires { seat.old.board ≡ self.now }
         ensures board { seat.new.board ≡ self.now }
@@ -143,8 +145,11 @@ impl Board {
         }
     }
 
-    /// Posts `cell`, a mask with its cell: fills this cell on the board. Refused if the seat did
-    /// not claim the mask's block, or if the cell is already filled.
+    /// Fills the cell of a set on the board by `seat`, one of the board's. `cell` has the set's
+    /// mask and what is posted, and must be for the board's problem, pairs and limit. Err is
+    /// `Double` if the cell was filled before, and it stays as it was. After Ok or `Double` the
+    /// seat knows the cell to be filled. Err is `Stranger`, and nothing changes, if the layer
+    /// doesn't have the set or the seat did not claim its block.
     pub fn post(&self, seat: &mut BoardSeat, cell: CellResult) -> Result<(), PostRefused>
         requires board { seat.old.board ≡ self.now }
         requires instance { cell.instance ≡ self.now.brief.instance }
@@ -171,8 +176,8 @@ impl Board {
         }
     }
 
-    /// Reads the cell of `mask`. None if the layer doesn't have the mask, or if the seat sees the
-    /// cell empty.
+    /// Reads the cell of the set `mask` by `seat`, one of the board's, which then knows it to be
+    /// filled. None if the layer doesn't have the set, or if the cell is empty when it is read.
     pub fn read(&self, seat: &mut BoardSeat, mask: Mask) -> Option<Cell>
         requires { seat.old.board ≡ self.now }
         ensures board { seat.new.board ≡ self.now }
@@ -192,8 +197,7 @@ impl Board {
         Some(cell_of_word(found))
     }
 
-    /// Closes the board, and uses up `seat`, which is one of its seats. No word changes from then
-    /// on.
+    /// Closes the board, so that no word changes any more, and uses up `seat`, one of its seats.
     pub fn into_closed(self, seat: BoardSeat) -> ClosedBoard
         requires { seat.board ≡ self }
         ensures brief { result.brief ≡ self.brief }
@@ -213,8 +217,9 @@ impl Board {
         }
     }
 
-    /// Closes the board and returns the cells of all masks, in the layer's order. The error gives
-    /// the closed board, and the least mask whose cell is empty in it, or `OutOfMemory`.
+    /// Closes the board by `seat`, one of its seats, and returns the cells of all masks, in the
+    /// layer's order. Err gives the closed board and the reason: `Missing` with the least mask
+    /// whose cell is empty, or `OutOfMemory`.
     pub fn close(
         self,
         alloc: Global,
@@ -236,7 +241,7 @@ impl Board {
     }
 }
 
-/// `count` words that are 0.
+/// A list of `count` words that are 0.
 fn zeros(alloc: Global, count: usize) -> Result<Vec<u64>, AllocError>
     ensures { IfOk result (λ v. v.items ≡ replicate count 0) }
 {

@@ -47,6 +47,7 @@ impl Model for ClosedBoard {
 }
 
 impl Drop for ClosedBoard {
+    /// Frees the memory of the closed board's words.
     fn drop(self) {
         let ClosedBoard {
             closed,
@@ -58,8 +59,8 @@ impl Drop for ClosedBoard {
 }
 
 impl ClosedBoard {
-    /// The cells of all masks, in the layer's order. The error is the least mask whose cell is
-    /// empty, or `OutOfMemory`.
+    /// The cells of all masks, in the layer's order. Err is `Missing` with the least mask whose
+    /// cell is empty, or `OutOfMemory`.
     pub fn cells(&self, alloc: Global) -> Result<Vec<Cell>, CloseError>
         ensures all { IfOk result (λ v. map (λ c. Some (pair_of c)) v.items ≡ self.now.cells) }
         ensures cells { IfOk result
@@ -81,7 +82,8 @@ impl ClosedBoard {
         Ok(cells)
     }
 
-    /// The cell of the mask at place `place` of the layer. None if the cell is empty.
+    /// The cell of the mask at place `place` of the layer's masks, counted from 0. None if the cell
+    /// is empty. Requires `place` to be below the number of masks.
     fn cell_at(&self, place: usize) -> Option<Cell>
         requires { place < length (masks_of self.now.brief.layer) }
         ensures some { IfSome result

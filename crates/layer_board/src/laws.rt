@@ -15,18 +15,18 @@ ghost use Rattle.layer_board.specs.Closing.{OneMissesTheLeast};
 ghost use Rattle.layer_board.specs.Refusals.{SeatsLackWhatIsEmpty};
 ghost use Rattle.layer_board.specs.Invariant.{Kept, IsCellAt, Sat, cell_in, shows, claims, posts, reads, claim_reply, post_reply, read_reply};
 
-/// Between any two atomic steps on a board, its words and its seats show a right state of the
-/// layer's machine: each filled cell is the one that the definition gives its mask, and each block
-/// whose place is below the count of claims is claimed by exactly one worker, each other block by
-/// none.
+/// Law: between any two atomic steps on a board, its words and its seats show a right state of the
+/// layer's state machine. This means: each filled cell is the one that the definition of cells
+/// gives for its set, each block before the next one to be claimed is claimed by exactly one
+/// worker, and the others by none.
 pub fn tables_show_right_states()
     ensures { (b : BriefOf) (s : State (Unit {0}) SeatView) → Kept b s →
         Right (IsCellAt b.instance) (shows b s) }
 {}
 
-/// The atomic step by which a seat claims a block is a step of the layer's machine: its reply, and
-/// the state that the board shows after it, are those of the machine's step for this claim. The
-/// seat has not found before that no block is left.
+/// Law: the atomic step by which a seat claims a block is a claim at the layer's state machine: the
+/// seat gets the machine's reply, and the board then shows the machine's next state. Requires that
+/// no claim of this seat has found that no block was left.
 pub fn claims_are_events()
     ensures { (b : BriefOf) (s : State (Unit {0}) SeatView) (id : ℕ) (v : SeatView) (slots : ℕ)
         (m : Sat) →
@@ -38,9 +38,9 @@ pub fn claims_are_events()
         step (shows b s) (Claim id) }
 {}
 
-/// The atomic step by which a seat posts a cell is a step of the layer's machine: its reply, and
-/// the state that the board shows after it, are those of the machine's step for this post. The seat
-/// has claimed the mask's block.
+/// Law: the atomic step by which a seat posts a cell is a post at the layer's state machine: the
+/// seat gets the machine's reply, and the board then shows the machine's next state. Requires that
+/// the seat has claimed the mask's block.
 pub fn posts_are_events()
     ensures { (b : BriefOf) (s : State (Unit {0}) SeatView) (id : ℕ) (v : SeatView)
         (slots p mask new : ℕ) (cell : ℕ × ℕ) (m : Sat) →
@@ -56,9 +56,8 @@ pub fn posts_are_events()
         step (shows b s) (Post id mask cell) }
 {}
 
-/// The atomic step by which a seat reads the cell of a mask of the layer is a step of the layer's
-/// machine: its reply, and the state that the board shows after it, are those of the machine's step
-/// for this read.
+/// Law: the atomic step by which a seat reads a cell of the layer is a read at the layer's state
+/// machine: the seat gets the machine's reply, and the board then shows the machine's next state.
 pub fn reads_are_events()
     ensures { (b : BriefOf) (s : State (Unit {0}) SeatView) (id : ℕ) (v : SeatView)
         (slots p mask : ℕ) (m : Sat) →
@@ -70,14 +69,14 @@ pub fn reads_are_events()
         step (shows b s) (Read id mask) }
 {}
 
-/// If a board of one worker is closed while a cell is empty, the error names the least mask whose
-/// cell the worker's seat doesn't know to be filled.
+/// Law: if a board of one worker is closed while a cell is empty, the error names the least mask
+/// whose cell the worker's seat doesn't know to be filled.
 pub fn one_worker_misses_the_least()
     ensures { OneMissesTheLeast }
 {}
 
-/// If a board is closed while a cell is empty, the seat that closed it didn't know the cell of the
-/// least such mask to be filled.
+/// Law: let m be the least mask whose cell is empty in a closed board. Then the seat that closed
+/// the board doesn't know the cell of m to be filled.
 pub fn seats_lack_what_is_empty()
     ensures { SeatsLackWhatIsEmpty }
 {}

@@ -34,7 +34,8 @@ impl Model for BoardSeat {
 }
 
 impl BoardSeat {
-    /// The seat of a worker that made no step, at a board of `blocks` blocks.
+    /// The seat of a worker that has made no step, at a board of `blocks` blocks. `seat` is the
+    /// worker's view of the board's words.
     pub(crate) fn first(
         alloc: Global,
         seat: Seat<(), Knowledge>,
@@ -72,14 +73,14 @@ impl Model for Claim {
 }
 
 impl Claim {
-    /// The claim of `block`, which stands at `place` among the layer's blocks.
+    /// The claim of `block`, which stands at `place` among the layer's blocks, counted from 0.
     pub(crate) fn new(place: usize, block: Block) -> Claim
         ensures { result ≡ record { place = place; block = block } }
     {
         Claim { place, block }
     }
 
-    /// The block's place among the layer's blocks, from 0.
+    /// The block's place among the layer's blocks, counted from 0.
     pub fn place(&self) -> usize
         ensures { result ≡ self.now.place }
     {

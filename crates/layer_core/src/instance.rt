@@ -38,9 +38,9 @@ impl<'a> Instance<'a> {
     ghost use Rattle.layer_core.specs.Pairing.{pair_of};
     ghost use Rattle.layer_core.specs.Instances.{cell_for, instance_of};
 
-    /// The instance of the functions of `problem`, with these pairs and the upper bound and the
-    /// rule of the lower bound that `limit` has. Requires that `pairs` are pairs of the variables
-    /// of `problem`.
+    /// The problem instance with the functions of `problem`, the pairs that an order must keep, and
+    /// `limit`: the upper bound and the rule of the lower bound. Requires that `pairs` are of the
+    /// variables of `problem`, and that the upper bound is below 2^32 - 1.
     pub fn new(problem: &'a Problem, pairs: &'a Pairs, limit: Limit) -> Instance<'a>
         requires pairs { pairs.now.inputs ≡ problem.now.inputs }
         requires room { limit.bound + 1 < 2 ^ 32 }
@@ -55,7 +55,7 @@ impl<'a> Instance<'a> {
         }
     }
 
-    /// The number of variables.
+    /// The number of variables, 1 to 16.
     pub fn inputs(&self) -> u8
         ensures value { result ≡ self.now.problem.inputs }
         ensures some { 1 ≤ result }

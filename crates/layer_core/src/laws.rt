@@ -8,10 +8,10 @@ ghost use Rattle.definitions.specs.declared.limits.LowerBound.{LowerBound};
 ghost use Rattle.layer_core.specs.Machine.{Layout, Event, opening, run};
 ghost use Rattle.layer_core.specs.Rights.{IsLayout, RightFor, ArePosted, IsFilled, claimants, all_cells};
 
-/// After any events from the machine's opening on, its state is right, if each posted cell is the
-/// one that the definition gives the mask. In a right state each filled cell is that of its mask,
-/// and each block whose place is below the counter is claimed by exactly one worker, each other
-/// block by none.
+/// Law: after events in which each posted cell is the one that the definition of cells gives for
+/// its set, the state machine of a layer is in a right state. This means: each filled cell is the
+/// one of this definition, each block before the next one to be claimed is claimed by exactly one
+/// worker, and the others by none.
 pub fn events_keep_it_right()
     ensures { (n : ℕ) (F : List Function) (P : List Pair) (r : LowerBound) (bound : ℕ)
         (l : Layout) (workers : ℕ)
@@ -20,8 +20,9 @@ pub fn events_keep_it_right()
         RightFor n F P r bound (run (opening l workers) events) }
 {}
 
-/// After any events in which each posted cell is the one that the definition gives the mask, a
-/// block that has a mask and whose place is below the counter is claimed by exactly one worker.
+/// Law: after events in which each posted cell is the one that the definition of cells gives for
+/// its set, each nonempty block of a layer before the next one to be claimed is claimed by exactly
+/// one worker.
 pub fn each_claim_is_one_workers()
     ensures { (n : ℕ) (F : List Function) (P : List Pair) (r : LowerBound) (bound : ℕ)
         (l : Layout) (workers : ℕ)
@@ -31,8 +32,9 @@ pub fn each_claim_is_one_workers()
         claimants (slice_index l.block_of p) (run (opening l workers) events).workers ≡ 1 }
 {}
 
-/// If each posted cell is the one that the definition gives the mask, and the cells of all masks of
-/// the layer are filled, they are the cells that the definition gives these masks.
+/// Law: if each posted cell is the one that the definition of cells gives for its set, and the
+/// cells of all sets of the layer are filled, they are those that this definition gives for these
+/// sets.
 pub fn filled_cells_are_the_definitions()
     ensures { (n : ℕ) (F : List Function) (P : List Pair) (r : LowerBound) (bound : ℕ)
         (l : Layout) (workers : ℕ)

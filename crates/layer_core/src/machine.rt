@@ -55,7 +55,7 @@ impl Model for Core {
 }
 
 impl Core {
-    /// The machine of a layer and of `workers` workers before the first step: all cells of the
+    /// The state machine of `layer` for `workers` workers, before the first step: all cells of the
     /// layer are empty, and no block is claimed.
     pub fn new(alloc: Global, layer: &Layer, workers: Workers) -> Result<Core, AllocError>
         ensures opening { IfOk result (λ c. c ≡ opening (layout_of layer.now) workers) }
@@ -72,8 +72,9 @@ impl Core {
         })
     }
 
-    /// Carries out a worker's step, and returns the machine's reply to the worker. Requires the
-    /// number of the worker to be at least 1 and at most the number of the machine's workers.
+    /// Carries out `event`, a step of a worker, and returns the machine's reply to the worker.
+    /// Requires the number of the worker to be at least 1 and at most the number of the machine's
+    /// workers.
     pub fn step(&mut self, event: Event) -> Reply
         requires { IsByWorker self.old event }
         ensures step { (reply_of result, self.new) ≡ step self.old (event_of event) }
@@ -88,8 +89,9 @@ impl Core {
         }
     }
 
-    /// Claims the next block for worker number `worker` + 1. Replies `Claimed` with the block's
-    /// place, or `NoMore` if no block is left.
+    /// Claims the next block for the worker with the index `worker`, counted from 0 and below the
+    /// number of workers, and replies `Claimed` with the block's place. If no block is left,
+    /// replies `NoMore`, now and to all later claims of this worker.
     fn claim(&mut self, worker: usize) -> Reply
         requires { worker < length self.old.workers }
         ensures { (reply_of result, self.new) ≡ step self.old (Claim worker) }
@@ -108,9 +110,10 @@ impl Core {
         }
     }
 
-    /// Fills the cell of `mask` with `cell` for worker number `worker` + 1, and replies `Posted`.
-    /// Else changes nothing: replies `Stranger` if the layer doesn't have the mask or the worker
-    /// didn't claim the mask's block, and `Double` if the cell was filled before.
+    /// Fills the cell of `mask` with `cell` for the worker with the index `worker`, counted from 0
+    /// and below the number of workers, who then knows it to be filled. Replies `Posted`. Else
+    /// changes nothing: replies `Stranger` if the layer doesn't have the mask or the worker didn't
+    /// claim the mask's block, and `Double` if the cell was filled before.
     fn post(&mut self, worker: usize, mask: Mask, cell: Cell) -> Reply
         requires { worker < length self.old.workers }
         ensures { (reply_of result, self.new) ≡ step self.old (Post worker mask (pair_of cell)) }
@@ -129,8 +132,10 @@ impl Core {
         Reply::Posted
     }
 
-    /// Reads the cell of `mask` for worker number `worker` + 1. Replies `Seen` with the cell, or
-    /// `Empty` if it isn't filled or the layer doesn't have the mask.
+    /// Reads the cell of `mask` for the worker with the index `worker`, counted from 0 and below
+    /// the number of workers. If it is filled, replies `Seen` with the cell, and the worker then
+    /// knows it to be filled. If it is empty, or the layer doesn't have the mask, changes nothing
+    /// and replies `Empty`.
     fn read(&mut self, worker: usize, mask: Mask) -> Reply
         requires { worker < length self.old.workers }
         ensures { (reply_of result, self.new) ≡ step self.old (Read worker mask) }
@@ -146,7 +151,7 @@ impl Core {
     }
 }
 
-/// `count` empty cells.
+/// A list of `count` empty cells.
 fn empty_cells(alloc: Global, count: usize) -> Result<Vec<Option<Cell>>, AllocError>
     ensures { IfOk result (λ cells. cells.items ≡ replicate count None) }
 {
@@ -157,8 +162,8 @@ fn empty_cells(alloc: Global, count: usize) -> Result<Vec<Option<Cell>>, AllocEr
     Ok(cells)
 }
 
-/// What each of `workers` workers did and knew before the first step, which is nothing, at a layer
-/// of `blocks` blocks and `masks` masks.
+/// The marks of `workers` workers before the first step, at a layer of `blocks` blocks and `masks`
+/// masks: none has claimed a block, found no block left, or knows a cell to be filled.
 fn blank_marks(
     alloc: Global,
     blocks: usize,

@@ -13,10 +13,10 @@ use order_model::{LowerBound, Mask, next_member};
 use std::alloc::{AllocError, Global};
 use subset_layers::{Block, Costs};
 
-/// The members of the set `mask` whose widths its cell takes, as a mask. Requires that `known` has
-/// those members for which the set without the member costs at most the bound. With the lower bound
-/// by variables they are the members in `known`. With that by widths they are all members, or none
-/// if `known` is empty.
+/// The members of the lawful set `mask`, as a mask, whose widths its cell takes in a search with
+/// the lower bound `lower_bound`. `known` is the mask of the members x for which the set without x
+/// costs at most the search's bound. By variables the result is `known`; by widths it is `mask`, or
+/// 0 if `known` is 0.
 pub fn asked_members(lower_bound: LowerBound, mask: Mask, known: Mask) -> Mask
     ensures { (n bound : ℕ) (costs : ℕ → ℕ) →
         known ≡ mask_of (candidates n bound mask costs) → mask < 2 ^ n →
@@ -28,8 +28,8 @@ pub fn asked_members(lower_bound: LowerBound, mask: Mask, known: Mask) -> Mask
     }
 }
 
-/// The members of the set `mask`, as a mask, for which the set without the member costs at most
-/// `bound`. Requires that `costs` has the costs of the sets with one variable less than `mask`.
+/// The members x of the set `mask`, as a mask, for which the set without x costs at most `bound`.
+/// Requires that `costs` has the costs of all sets with one variable less than `mask`.
 fn affordable_members(mask: Mask, costs: &Costs, bound: u32) -> Mask
     requires { IsInNextLayer costs.now mask }
     ensures { result ≡ mask_of (affordable costs.now bound mask) }
@@ -47,7 +47,8 @@ fn affordable_members(mask: Mask, costs: &Costs, bound: u32) -> Mask
 }
 
 /// The members of the set `mask` whose widths its cell takes, as a mask; 0 if the set is not
-/// lawful. Requires that `before` has the costs of the sets with one variable less than `mask`.
+/// lawful. Requires that `before` has the costs, for `instance`, of all sets with one variable less
+/// than `mask`.
 fn needed_members(instance: &Instance<'_>, before: &Costs, mask: Mask) -> Mask
     requires next { IsInNextLayer before.now mask }
     requires inputs { before.now.inputs ≡ instance.now.problem.inputs }
@@ -64,8 +65,8 @@ fn needed_members(instance: &Instance<'_>, before: &Costs, mask: Mask) -> Mask
 }
 
 /// For each set of the block, in the block's order, the mask of the members whose widths the set's
-/// cell takes. Requires that `before` has the costs of the sets with one variable less than those
-/// of the block.
+/// cell takes; 0 if the set is not lawful. Requires that `before` has the costs, for `instance`, of
+/// all sets with one variable less than those of the block.
 pub fn needs_of_block(
     alloc: Global,
     instance: &Instance<'_>,

@@ -8,8 +8,9 @@ ghost use Rattle.layer_core.specs.Placed.{AreCellsPlaced, StayPlaced};
 
 use subset_layers::{Block, Cell, Layer};
 
-/// Writes `found`, the cells of a block's sets in the block's order, to their places in `cells`,
-/// which has the cells of the whole layer in the layer's order. The other cells stay.
+/// Writes `found`, the cells of the sets of `block` in its order, to their places in `cells`, which
+/// has a cell for each set of `layer` in its order. The other cells stay. Requires `block` to be
+/// one of the layer's.
 pub fn place_cells(layer: &Layer, block: &Block, found: &[Cell], cells: &mut [Cell])
     requires layer { layer_of block.now ≡ layer.now }
     requires found { length found.now ≡ length (block_masks block.now) }

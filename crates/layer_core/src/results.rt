@@ -34,8 +34,9 @@ impl CellResult {
     ghost use Rattle.layer_core.specs.Instances.{cell_for, instance_of};
     ghost use Rattle.layer_core.specs.Pairing.{pair_of};
 
-    /// A mask with its cell. Requires `cell` to be the one that the definition gives the mask for
-    /// the problem, the pairs and the limit.
+    /// The set `mask` with its cell. Requires `cell` to be the one that the definition of cells
+    /// gives for the set by the problem, the pairs and the limit, and the limit's bound to be below
+    /// 2^32 - 1.
     pub fn new(problem: &Problem, limit: Limit, mask: Mask, cell: Cell, pairs: &Pairs) -> CellResult
         requires bound { limit.bound < 2 ^ 32 - 1 }
         requires cell { pair_of cell ≡ cell_for (instance_of problem.now pairs.now limit) mask }

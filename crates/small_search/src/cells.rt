@@ -14,7 +14,7 @@ use crate::width_counts::Subfunctions;
 use order_model::{Mask, next_member};
 use subset_layers::Cell;
 
-/// The cell of lower cost: `best`, if there is one and it costs no more than `next`, else `next`.
+/// The cell of lower cost: `best` if there is one and it costs no more than `next`, else `next`.
 #[inline(always)]
 fn cheaper(best: Option<Cell>, next: Cell) -> Cell
     ensures none { best ≡ None → result ≡ next }
@@ -27,11 +27,11 @@ fn cheaper(best: Option<Cell>, next: Cell) -> Cell
     }
 }
 
-/// The cell of `set`, as if the set were lawful: the least sum, over its members x, of the cost of
-/// the set without x and the width of x over that set, and the smallest x that gives it. An x for
-/// which the set without x costs more than `NO_BOUND` doesn't count. None if no member counts.
-/// `cells[m]` is the cell of the set with the mask m, for all masks below `set`, and `subfunctions`
-/// are those over `set`.
+/// The cell of `set`, which isn't empty, if it is lawful: the least sum, over its members x, of the
+/// cost of the set without x and the width of x over that set, and the smallest x that gives it.
+/// Leaves out members x for which the set without x costs more than `NO_BOUND`; None if no member
+/// remains. `cells[m]` is the cell of the set with the mask m, for all m below `set`, and
+/// `subfunctions` has the distinct subfunctions over `set`.
 #[inline(always)]
 fn best_cell(
     search: &SmallSearch<'_>,
@@ -66,10 +66,11 @@ fn best_cell(
     best
 }
 
-/// The cell of `set`. `cells[m]` is the cell of the set with the mask m, for all masks below `set`,
-/// and `subfunctions` are those over `set`. Requires that `lawful` is true exactly if the set is
-/// lawful. If it is not, or if for each member x the set without x costs more than `NO_BOUND`, the
-/// cell has a cost above `NO_BOUND` and the smallest member.
+/// The cell of `set`, which isn't empty. `cells[m]` is the cell of the set with the mask m, for all
+/// m below `set`, and `subfunctions` has the distinct subfunctions over `set`. Requires that
+/// `lawful` is true exactly if the set is lawful. If it is not, or if for each member x the set
+/// without x costs more than `NO_BOUND`, the cell has the cost `NO_BOUND` + 1 and the smallest
+/// member.
 pub(crate) fn cell_of_set(
     search: &SmallSearch<'_>,
     cells: &[Cell],

@@ -34,7 +34,9 @@ const PLACES: [u8; 256] = [
     7, 7, 7, 7, 7, 7, 7, 7, 7, 7, 7, 7, 7, 7, 3, 7, 4, 7, 7, 6, 7, 5, 7, 7, 7, 7, 5, 7, 6, 7, 7, 0,
 ];
 
-/// The places of the variables that a value over three variables depends on, as a mask.
+/// The places of the variables that a function of three variables depends on, as a mask. The
+/// highest variable has place 0, the lowest place 2. `value` is the function's truth table, below
+/// 256.
 #[inline(always)]
 fn places_of(value: u32) -> u8
     requires { value < 256 }
@@ -44,9 +46,9 @@ fn places_of(value: u32) -> u8
     PLACES[value as usize]
 }
 
-/// Which of its four variables a function depends on, as a mask of places. `pair` has the
-/// function's two halves, as truth tables of three variables: where the variable at place 3 is 0,
-/// and where it is 1.
+/// The places of the variables that a function of four variables depends on, as a mask. The highest
+/// variable has place 0, the lowest place 3. `pair` has the function's two halves, as truth tables
+/// of three variables, below 256: where the lowest variable is 0, and where it is 1.
 #[inline(always)]
 fn joined_places(pair: (u32, u32)) -> u8
     requires lower { pair.0 < 256 }
@@ -58,7 +60,7 @@ fn joined_places(pair: (u32, u32)) -> u8
     if pair.0 == pair.1 { halves } else { halves | 8 }
 }
 
-/// The variables of `set`, the lowest first. Requires that there are four.
+/// The four variables of `set`, the lowest first. Requires that it has four.
 fn variables_of(set: Mask) -> [VarIx; 4]
     requires { count_ones set ≡ 4 }
     ensures { result ≡ members 16 set }
@@ -73,7 +75,8 @@ fn variables_of(set: Mask) -> [VarIx; 4]
     variables
 }
 
-/// The mask of variable x if `places` has the place `place`, else the empty mask.
+/// The mask of the variable x if bit `place` of `places` is 1, else 0. Requires `place` to be below
+/// 8.
 #[inline(always)]
 fn variable_at(places: u8, place: u32, x: VarIx) -> Mask
     requires place { place < 8 }
@@ -83,8 +86,8 @@ fn variable_at(places: u8, place: u32, x: VarIx) -> Mask
     Mask::from((places >> place) & 1) << x
 }
 
-/// The mask of those of the four variables whose places are in `places`. The first variable has
-/// place 3, and the last one place 0.
+/// The mask of those of the four variables whose places are in the mask `places`: bit 3 stands for
+/// `variables[0]`, bit 2 for `variables[1]`, bit 1 for `variables[2]` and bit 0 for `variables[3]`.
 #[inline(always)]
 fn mask_of_places(variables: &[VarIx; 4], places: u8) -> Mask
     requires { AllBelow variables.now 16 }
@@ -96,8 +99,8 @@ fn mask_of_places(variables: &[VarIx; 4], places: u8) -> Mask
         | variable_at(places, 3, variables[0])
 }
 
-/// For each of the 16 masks of places, the mask of the variables at these places. The first
-/// variable has place 3, and the last one place 0.
+/// For each mask q of places, from 0 to 15, the mask of the variables at these places. The places
+/// of `variables[0]` to `variables[3]` are 3, 2, 1 and 0.
 fn masks_by_places(variables: &[VarIx; 4]) -> [Mask; 16]
     requires { AllBelow variables.now 16 }
     ensures { (q : ℕ) → q < 16 → slice_index result q ≡ mask_at variables.now q }
@@ -109,9 +112,10 @@ fn masks_by_places(variables: &[VarIx; 4]) -> [Mask; 16]
     masks
 }
 
-/// Overwrites `masks` with a mask for each of `pairs`, in the order of their numbers. A pair is the
-/// two halves of a function's truth table over the four `variables`, and its mask has those of the
-/// four on which the function depends.
+/// Overwrites `masks`: entry k becomes the mask of those of the four `variables`, lowest first, on
+/// which the function of pair k depends. The pair is the function's cofactors where the lowest
+/// variable is 0 and where it is 1, as truth tables of the other three, below 256. If memory is
+/// refused, `masks` has no meaning.
 fn write_masks(
     pairs: &PairNumbers,
     variables: &[VarIx; 4],
@@ -132,8 +136,10 @@ fn write_masks(
     Ok(())
 }
 
-/// Pair `j` of `values`: the value where variable x is 0, and the one where it is 1. They stand 2^x
-/// apart, because the values are over variables above x alone.
+/// Pair `j`, counted from 0 in rising order, of entries of `values` whose assignments differ in
+/// variable x alone: the entry where x is 0, and the one where x is 1. Requires that `values` are
+/// over variables above x, so that the two stand 2^x apart, and that `j` is below half of their
+/// number.
 #[inline(always)]
 fn value_pair(values: &[u8], x: VarIx, j: usize) -> (u32, u32)
     requires paired { IsPaired values.now x }
@@ -145,9 +151,10 @@ fn value_pair(values: &[u8], x: VarIx, j: usize) -> (u32, u32)
     (u32::from(values[low]), u32::from(values[low + step]))
 }
 
-/// Writes the class table of `set` to `to`, over what was there. Requires that `set` has four
-/// variables. `values` are those of all subfunctions over the set without its lowest variable x.
-/// `seen` is working memory.
+/// Overwrites `to` with the class table of `set`, four variables with x as the lowest: the class
+/// numbers, and the mask of each class. `values` has the truth tables, as numbers below 256, of all
+/// subfunctions over the set without x: outputs in order, and of each the assignments rising. What
+/// `seen` has before doesn't matter. If memory is refused, `to` has no meaning.
 pub(crate) fn number_values(
     values: &[u8],
     x: VarIx,

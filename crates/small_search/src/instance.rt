@@ -39,8 +39,10 @@ impl<'a> Model for SmallSearch<'a> {
 }
 
 impl<'a> SmallSearch<'a> {
-    /// The input of a search for the `outputs` functions of `inputs` variables whose packed truth
-    /// tables stand in `words`, one after the other. Requires that `pairs` are of these variables.
+    /// The input of a search for `outputs` functions, 1 to 16, of `inputs` variables, 1 to 16.
+    /// `words` has the functions' truth tables, packed in words of 64 points, one function after
+    /// the other. `pairs` are those that an order must keep. Requires them to be of these
+    /// variables.
     pub fn new(inputs: u8, outputs: u8, words: &'a [u64], pairs: &'a Pairs) -> SmallSearch<'a>
         requires packed { ArePacked inputs outputs words.now }
         requires pairs { pairs.now.inputs ≡ inputs }
@@ -75,7 +77,8 @@ impl<'a> SmallSearch<'a> {
         self.outputs
     }
 
-    /// The packed truth table of the function with number `output`.
+    /// The truth table of the function with the number `output`, counted from 0 and below the
+    /// number of functions, packed in words of 64 points.
     pub(crate) fn words(&self, output: u8) -> &[u64]
         requires { output < outputs_of self.now.problem }
         ensures long { length result.now ≡ size_of self.now.problem.inputs }
@@ -84,7 +87,7 @@ impl<'a> SmallSearch<'a> {
         block(self.words, words_per_table(self.inputs), output as usize)
     }
 
-    /// Whether there are no pairs to keep.
+    /// Whether there are no pairs that an order must keep.
     pub(crate) fn has_no_pairs(&self) -> bool
         ensures { IsTrue result → self.now.pairs.pairs ≡ [] }
     {
@@ -101,7 +104,8 @@ impl<'a> SmallSearch<'a> {
     }
 }
 
-/// The packed truth tables of a problem's functions, one after the other.
+/// The truth tables of a problem's functions, packed in words of 64 points, one function after the
+/// other.
 pub(crate) fn words_of(alloc: Global, problem: &Problem) -> Result<Vec<u64>, AllocError>
     ensures packed { IfOk result
         (λ v. ArePacked problem.now.inputs (outputs_of problem.now) v.items) }

@@ -10,9 +10,10 @@ use crate::instance::SmallSearch;
 use order_model::{Mask, VarIx};
 use subset_layers::Cell;
 
-/// Writes to `order` the order that `cells` gives, from the top down: the variable in the cell of
-/// the set of all variables, then the one in the cell of the set without it, and so on. `cells[m]`
-/// is the cell of the set with the mask m.
+/// Writes to `order`, which has a place for each variable, the order that `cells` gives, top first:
+/// the variable in the cell of the set of all variables, then the one in the cell of the set
+/// without it, and so on. `cells[m]` is the cell of the set with the mask m, for the problem of
+/// `search`.
 fn read_variables(search: &SmallSearch<'_>, cells: &[Cell], order: &mut [VarIx])
     requires cells { AreFlatCells search.now cells.now }
     requires long { length order.old ≡ search.now.problem.inputs }
@@ -28,9 +29,10 @@ fn read_variables(search: &SmallSearch<'_>, cells: &[Cell], order: &mut [VarIx])
     }
 }
 
-/// Writes to `levels` the level counts of `order`, top first. That of a variable is the cost of the
-/// set of it and all below it, less the cost of the set of those below it; `cells` has these costs.
-/// Requires that `order` is the one that `cells` gives.
+/// Writes to `levels` the level counts of `order`, top first: for each variable the cost of the set
+/// of it and all below it, less the cost of the set of those below it. `cells[m]` is the cell of
+/// the set with the mask m, for the problem of `search`. Requires that `order` is the one that
+/// these cells give, and that `levels` is as long.
 fn count_levels(search: &SmallSearch<'_>, cells: &[Cell], order: &[VarIx], levels: &mut [u32])
     requires cells { AreFlatCells search.now cells.now }
     requires read { IsReadOff search.now order.now }
@@ -50,8 +52,10 @@ fn count_levels(search: &SmallSearch<'_>, cells: &[Cell], order: &[VarIx], level
     }
 }
 
-/// Writes the first order of the fewest nodes, which `cells` gives, to `order` and its level counts
-/// to `levels`. Returns its size: the number of nodes.
+/// Writes the first order of the fewest nodes, among those that keep the pairs of `search`, to
+/// `order`, top first, and its level counts to `levels`; both have a place for each variable.
+/// Returns its size, the number of nodes. `cells[m]` is the cell of the set with the mask m, for
+/// the problem of `search`.
 pub(crate) fn read_optimum(
     search: &SmallSearch<'_>,
     cells: &[Cell],

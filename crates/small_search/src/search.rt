@@ -33,8 +33,9 @@ const MOST_INPUTS: u8 = 10;
 /// the search by layers (`order_solve`) is faster.
 const MOST_ENTRIES: usize = 1 << 13;
 
-/// Whether `problem` is small: the search of this crate is then faster than the search by layers
-/// (`order_solve`).
+/// Whether `problem` has at most `MOST_INPUTS` variables, and truth tables of at most
+/// `MOST_ENTRIES` entries together. The search of this crate is then faster than the search by
+/// layers (`order_solve`).
 pub fn is_small(problem: &Problem) -> bool
     ensures { IsTrue result ↔ ((problem.now.inputs ≤ 10)
         × (outputs_of problem.now * 2 ^ problem.now.inputs ≤ 2 ^ 13)) }
@@ -42,8 +43,8 @@ pub fn is_small(problem: &Problem) -> bool
     are_few(problem.inputs(), problem.outputs())
 }
 
-/// Whether a problem of `inputs` variables and `outputs` functions is small: the search of this
-/// crate is then faster than the search by layers (`order_solve`).
+/// Whether `inputs` is at most `MOST_INPUTS`, and the truth tables of `outputs` functions of so
+/// many variables have at most `MOST_ENTRIES` entries together. Requires `inputs` to be at most 16.
 pub fn are_few(inputs: u8, outputs: u8) -> bool
     requires inputs { inputs ≤ 16 }
     ensures { IsTrue result ↔ ((inputs ≤ 10) × (outputs * 2 ^ inputs ≤ 2 ^ 13)) }
@@ -59,7 +60,8 @@ pub struct Workspace {
 }
 
 impl Workspace {
-    /// A workspace that has no memory yet.
+    /// A workspace for searches of small problems. Each search enlarges its memory if it needs
+    /// more.
     pub fn new(alloc: Global) -> Result<Workspace, AllocError> {
         Ok(Workspace {
             tables: PathTables::new(alloc)?,
@@ -68,8 +70,8 @@ impl Workspace {
     }
 }
 
-/// The distinct subfunctions over `set`, read from `tables`. Requires that these are the tables of
-/// the sets on the way to `set`: of no variable, of its highest, of its two highest, up to `set`.
+/// The distinct subfunctions over `set`, read from `tables`. Requires that `tables` has, for each k
+/// from 0 to the size of `set`, the table of the subfunctions over its k highest variables.
 #[inline(always)]
 fn subfunctions_in<'a>(
     search: &SmallSearch<'_>,
@@ -91,10 +93,11 @@ fn subfunctions_in<'a>(
     }
 }
 
-/// Finds the cell of `set`. `cells[m]` is the cell of the set with the mask m, for all masks below
-/// `set`. Requires that `tables` are those on the way to the set whose mask is smaller by 1, and
-/// turns them into those on the way to `set`. If `all_lawful` is true, the set counts as lawful
-/// without a test; this requires that there are no pairs.
+/// The cell of `set`, which isn't empty. `cells[m]` is the cell of the set with the mask m, for all
+/// m below `set`. Requires `tables` to be those for the set with the mask `set - 1`, and turns them
+/// into those for `set`: for each k, the table of the subfunctions over its k highest variables. If
+/// memory is refused, `tables` has no meaning. If `all_lawful` is true the set counts as lawful;
+/// this requires that there are no pairs to keep.
 #[inline(always)]
 fn next_cell(
     search: &SmallSearch<'_>,
@@ -119,7 +122,8 @@ fn next_cell(
 }
 
 /// Overwrites `cells` with the cells of all sets: `cells[m]` becomes that of the set with the mask
-/// m. `tables` is working memory.
+/// m, and `cells[0]` gets the cost 0. `tables` is working memory; what it has before doesn't
+/// matter. If memory is refused, `cells` has no meaning.
 fn find_cells(
     alloc: Global,
     search: &SmallSearch<'_>,
@@ -144,10 +148,11 @@ fn find_cells(
     Ok(())
 }
 
-/// Writes the first order of the fewest nodes among those that keep the pairs to `order` and its
-/// level counts to `levels`, and returns its size. If memory is refused, both stay as they are.
-/// `workspace` is working memory. The search takes a step for each entry of the class tables of all
-/// sets, so it is for small problems.
+/// Writes the first order of the fewest nodes among those that keep the pairs of `search` to
+/// `order`, top first, and its level counts to `levels`; both must have a place for each variable.
+/// Returns its size. If memory is refused, both stay as they are. What `workspace` has before
+/// doesn't matter. Takes a step for each entry of the class tables of all sets, so it is for small
+/// problems.
 pub fn write_optimum(
     alloc: Global,
     search: &SmallSearch<'_>,
@@ -170,7 +175,9 @@ pub fn write_optimum(
 }
 
 /// The cells of all sets of `problem`'s variables: at index m that of the set with the mask m.
-/// Requires that `pairs` are of these variables.
+/// Index 0, the empty set, has the cost 0. A set that isn't lawful has a cost above all costs of
+/// lawful sets, and its smallest member. Requires that `pairs`, which say which sets are lawful,
+/// are of these variables.
 fn all_cells(alloc: Global, problem: &Problem, pairs: &Pairs) -> Result<Vec<Cell>, AllocError>
     requires { pairs.now.inputs ≡ problem.now.inputs }
     ensures { IfOk result (λ v. AreFlatCells (plain_instance problem.now pairs.now) v.items) }
@@ -183,8 +190,9 @@ fn all_cells(alloc: Global, problem: &Problem, pairs: &Pairs) -> Result<Vec<Cell
     Ok(cells)
 }
 
-/// The problem instance of a search in which nothing is pruned, because its bound exceeds all
-/// costs.
+/// The problem instance of a search that prunes nothing, because its bound exceeds all costs: the
+/// functions of `problem`, the pairs that an order must keep, and the lower bound by variables.
+/// Requires that `pairs` are of the problem's variables.
 fn instance_of<'a>(problem: &'a Problem, pairs: &'a Pairs) -> Instance<'a>
     requires { pairs.now.inputs ≡ problem.now.inputs }
     ensures instance { result ≡ plain_instance problem.now pairs.now }
@@ -201,8 +209,8 @@ fn instance_of<'a>(problem: &'a Problem, pairs: &'a Pairs) -> Instance<'a>
 }
 
 /// The first order of the fewest nodes among those that keep `pairs`, with its size and level
-/// counts. The search takes a step for each entry of the class tables of all sets, so it is for
-/// small problems.
+/// counts. Requires that `pairs` are of the problem's variables. Takes a step for each entry of the
+/// class tables of all sets, so it is for small problems.
 pub fn find_optimum(
     alloc: Global,
     problem: &Problem,
@@ -216,8 +224,9 @@ pub fn find_optimum(
     optimum_of(alloc, &AllCells::of_cells(&instance, cells))
 }
 
-/// The first order of the fewest nodes among those that keep `pairs`, with what its certificate
-/// lists.
+/// The first order of the fewest nodes among those that keep `pairs`, with its size and level
+/// counts, and the sets and costs that its certificate lists. Requires that `pairs` are of the
+/// problem's variables. Takes a step for each entry of the class tables of all sets.
 pub fn solve(alloc: Global, problem: &Problem, pairs: &Pairs) -> Result<Solution, AllocError>
     requires { pairs.now.inputs ≡ problem.now.inputs }
     ensures { IfOk result (IsSolution problem.now pairs.now.pairs) }

@@ -37,8 +37,9 @@ pub(crate) struct PathTables {
     seen: PairNumbers,
 }
 
-/// The index in `PathTables::values` at which the values over `size` variables begin, if there are
-/// `entries` values over no variable.
+/// The index at which the values over `size` variables, 0 to 3, begin in a list of the values over
+/// 0, 1, 2 and 3 variables, one size after the other. Over k variables there are `entries >> k`
+/// values; `entries`, the number over none, is at most 2^20.
 #[inline(always)]
 fn start_of(entries: usize, size: u32) -> usize
     requires size { size ≤ 3 }
@@ -53,8 +54,10 @@ fn start_of(entries: usize, size: u32) -> usize
     }
 }
 
-/// The part of `values` that has the values over `size` variables. `values` has those over 0, 1, 2
-/// and 3 variables, one size behind the other, and `entries` of them are over no variable.
+/// The values over `size` variables, 0 to 3, as a part of `values`, which has those over 0, 1, 2
+/// and 3 variables, one size after the other. Over k variables there are `entries >> k` values;
+/// `entries`, the number over none, is at most 2^20. Requires `values` to have 2 * `entries`
+/// entries.
 #[inline(always)]
 pub(crate) fn values_over(values: &[u8], entries: usize, size: u32) -> &[u8]
     requires size { size ≤ 3 }
@@ -67,10 +70,10 @@ pub(crate) fn values_over(values: &[u8], entries: usize, size: u32) -> &[u8]
     own
 }
 
-/// Writes to `values` the values over `size` variables, of which x is the lowest. Each joins two
-/// values over the other variables: the one where x is 0 becomes its lower bits, the one where x is
-/// 1 its upper bits. `values` has the values over 0, 1, 2 and 3 variables, one size after the
-/// other, with `entries` of size 0. Other sizes stay.
+/// Writes to `values` the values over a set of `size` variables, 1 to 3, whose lowest is x, from
+/// those over the set without x. Each joins two of these: the one where x is 0 becomes the lower
+/// bits, the one where x is 1 the upper bits. `values` has 2 * `entries` entries: those over 0, 1,
+/// 2 and 3 variables, one size after the other, `entries >> k` over k variables. Other sizes stay.
 #[inline(always)]
 fn make_values(values: &mut [u8], entries: usize, x: VarIx, size: u32)
     requires some { 1 ≤ size }
@@ -87,9 +90,10 @@ fn make_values(values: &mut [u8], entries: usize, x: VarIx, size: u32)
     join_values(before, x, 1 << (size - 1), own);
 }
 
-/// Writes the class table of a set of `size` variables to index `size - 4` of `classes`. It is made
-/// from the table at the index before, of the set without its lowest variable x. `seen` is working
-/// memory.
+/// Overwrites `classes[size - 4]` with the class table of a set of `size` variables, 5 to 16. Makes
+/// it from `classes[size - 5]`, the table of the set without its lowest variable x. Requires
+/// `classes` to have both. What `seen` has before doesn't matter. If memory is refused,
+/// `classes[size - 4]` has no meaning.
 #[inline(always)]
 fn make_classes(
     classes: &mut [Numbered],
@@ -108,8 +112,9 @@ fn make_classes(
     number_pairs(numbers, x, masks, seen, &mut others[0])
 }
 
-/// Appends to `classes` empty class tables, each with room for `room` pairs, until there is one for
-/// each size of a set from 4 to `inputs`.
+/// Appends empty class tables to `classes`, each with room for `room` pairs, until it has at least
+/// one for each size of a set from 4 to `inputs`. Entry i is for the size i + 4. If memory is
+/// refused, some may be missing.
 fn add_tables(
     alloc: Global,
     room: usize,
@@ -126,7 +131,7 @@ fn add_tables(
 }
 
 impl PathTables {
-    /// Path tables that have no memory yet and are of no search. `restart` makes them those of one.
+    /// Path tables that belong to no search yet. `restart` makes them those of a search.
     pub(crate) fn new(alloc: Global) -> Result<PathTables, AllocError> {
         Ok(PathTables {
             entries: 0,
@@ -136,8 +141,9 @@ impl PathTables {
         })
     }
 
-    /// Makes these the tables on the way to the empty set, for the functions of `search`: writes
-    /// their values at all points, and makes room for the other sizes.
+    /// Makes these the tables for the empty set and the functions of `search`, whatever they were
+    /// before: writes the functions' values at all points, and makes room for the tables of larger
+    /// sets. If memory is refused, they have no meaning.
     pub(crate) fn restart(
         &mut self,
         alloc: Global,
@@ -161,9 +167,10 @@ impl PathTables {
         Ok(())
     }
 
-    /// Turns these into the tables on the way to `set`. Requires that they are those on the way to
-    /// the set whose mask is smaller by 1. One table is made, from that of `set` without its lowest
-    /// variable.
+    /// Turns the tables for the set with the mask `set - 1` into those for `set`, which isn't empty
+    /// and has variables of `search`: for each k, the table of the subfunctions over its k highest
+    /// variables. Makes one table, that of `set`, from that of `set` without its lowest variable.
+    /// If memory is refused, the tables have no meaning.
     #[inline(always)]
     pub(crate) fn add_lowest(
         &mut self,

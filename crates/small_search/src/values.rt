@@ -14,8 +14,9 @@ use order_model::VarIx;
 use order_model::packed::bit_of;
 use std::alloc::AllocError;
 
-/// Appends to `values` a function's value, 0 or 1, at each point of `inputs` variables. `words` is
-/// the function's packed truth table.
+/// Appends to `values` a function's value, 0 or 1, at each point of `inputs` variables, at most 16.
+/// `words` is the function's truth table, packed in words of 64 points. If memory is refused, some
+/// values may be missing.
 fn push_values(values: &mut Vec<u8>, words: &[u64], inputs: u8) -> Result<(), AllocError>
     requires few { inputs ≤ 16 }
     requires long { length words.now ≡ words_per_table inputs }
@@ -28,8 +29,9 @@ fn push_values(values: &mut Vec<u8>, words: &[u64], inputs: u8) -> Result<(), Al
     Ok(())
 }
 
-/// Writes to `values` the value, 0 or 1, of each function of `search` at each point, function by
-/// function. Requires that `values` is empty before.
+/// Appends to `values`, which must be empty, the value, 0 or 1, of each function of `search` at
+/// each point: function by function, and of each the points rising. If memory is refused, some
+/// values may be missing.
 pub(crate) fn push_points(values: &mut Vec<u8>, search: &SmallSearch<'_>) -> Result<(), AllocError>
     requires { values.old.items ≡ [] }
     ensures { OnOk result (values.new.items ≡ map weight (values_of search.now.problem)) }
@@ -40,9 +42,10 @@ pub(crate) fn push_points(values: &mut Vec<u8>, search: &SmallSearch<'_>) -> Res
     Ok(())
 }
 
-/// Writes to `values` one value for each pair of values in `before` whose assignments differ in
-/// variable x alone. Its lowest `shift` bits are the one where x is 0, its upper bits the one where
-/// x is 1. Requires that `step` is 2^x, the distance of the two in `before`.
+/// Writes to `values` one value for each pair of entries of `before` whose assignments differ in
+/// variable x alone: its lowest `shift` bits, at most 4, are the entry where x is 0, its upper bits
+/// the one where x is 1. Requires that `step` is 2^x, the distance of the two in `before`, that all
+/// entries are below 2^`shift`, and that `values` is half as long as `before`.
 #[inline(always)]
 fn join_blocks(before: &[u8], x: VarIx, step: usize, shift: u32, values: &mut [u8])
     requires paired { IsPaired before.now x }
@@ -61,10 +64,10 @@ fn join_blocks(before: &[u8], x: VarIx, step: usize, shift: u32, values: &mut [u
     }
 }
 
-/// Writes to `values` one value for each pair of values in `before` whose assignments differ in
-/// variable x alone. Its lowest `shift` bits are the one where x is 0, its upper bits the one where
-/// x is 1. The two stand 2^x apart in `before`. Each x below 3 has a loop of its own, which is
-/// faster.
+/// Writes to `values` one value for each pair of entries of `before` whose assignments differ in
+/// variable x alone: its lowest `shift` bits, at most 4, are the entry where x is 0, its upper bits
+/// the one where x is 1. Requires that the two stand 2^x apart in `before`, that all entries are
+/// below 2^`shift`, and that `values` is half as long as `before`.
 pub(crate) fn join_values(before: &[u8], x: VarIx, shift: u32, values: &mut [u8])
     requires paired { IsPaired before.now x }
     requires shift { shift ≤ 4 }
@@ -80,8 +83,8 @@ pub(crate) fn join_values(before: &[u8], x: VarIx, shift: u32, values: &mut [u8]
     }
 }
 
-/// Which values occur in `values`: bit v % 64 of word v / 64 is 1 if v occurs. Requires that all of
-/// them are below 64.
+/// Which numbers occur in `values`: bit v % 64 of word v / 64 is 1 if v occurs. Requires that all
+/// of them are below 64.
 #[inline(always)]
 fn few_occurring(values: &[u8]) -> [u64; 4]
     requires { AllBelow values.now 64 }
@@ -94,7 +97,7 @@ fn few_occurring(values: &[u8]) -> [u64; 4]
     [found, 0, 0, 0]
 }
 
-/// Which values occur in `values`: bit v % 64 of word v / 64 is 1 if v occurs.
+/// Which numbers occur in `values`: bit v % 64 of word v / 64 is 1 if v occurs.
 #[inline(always)]
 fn all_occurring(values: &[u8]) -> [u64; 4]
     ensures { AreOccurring values.now result }
@@ -106,8 +109,8 @@ fn all_occurring(values: &[u8]) -> [u64; 4]
     found
 }
 
-/// Which values occur in `values`, which are over `size` variables: bit v % 64 of word v / 64 is 1
-/// if v occurs.
+/// Which numbers occur in `values`, the truth tables of functions of `size` variables: bit v % 64
+/// of word v / 64 is 1 if v occurs. Requires that all of them are below 64 if `size` is at most 2.
 pub(crate) fn occurring(values: &[u8], size: u32) -> [u64; 4]
     requires { size ≤ 2 → AllBelow values.now 64 }
     ensures { AreOccurring values.now result }

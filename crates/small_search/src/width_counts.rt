@@ -45,8 +45,9 @@ const DEPENDENT: [[u64; 4]; 3] = [
     ],
 ];
 
-/// The values over three variables that depend on the variable at `place`, counted from the highest
-/// variable: bit v % 64 of word v / 64 is 1 if value v does.
+/// The truth tables of three variables, as numbers below 256, that depend on the variable at
+/// `place`: bit v % 64 of word v / 64 is 1 if v does. The highest variable has place 0, the lowest
+/// place 2.
 fn dependent_values(place: u32) -> [u64; 4]
     requires { place < 3 }
     ensures { AreDependent place result }
@@ -54,8 +55,9 @@ fn dependent_values(place: u32) -> [u64; 4]
     DEPENDENT[place as usize]
 }
 
-/// How many of the values in `occurring` depend on the variable at `place`. In `occurring` bit v %
-/// 64 of word v / 64 is 1 if value v occurs.
+/// How many of the truth tables in `occurring`, of at most three variables, depend on the variable
+/// at `place`. Bit v % 64 of word v / 64 of `occurring` is 1 if the truth table with the number v
+/// is one of them. Places are 0 to 2, and the highest variable has place 0.
 #[inline(always)]
 pub(crate) fn count_dependent(occurring: &[u64; 4], place: u32) -> u32
     requires { place < 3 }
@@ -71,8 +73,8 @@ pub(crate) fn count_dependent(occurring: &[u64; 4], place: u32) -> u32
 }
 
 impl<'a> Subfunctions<'a> {
-    /// How many of the subfunctions depend on x: the width of x over the set without it, if x is a
-    /// member of the set and `place` the number of greater members.
+    /// How many of the subfunctions depend on x: the width of x over their set without x. Requires
+    /// that x is a member of their set, and `place` the number of greater members.
     #[inline(always)]
     pub(crate) fn width(&self, x: VarIx, place: u32) -> u32
         requires variable { x < 16 }

@@ -43,8 +43,9 @@ impl<'a> Model for AllCells<'a> {
     ghost invariant = { λ a. HoldsCells a.instance.now a.storage };
 }
 
-/// The layer in `layers` that has the sets of `size` variables. Requires that `layers` has all
-/// layers, from size 0 on.
+/// The layer in `layers` that has the sets of `size` variables. Requires that `layers[k]` has the
+/// sets of k of the instance's variables, for each k from 0 to all of them, and `size` to be one
+/// such k.
 fn layer_of<'c>(instance: &Instance<'_>, layers: &'c [Costs], size: u32) -> &'c Costs
     requires layers { AreAllLayers instance.now layers.now }
     requires few { size ≤ instance.now.problem.inputs }
@@ -57,9 +58,9 @@ fn layer_of<'c>(instance: &Instance<'_>, layers: &'c [Costs], size: u32) -> &'c 
 impl<'a> AllCells<'a> {
     ghost use Rattle.solutions.specs.Bounded.{IsBounded};
 
-    /// The cells of all sets, from `layers`: `layers[k]` has those of the sets of k variables.
-    /// Requires that some order that keeps the instance's pairs has no more nodes than the
-    /// instance's bound.
+    /// The cells of all sets, from `layers`: `layers[k]` has the cells, for `instance`, of the sets
+    /// of k variables, for each k from 0 to all of them. Requires that some order that keeps the
+    /// instance's pairs has no more nodes than the instance's bound.
     pub fn of_layers(instance: &'a Instance<'a>, layers: Vec<Costs>) -> AllCells<'a>
         requires bounded { IsBounded instance.now }
         requires layers { AreAllLayers instance.now layers.items }
@@ -71,8 +72,9 @@ impl<'a> AllCells<'a> {
         }
     }
 
-    /// The cells of all sets, from `cells`: `cells[m]` is that of the set with the mask m. Requires
-    /// that some order that keeps the instance's pairs has no more nodes than the instance's bound.
+    /// The cells of all sets, from `cells`: `cells[m]` is the cell, for `instance`, of the set with
+    /// the mask m, and `cells[0]` has the cost 0. Requires that some order that keeps the
+    /// instance's pairs has no more nodes than the instance's bound.
     pub fn of_cells(instance: &'a Instance<'a>, cells: Vec<Cell>) -> AllCells<'a>
         requires bounded { IsBounded instance.now }
         requires cells { AreFlatCells instance.now cells.items }
@@ -84,7 +86,7 @@ impl<'a> AllCells<'a> {
         }
     }
 
-    /// The number of variables.
+    /// The number of variables, 1 to 16.
     pub fn inputs(&self) -> u8
         ensures value { result ≡ self.now.problem.inputs }
         ensures some { 1 ≤ result }
@@ -108,8 +110,8 @@ impl<'a> AllCells<'a> {
         self.instance.essential()
     }
 
-    /// The cost of the set `mask`: its least cost, or the bound + 1 if the set is pruned or not
-    /// lawful. The empty set costs 0.
+    /// The cost of the set `mask`, of the instance's variables: its least cost, or the bound + 1 if
+    /// the set is pruned or not lawful. The empty set costs 0.
     pub fn cost(&self, mask: Mask) -> u32
         requires { mask < 2 ^ self.now.problem.inputs }
         ensures { result ≡ cost_for self.now mask }
@@ -123,7 +125,9 @@ impl<'a> AllCells<'a> {
         }
     }
 
-    /// The cell of the set `mask`. Requires that the set is not empty.
+    /// The cell of the set `mask`, of the instance's variables: its least cost, and the smallest
+    /// top variable that gives it. If the set is pruned or not lawful these are the bound + 1 and
+    /// the smallest member. Requires that the set is not empty.
     pub fn cell(&self, mask: Mask) -> Cell
         requires some { 0 < mask }
         requires within { mask < 2 ^ self.now.problem.inputs }

@@ -9,7 +9,7 @@ use crate::all_cells::AllCells;
 use order_model::{Mask, Order, VarIx};
 use std::alloc::{AllocError, Global};
 
-/// The mask of all `inputs` variables.
+/// The mask of all `inputs` variables, 1 to 16 of them.
 pub(crate) fn all_variables(inputs: u8) -> Mask
     requires some { 1 ≤ inputs }
     requires few { inputs ≤ 16 }
@@ -44,9 +44,10 @@ pub(crate) fn read_order(alloc: Global, cells: &AllCells<'_>) -> Result<Order, A
     Ok(Order::from_variables(variables))
 }
 
-/// The level counts of `order`, top first. That of a variable is the cost of the set of it and all
-/// below it, less the cost of the set of those below it. Requires that `order` is the one that
-/// `read_order` returns for `cells`.
+/// The level counts of `order`, top first: for each variable the cost of the set of it and all
+/// below it, less the cost of the set of those below it. Requires that `order` is the one that the
+/// cells give: on top the variable in the cell of the set of all variables, below it the one in the
+/// cell of the set that is left, and so on.
 pub(crate) fn level_counts(
     alloc: Global,
     cells: &AllCells<'_>,

@@ -21,9 +21,9 @@ fn count_outside(essential: Mask, mask: Mask) -> u32
 }
 
 /// The sets that a certificate of an order of `total` nodes lists, with their costs, by rising
-/// mask. A set other than that of all variables is listed if its cost plus the number of essential
-/// variables outside is below `total`. Requires that `cells` were computed with the lower bound by
-/// variables.
+/// mask: those, other than that of all variables, whose cost plus the number of essential variables
+/// outside is below `total`. Requires that `cells` were computed with the lower bound by variables,
+/// and with an upper bound of at least `total`.
 pub(crate) fn listed_cells(
     alloc: Global,
     cells: &AllCells<'_>,

@@ -10,8 +10,7 @@ use crate::all_cells::AllCells;
 use layer_core::asked_members;
 use order_model::{Mask, contains};
 
-/// The members of the set `mask`, as a mask, for which the set without the member costs at most the
-/// bound.
+/// The members x of the set `mask`, as a mask, for which the set without x costs at most the bound.
 fn affordable_members(cells: &AllCells<'_>, mask: Mask) -> Mask
     requires { mask < 2 ^ cells.now.problem.inputs }
     ensures { result ≡ mask_of
@@ -42,7 +41,8 @@ fn needed_members(cells: &AllCells<'_>, mask: Mask) -> Mask
     }
 }
 
-/// The number of widths that the cells of all sets take: those from which a search computes them.
+/// The number of widths from which a search computes `cells`: the sum, over all sets, of the number
+/// of members whose widths the cell of the set takes.
 pub fn count_widths(cells: &AllCells<'_>) -> u64
     ensures { result ≡ widths_for_all cells.now }
 {
