@@ -15,7 +15,7 @@ pub(crate) const MOST_NODES: u32 = 999_999;
 pub(crate) const MOST_PAIRS: usize = 240;
 
 /// How many proper subsets n variables have: 2^n - 1. This is also the mask of all n variables, and
-/// the masks of the proper subsets are those below it.
+/// the masks of the proper subsets are those below it. Requires `n` to be at most 16.
 pub(crate) fn sets_below_all(n: u8) -> u32
     requires { n ≤ 16 }
     ensures { result ≡ 2 ^ n - 1 }
@@ -23,9 +23,8 @@ pub(crate) fn sets_below_all(n: u8) -> u32
     (1 << n) - 1
 }
 
-/// Whether `key` is larger than `last`, the key of the pair or listed set before. True if `last` is
-/// None, that is for the first one. A pair has the key that `key_of_pair` gives, and a listed set
-/// its mask.
+/// Whether `key` is larger than `last`, the key of the pair or listed set before; true if there is
+/// none. The key of a pair (a, b) is 16 a + b, and that of a listed set its mask.
 pub(crate) fn is_above(last: Option<u32>, key: u32) -> bool
     ensures { result ≡ above last key }
 {
@@ -35,16 +34,16 @@ pub(crate) fn is_above(last: Option<u32>, key: u32) -> bool
     }
 }
 
-/// The key of the pair (a, b), by which pairs are sorted: 16 a + b. Since b is below 16, pairs rise
-/// by a and then by b.
+/// The key of the pair (a, b), by which pairs are sorted: 16 a + b. Keys of pairs of variables
+/// below 16 rise by a and then by b.
 pub(crate) fn key_of_pair(a: VarIx, b: VarIx) -> u32
     ensures { result ≡ pair_key (a, b) }
 {
     u32::from(a) * 16 + u32::from(b)
 }
 
-/// Whether all pairs (a, b) are of variables below n, and each pair is larger than the one before,
-/// compared by a and then by b.
+/// Whether all pairs (a, b) are of variables below `n`, and each pair is larger than the one
+/// before, compared by a and then by b.
 fn pairs_rise(n: u8, pairs: &[(VarIx, VarIx)]) -> bool
     ensures { result ≡ fit (is_pair_of n) pair_key None pairs.now }
 {
@@ -61,8 +60,8 @@ fn pairs_rise(n: u8, pairs: &[(VarIx, VarIx)]) -> bool
     true
 }
 
-/// Whether all listed sets are proper subsets of n variables with costs of at most `MOST_NODES`,
-/// and each mask is larger than the one before.
+/// Whether all listed sets are proper subsets of `n` variables with costs of at most `MOST_NODES`,
+/// and each mask is larger than the one before. Requires `n` to be at most 16.
 fn cells_rise(n: u8, cells: &[ListedCell]) -> bool
     requires { n ≤ 16 }
     ensures { result ≡ fit (is_cell_of n) mask_in None cells.now }
@@ -112,8 +111,8 @@ fn pairs_fit(n: u8, pairs: &[(VarIx, VarIx)]) -> bool
     pairs.len() <= MOST_PAIRS && pairs_rise(n, pairs)
 }
 
-/// Whether a certificate of n inputs may list these sets: proper subsets of the variables with
-/// costs of at most `MOST_NODES`, by rising mask.
+/// Whether a certificate of `n` inputs may list these sets: proper subsets of the inputs with costs
+/// of at most `MOST_NODES`, by rising mask. Requires `n` to be at most 16.
 fn cells_fit(n: u8, cells: &[ListedCell]) -> bool
     requires { n ≤ 16 }
     ensures { IsTrue result ↔
@@ -122,8 +121,10 @@ fn cells_fit(n: u8, cells: &[ListedCell]) -> bool
     cells.len() <= sets_below_all(n) as usize && cells_rise(n, cells)
 }
 
-/// Whether a certificate with these parts can be written as text: each list has as many entries as
-/// it should, each number is within its bounds, and pairs and listed sets rise.
+/// Whether a certificate with these parts can be written as text. There must be 1 to 16 inputs and
+/// outputs; for each input an entry of at most 15 in the order and a level count; at most
+/// `MOST_PAIRS` pairs of inputs, by rising first and then second variable; and listed sets that are
+/// proper subsets of the inputs, by rising mask. No count, cost or total may exceed `MOST_NODES`.
 pub(crate) fn have_spelling(parts: &CertificateParts) -> bool
     ensures spelled { IsTrue result → HasSpelling (contents parts.now) }
     ensures unspelled { IsFalse result → HasSpelling (contents parts.now) → ⊥ }

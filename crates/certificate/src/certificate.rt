@@ -30,7 +30,7 @@ pub struct CertificateParts {
 }
 
 impl CertificateParts {
-    /// The pairs (a, b), of which a has to stand above b. Empty in format 1.
+    /// The pairs (a, b) of variables, of which a has to stand above b. Empty in format 1.
     pub(crate) fn kept_pairs(&self) -> &[(VarIx, VarIx)]
         ensures { result.now ≡ pairs_in self.now.pairs }
     {
@@ -62,9 +62,10 @@ impl Model for Certificate {
 }
 
 impl Certificate {
-    /// The certificate with these parts. `None` if it can't be written as text: a list has a wrong
-    /// length, a number is out of its bounds, pairs don't rise by first and then second variable,
-    /// or listed sets don't rise by mask.
+    /// The certificate with these parts. `None` unless there are 1 to 16 inputs and outputs; for
+    /// each input an entry of at most 15 in the order and a level count; at most 240 pairs of
+    /// inputs, by rising first and then second variable; and listed sets that are proper subsets of
+    /// the inputs, by rising mask. Level counts, total and costs may be at most 999,999.
     pub fn from_parts(parts: CertificateParts) -> Option<Certificate>
         ensures some { IfSome result (λ c. c ≡ contents parts) }
         ensures none { IfNone result (HasSpelling (contents parts) → ⊥) }
@@ -75,8 +76,11 @@ impl Certificate {
         Some(Certificate { parts })
     }
 
-    /// A certificate in format 1, which has no pairs. `None` if it can't be written as text: a list
-    /// has a wrong length, a number is out of its bounds, or listed sets don't rise by mask.
+    /// The certificate in format 1, without pairs, with these parts; `order` and `levels`, the
+    /// level counts, are top first. `None` unless there are 1 to 16 inputs and outputs; for each
+    /// input an entry of at most 15 in `order` and a level count; and in `cells` listed sets that
+    /// are proper subsets of the inputs, by rising mask. Level counts, total and costs may be at
+    /// most 999,999.
     pub fn new(
         inputs: u8,
         outputs: u8,
@@ -102,9 +106,11 @@ impl Certificate {
         })
     }
 
-    /// A certificate in format 2, with pairs (a, b), of which a has to stand above b. `None` if it
-    /// can't be written as text: a list has a wrong length, a number is out of its bounds, pairs
-    /// don't rise by first and then second variable, or listed sets don't rise by mask.
+    /// The certificate in format 2 with these parts; `order` and `levels`, the level counts, are
+    /// top first. `None` unless there are 1 to 16 inputs and outputs; for each input an entry of at
+    /// most 15 in `order` and a level count; at most 240 pairs (a, b) of inputs, a to stand above
+    /// b, by rising a and b; and in `cells` listed sets that are proper subsets of the inputs, by
+    /// rising mask. Level counts, total and costs may be at most 999,999.
     pub fn new2(
         inputs: u8,
         outputs: u8,
@@ -180,8 +186,7 @@ impl Certificate {
     }
 
     /// The pairs (a, b) of variables, of which a has to stand above b, by rising a and then rising
-    /// b. Format 1 has none. `HasSpelling` says that all numbers of the certificate are within the
-    /// bounds of its text.
+    /// b. Format 1 has none.
     pub fn pairs(&self) -> &[(VarIx, VarIx)]
         ensures pairs { result.now ≡ self.now.pairs }
         ensures spelled { HasSpelling self.now }
@@ -189,8 +194,7 @@ impl Certificate {
         self.parts.kept_pairs()
     }
 
-    /// The listed sets with their costs, by rising mask. `HasSpelling` says that all numbers of the
-    /// certificate are within the bounds of its text.
+    /// The listed sets with their costs, by rising mask.
     pub fn cells(&self) -> &[ListedCell]
         ensures cells { map listed result.now ≡ self.now.cells }
         ensures spelled { HasSpelling self.now }

@@ -44,6 +44,7 @@ impl From<AllocError> for CertFault {
 
     ghost from_gives = { λ _ e. e ≡ OutOfMemory };
 
+    /// The fault `OutOfMemory`.
     fn from(_: AllocError) -> CertFault {
         CertFault::OutOfMemory
     }

@@ -10,19 +10,19 @@ ghost use Rattle.certificate.specs.Spelling.{HasSpelling, spelling};
 ghost use Rattle.certificate.specs.Faults.{Spells, FirstCertFault, faults};
 ghost use Rattle.certificate.specs.Heads.{most_bytes};
 
-/// Two different certificates have different texts.
+/// Law: two different certificates have different texts.
 pub fn texts_have_one_certificate()
     ensures { (a b : Certificate) → HasSpelling a → HasSpelling b →
         spelling a ≡ spelling b → a ≡ b }
 {}
 
-/// The text of a certificate has no fault, if the certificate can be written as text.
+/// Law: the text of a certificate has no fault, if the certificate can be written as text.
 pub fn spellings_have_no_fault()
     ensures { (cert : Certificate) → HasSpelling cert → faults (spelling cert) ≡ [] }
 {}
 
-/// Each text is that of a certificate or has a first fault, and not both. It has only one first
-/// fault.
+/// Law: each text is that of a certificate or has a first fault, and not both. It has only one
+/// first fault.
 pub fn texts_have_one_reading()
     ensures some { (text : List ℕ) →
         ((cert : Certificate) × Spells text cert) ⊎
@@ -33,8 +33,8 @@ pub fn texts_have_one_reading()
         FirstCertFault text j f → (i ≡ j) × (e ≡ f) }
 {}
 
-/// A certificate's text has at most 256 bytes plus 6 for each pair and 12 for each listed set, and
-/// is never too long to be read.
+/// Law: a certificate's text has at most 256 bytes plus 6 for each pair and 12 for each listed set,
+/// and never more than 1,048,576 bytes, the most that are read.
 pub fn spellings_are_short()
     ensures bytes { (cert : Certificate) → HasSpelling cert →
         length (spelling cert) ≤ 256 + 6 * length cert.pairs + 12 * length cert.cells }
@@ -42,9 +42,9 @@ pub fn spellings_are_short()
         length text ≤ most_bytes }
 {}
 
-/// The certificate that `minorder` makes for an order can be written as text. Requires 1 to 16
-/// functions of 1 to 16 variables, and at most 240 pairs of these variables, by rising a and then b
-/// and each once.
+/// Law: the certificate that `minorder` makes for an order can be written as text, if there are 1
+/// to 16 functions of 1 to 16 variables, and at most 240 pairs (a, b) of these variables, each
+/// once, by rising a and then b.
 pub fn orders_have_certificates()
     ensures { (n : ℕ) (F : List Function) (P : List Pair) (order : List ℕ) → 1 ≤ n → n ≤ 16 →
         1 ≤ length F → length F ≤ 16 → IsOrder n order →

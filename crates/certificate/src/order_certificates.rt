@@ -13,8 +13,10 @@ use order_model::{ListedCell, Pairs, Problem, SizedOrder};
 use std::alloc::{AllocError, Global};
 
 /// The text, in format 2, of the certificate that the order in `found` has the fewest nodes among
-/// those that keep `pairs`. Requires `found` to have the level counts and the size of its order,
-/// and `cells` to be the sets that this certificate lists, with their least costs.
+/// those that keep `pairs`; whether it has isn't tested. Requires that `pairs` are of the problem's
+/// variables, and that `found` has its order's level counts and size. `cells` must have the sets to
+/// list, by rising mask, with their least costs: all lawful proper subsets of which the least cost
+/// plus the number of essential variables outside is below the size in `found`.
 pub fn certificate_text(
     alloc: Global,
     problem: &Problem,

@@ -17,7 +17,8 @@ use std::alloc::Global;
 /// The most bytes of a text that is read as a certificate.
 pub const MOST_BYTES: usize = 1_048_576;
 
-/// Turns numbers into variables. Requires each to be at most 15. The only error is `OutOfMemory`.
+/// The variables with the given numbers. Requires each number to be at most 15. The only error is
+/// `OutOfMemory`.
 fn variables(alloc: Global, numbers: &[u32]) -> Result<Vec<VarIx>, CertFault>
     requires { All (λ k. k ≤ 15) numbers.now }
     ensures same { IfOk result (λ v. v.items ≡ numbers.now) }
@@ -41,8 +42,9 @@ pub(crate) struct Head {
     total: u32,
 }
 
-/// Takes the first six lines of a text off `lines`, and returns what they state. The error is the
-/// first fault, with the number of its line, or `OutOfMemory`.
+/// Takes the first six lines of a text off `lines`. Returns what they state: the format, the
+/// numbers of inputs and outputs, the order, the level counts and the total. The error is the first
+/// fault, with the number of its line, or `OutOfMemory`.
 fn read_head(alloc: Global, lines: &mut Lines<'_>) -> Result<Head, CertFault>
     requires { FitsCount lines.old }
     ensures head { TakesHead lines.old.number lines.old.rest.now lines.new.number lines.new.rest.now
@@ -67,8 +69,9 @@ fn read_head(alloc: Global, lines: &mut Lines<'_>) -> Result<Head, CertFault>
 }
 
 /// Takes the line with the number of listed sets, a line for each, and the last line off `lines`.
-/// Returns the listed sets, which are of n variables, with their costs. The error is the first
-/// fault, with the number of its line, or `OutOfMemory`.
+/// Returns the listed sets, proper subsets of `n` variables by rising mask, with their costs. The
+/// error is the first fault, with the number of its line, or `OutOfMemory`. Requires `n` to be at
+/// most 16.
 fn read_sets(alloc: Global, lines: &mut Lines<'_>, n: u8) -> Result<Vec<ListedCell>, CertFault>
     requires small { FitsCount lines.old }
     requires few { n ≤ 16 }
@@ -79,9 +82,10 @@ fn read_sets(alloc: Global, lines: &mut Lines<'_>, n: u8) -> Result<Vec<ListedCe
     Ok(cells)
 }
 
-/// Takes all lines after the first six off `lines`. Returns the pairs of variables below n, which
-/// are `None` in format 1, and then the listed sets with their costs. The error is the first fault,
-/// with the number of its line, or `OutOfMemory`. `format` is 1 or 2.
+/// Takes all lines after the first six off `lines`. Returns the pairs of variables below `n`, which
+/// are `None` in format 1, and the listed sets with their costs. The error is the first fault, with
+/// the number of its line, or `OutOfMemory`. Requires `format` to be 1 or 2, and `n` to be from 1
+/// to 16.
 fn read_body(
     alloc: Global,
     lines: &mut Lines<'_>,
@@ -104,9 +108,9 @@ fn read_body(
 }
 
 impl Certificate {
-    /// Reads the certificate, in either format, whose text is `text`. The error is the first faulty
-    /// line, or `TooLong` for more than 1,048,576 bytes, or `OutOfMemory`. Time and memory are
-    /// linear in the length of the text.
+    /// Reads the certificate, in either format, whose text is `text`. The error is the first fault,
+    /// with the number of its line, or `TooLong` for more than 1,048,576 bytes, or `OutOfMemory`.
+    /// Time and memory are linear in the length of the text.
     pub fn parse(alloc: Global, text: &[u8]) -> Result<Certificate, CertFault>
         ensures spelled { IfOk result (λ cert. text.now ≡ spelling cert) }
         ensures short { IfOk result (λ _. length text.now ≤ most_bytes) }

@@ -21,7 +21,7 @@ use crate::words::{cut, number};
 use order_model::{ListedCell, VarIx};
 use std::alloc::Global;
 
-/// Appends an item to a list. The only fault is `OutOfMemory`.
+/// Appends `item` to `items`. The only error is `OutOfMemory`, and `items` then stays as it was.
 pub(crate) fn add<T: Drop>(items: &mut Vec<T>, item: T) -> Result<(), CertFault>
     ensures added { OnOk result (items.new.items ≡ items.old.items ++ item ∷ []) }
     ensures memory { IfErr result (λ fault. fault ≡ OutOfMemory) }
@@ -32,8 +32,9 @@ pub(crate) fn add<T: Drop>(items: &mut Vec<T>, item: T) -> Result<(), CertFault>
     }
 }
 
-/// Appends to `numbers` the number of at most `most` that a word states. The error is `BadNumber`
-/// at line `line`, in which the word stands, if the word states none, or `OutOfMemory`.
+/// Appends to `numbers` the number that `word` states in decimal, without leading zeros. The error
+/// is `BadNumber`, with the line number `line`, if `word` states no number of at most `most`, or
+/// `OutOfMemory`; `numbers` then stays as it was. Requires `most` to be at most `MOST_NODES`.
 fn push_number(numbers: &mut Vec<u32>, word: &[u8], most: u32, line: usize) -> Result<(), CertFault>
     requires { most ≤ most_nodes }
     ensures added { OnOk result (numbers.new.items ≡ numbers.old.items ++ number_of word.now ∷ []) }
@@ -48,8 +49,9 @@ fn push_number(numbers: &mut Vec<u32>, word: &[u8], most: u32, line: usize) -> R
     add(numbers, value)
 }
 
-/// The numbers of at most `most` that the words of a text state. The error is `BadNumber` at line
-/// `line`, in which the text stands, if a word states none, or `OutOfMemory`.
+/// The numbers that the words of `text` state in decimal, without leading zeros. The error is
+/// `BadNumber`, with the line number `line`, if a word states no number of at most `most`, or
+/// `OutOfMemory`. Requires `most` to be at most `MOST_NODES`.
 fn numbers_in(alloc: Global, text: &[u8], most: u32, line: usize) -> Result<Vec<u32>, CertFault>
     requires { most ≤ most_nodes }
     ensures numbers { IfOk result (λ v. v.items ≡ map number_of (words text.now)) }
@@ -91,7 +93,7 @@ impl<'a> Lines<'a> {
     }
 
     /// Takes the next line, and returns it without its line feed. None, and nothing is taken, if no
-    /// line feed is left.
+    /// line feed is left in the text.
     fn next(&mut self) -> Option<&'a [u8]>
         requires { FitsCount self.old }
         ensures line { IfSome result (λ line. Cuts 10 self.old.rest.now line.now self.new.rest.now) }
@@ -105,9 +107,9 @@ impl<'a> Lines<'a> {
         Some(line)
     }
 
-    /// Takes the next line, and returns what `read` makes of it. If `read` returns a fault, the
-    /// error is this fault with the line's number. If there is no next line, nothing is taken, and
-    /// the fault is `MissingLine`.
+    /// Takes the next line, and returns what `read` returns for its bytes without the line feed; a
+    /// fault of `read` gets the line's number. If no line feed is left, nothing is taken, and the
+    /// error is `MissingLine` with the number that the line would have.
     fn take<V, F: FnOnce(&[u8]) -> Result<V, LineFault>>(&mut self, read: F) -> Result<V, CertFault>
         requires small { FitsCount self.old }
         requires readable { F.IsAlwaysCallable read }
@@ -124,9 +126,10 @@ impl<'a> Lines<'a> {
         }
     }
 
-    /// Takes the next line, and returns the number that it states. The line has two words: `name`,
-    /// and a number from `least` to `most`. The faults are `MissingLine` and those of
-    /// `number_line`.
+    /// Takes the next line, which has two words, `name` and a number from `least` to `most`, and
+    /// returns the number. The error has the line's number: `MissingLine` if there is no line,
+    /// `BadNumber` if the line is `name` and one word that is no such number, `BadLine` for any
+    /// other line. Requires `most` to be at most `MOST_NODES`.
     pub(crate) fn number(&mut self, name: &[u8], least: u32, most: u32) -> Result<u32, CertFault>
         requires small { FitsCount self.old }
         requires bounds { most ≤ most_nodes }
@@ -139,7 +142,8 @@ impl<'a> Lines<'a> {
     }
 
     /// Takes the next line, which has to be the first of a certificate, and returns the format that
-    /// it states, 1 or 2. The fault is `MissingLine` or `BadLine`.
+    /// it states, 1 or 2. The error has the line's number: `MissingLine` if there is no line,
+    /// `BadLine` if it is another one.
     pub(crate) fn title(&mut self) -> Result<u8, CertFault>
         requires { FitsCount self.old }
         ensures line { TakesLine title_fault self.old self.new
@@ -149,8 +153,9 @@ impl<'a> Lines<'a> {
         self.take(title_line)
     }
 
-    /// Takes the next line, which has to be the last, `end`. The fault is `MissingLine` or
-    /// `BadLine`. If any text follows, it is `TrailingText`, at the line after.
+    /// Takes the next line, which has to be `end`, the last. The error has the line's number:
+    /// `MissingLine` if there is no line, `BadLine` if it is another one, and `TrailingText`, at
+    /// the line after, if any text follows it.
     pub(crate) fn end(&mut self) -> Result<(), CertFault>
         requires { FitsCount self.old }
         ensures passed { OnOk result
@@ -167,8 +172,10 @@ impl<'a> Lines<'a> {
     }
 
     /// Takes the next line, which has the word `name` and then `count` numbers of at most `most`,
-    /// and returns the numbers. The error is `MissingLine`, `BadLine` or `BadNumber` of this line,
-    /// or `OutOfMemory`.
+    /// and returns the numbers. The error is `OutOfMemory`, or has the line's number: `MissingLine`
+    /// if there is no line, `BadLine` if its first word or its number of words is wrong,
+    /// `BadNumber` if a word is no such number. Requires `count` to be at least 1, and `most` to be
+    /// at most `MOST_NODES`.
     pub(crate) fn numbers(
         &mut self,
         alloc: Global,
@@ -194,8 +201,8 @@ impl<'a> Lines<'a> {
     }
 
     /// Takes the line that states the number of pairs, and a line for each pair of variables below
-    /// n. Returns the pairs (a, b), which rise by a and then by b. The error is the first fault, or
-    /// `OutOfMemory`.
+    /// `n`. Returns the pairs (a, b), which rise by a and then by b. The error is the first fault,
+    /// with the number of its line, or `OutOfMemory`. Requires `n` to be from 1 to 16.
     pub(crate) fn pairs(&mut self, alloc: Global, n: u8) -> Result<Vec<(VarIx, VarIx)>, CertFault>
         requires small { FitsCount self.old }
         requires some { 1 ≤ n }
@@ -216,8 +223,9 @@ impl<'a> Lines<'a> {
     }
 
     /// Takes the line that states the number of listed sets, and a line for each. Returns the
-    /// listed sets, which are proper subsets of n variables and rise by mask, with their costs. The
-    /// error is the first fault, or `OutOfMemory`.
+    /// listed sets, proper subsets of `n` variables by rising mask, with their costs. The error is
+    /// the first fault, with the number of its line, or `OutOfMemory`. Requires `n` to be at most
+    /// 16.
     pub(crate) fn cells(&mut self, alloc: Global, n: u8) -> Result<Vec<ListedCell>, CertFault>
         requires small { FitsCount self.old }
         requires few { n ≤ 16 }

@@ -21,7 +21,8 @@ const LONGEST_PAIR: usize = 6;
 /// The most bytes of the line of a listed set, with its line feed.
 const LONGEST_CELL: usize = 12;
 
-/// Appends a line of the word `name`, a space and `number`.
+/// Appends to `text` a line: the word `name`, a space and `number`. If memory is refused, a part of
+/// the line may be appended.
 fn push_number(text: &mut String, name: &str, number: usize) -> Result<(), AllocError>
     ensures { OnOk result
         (string_bytes text.new ≡ string_bytes text.old
@@ -31,7 +32,8 @@ fn push_number(text: &mut String, name: &str, number: usize) -> Result<(), Alloc
     Ok(())
 }
 
-/// Appends a line of the word `name` and then `numbers`, with spaces between.
+/// Appends to `text` a line: the word `name` and then `numbers`, with spaces between. If memory is
+/// refused, a part of the line may be appended.
 fn push_numbers(text: &mut String, name: &str, numbers: &[u32]) -> Result<(), AllocError>
     ensures { OnOk result
         (string_bytes text.new ≡ string_bytes text.old ++ text_line (field name.now numbers.now)) }
@@ -44,7 +46,8 @@ fn push_numbers(text: &mut String, name: &str, numbers: &[u32]) -> Result<(), Al
     Ok(())
 }
 
-/// Appends a line of the word `name` and then `variables`, with spaces between.
+/// Appends to `text` a line: the word `name` and then `variables`, with spaces between. If memory
+/// is refused, a part of the line may be appended.
 fn push_variables(text: &mut String, name: &str, variables: &[VarIx]) -> Result<(), AllocError>
     ensures { OnOk result
         (string_bytes text.new ≡ string_bytes text.old
@@ -58,7 +61,8 @@ fn push_variables(text: &mut String, name: &str, variables: &[VarIx]) -> Result<
     Ok(())
 }
 
-/// Appends a line for each pair (a, b): `a`, a space and `b`.
+/// Appends to `text` a line for each pair (a, b): `a`, a space and `b`. If memory is refused, a
+/// part of these lines may be appended.
 fn push_pairs(text: &mut String, pairs: &[(VarIx, VarIx)]) -> Result<(), AllocError>
     ensures { OnOk result
         (string_bytes text.new ≡ string_bytes text.old
@@ -70,7 +74,8 @@ fn push_pairs(text: &mut String, pairs: &[(VarIx, VarIx)]) -> Result<(), AllocEr
     Ok(())
 }
 
-/// Appends the line of a listed set: its mask as four hexadecimal digits, a space, and its cost.
+/// Appends to `text` the line of a listed set: its mask as four hexadecimal digits, a space, and
+/// its cost. If memory is refused, a part of the line may be appended.
 fn push_cell(text: &mut String, cell: ListedCell) -> Result<(), AllocError>
     ensures { OnOk result
         (string_bytes text.new ≡ string_bytes text.old ++ text_line (cell_words (listed cell))) }
@@ -81,7 +86,8 @@ fn push_cell(text: &mut String, cell: ListedCell) -> Result<(), AllocError>
     Ok(())
 }
 
-/// Appends a line for each listed set.
+/// Appends to `text` a line for each listed set: its mask as four hexadecimal digits, a space, and
+/// its cost. If memory is refused, a part of these lines may be appended.
 fn push_cells(text: &mut String, cells: &[ListedCell]) -> Result<(), AllocError>
     ensures { OnOk result
         (string_bytes text.new ≡ string_bytes text.old
@@ -93,7 +99,8 @@ fn push_cells(text: &mut String, cells: &[ListedCell]) -> Result<(), AllocError>
     Ok(())
 }
 
-/// Appends the first six lines: format, inputs, outputs, order, level counts and total.
+/// Appends to `text` the first six lines of the certificate's text: format, inputs, outputs, order,
+/// level counts and total. If memory is refused, a part of these lines may be appended.
 fn push_head(text: &mut String, cert: &Certificate) -> Result<(), AllocError>
     ensures { OnOk result
         (string_bytes text.new ≡ string_bytes text.old
@@ -108,8 +115,8 @@ fn push_head(text: &mut String, cert: &Certificate) -> Result<(), AllocError>
     Ok(())
 }
 
-/// Appends the line that states the number of pairs and a line for each pair. Format 1 has none of
-/// these lines.
+/// Appends to `text` the line that states the number of the certificate's pairs, and a line for
+/// each; nothing in format 1. If memory is refused, a part of these lines may be appended.
 fn push_pair_lines(text: &mut String, cert: &Certificate) -> Result<(), AllocError>
     ensures { OnOk result
         (string_bytes text.new ≡ string_bytes text.old
@@ -123,7 +130,8 @@ fn push_pair_lines(text: &mut String, cert: &Certificate) -> Result<(), AllocErr
     Ok(())
 }
 
-/// Appends the line that states the number of listed sets and a line for each.
+/// Appends to `text` the line that states the number of the certificate's listed sets, and a line
+/// for each. If memory is refused, a part of these lines may be appended.
 fn push_cell_lines(text: &mut String, cert: &Certificate) -> Result<(), AllocError>
     ensures { OnOk result
         (string_bytes text.new ≡ string_bytes text.old
@@ -135,8 +143,9 @@ fn push_cell_lines(text: &mut String, cert: &Certificate) -> Result<(), AllocErr
 }
 
 impl Certificate {
-    /// The certificate's text, which is short enough to be read back. Its storage is reserved
-    /// before its first byte is made: 512 bytes, 6 for each pair and 12 for each listed set.
+    /// The certificate's text, of at most 1,048,576 bytes, so that it can be read back. Its storage
+    /// is reserved before its first byte is made: 512 bytes, and 6 for each pair and 12 for each
+    /// listed set.
     pub fn text(&self, alloc: Global) -> Result<String, AllocError>
         ensures spelling { IfOk result (λ text. string_bytes text ≡ spelling self.now) }
         ensures readable { IfOk result (λ text. length (string_bytes text) ≤ most_bytes) }

@@ -14,7 +14,9 @@ use std::alloc::{AllocError, Global};
 use std::thread::Threads;
 use truth_table::Tables;
 
-/// The fault of a check whose certificate can't be read, for the reason `refused`.
+/// The fault of a check whose certificate can't be read, for the reason `refused`:
+/// `CertificateTooLong` for too many bytes, `Device` for a failed call of the reader, or
+/// `OutOfMemory`.
 fn fault_of_bytes(refused: Refused) -> Fault
     ensures { result ≡ bytes_fault refused }
 {
@@ -25,8 +27,9 @@ fn fault_of_bytes(refused: Refused) -> Fault
     }
 }
 
-/// Reads the reader `cert` to its end, and returns the certificate that its text is; a fault if it
-/// can't be read, or if the text is no certificate.
+/// Reads `cert` to its end, and returns the certificate that its text is. The error is `Device` if
+/// a call of the reader fails, `OutOfMemory`, `CertificateTooLong` for more than `MOST_BYTES`
+/// bytes, or the first faulty line of the text.
 fn read_certificate<C: CountedRead>(alloc: Global, cert: &mut C) -> Result<Certificate, Fault>
     ensures cert { IfOk result (λ c. IfSome (C.remaining cert.old) (λ text. SpellsWithin text c)) }
     ensures refused { IfErr result
@@ -45,7 +48,7 @@ fn read_certificate<C: CountedRead>(alloc: Global, cert: &mut C) -> Result<Certi
 }
 
 /// Checks `cert` for the functions of `cover`. Returns the outcome, `Done` if the certificate is
-/// valid and `Invalid` if not, and the line of the verdict.
+/// good and `Invalid` if not, and the line of the verdict.
 fn verdict_on<R: Threads + Sync>(
     rt: &R,
     alloc: Global,
@@ -65,8 +68,10 @@ fn verdict_on<R: Threads + Sync>(
 /// `valid N` for a certificate with the total N, `valid N pairs q` if it has q pairs, or `invalid`
 /// and the first reason, in the order of `Reason`, why the certificate is not good.
 ///
-/// The file is read and decided first, then the certificate. The line is made whole before its
-/// first byte is written. Many threads share the work.
+/// Returns `Done` for a valid certificate, `Invalid` for one that is not good, and `Refused`, with
+/// the first fault, if the file or the certificate is faulty or can't be read, memory is refused,
+/// or `out` fails. The certificate is read only if the file has no fault. The line is made whole
+/// before its first byte is written.
 pub fn run_check<R: Threads + Sync, F: CountedRead, C: CountedRead, W: CountedWrite>(
     rt: &R,
     alloc: Global,

@@ -4,8 +4,8 @@ ghost use Rattle.std.specs.Prelude.{◌≡◌, ℕ, List};
 ghost use Rattle.outcomes.specs.declared.outcome.Outcome.{Outcome};
 ghost use Rattle.check_runs.specs.Judging.{Judge};
 
-/// Two checks with the same bytes of the PLA file (`file`) and of the certificate (`text`) have the
-/// same outcome and write the same line, unless one of them is out of memory or a device fails.
+/// Law: two checks with the same bytes of the PLA file and of the certificate have the same outcome
+/// and write the same line, unless one of them is out of memory or a device fails.
 pub fn verdicts_are_determined()
     ensures { (file text : List ℕ) (outcome other : Outcome) (a b : List ℕ) →
         Judge file text outcome a → Judge file text other b → (outcome ≡ other) × (a ≡ b) }

@@ -13,8 +13,9 @@ use std::fs;
 use std::rt::Files;
 use std::thread::Threads;
 
-/// Opens the PLA file, then the certificate, and writes the verdict to `out`. Returns how the check
-/// ends: refused with `Device` if a file can't be opened.
+/// Opens the PLA file and then the certificate that `line` names, checks them, and writes the
+/// verdict to `out`. Returns how the check ends: refused with `Device` if a file can't be opened,
+/// else as `run_check` returns it.
 fn check_files<'a, R: Files + AllocGlobal + Threads + Sync, W: CountedWrite>(
     rt: &R,
     line: &CheckLine<'a>,
@@ -38,7 +39,7 @@ fn check_files<'a, R: Files + AllocGlobal + Threads + Sync, W: CountedWrite>(
 /// certificate is not valid, 2 for refused words, 3 for a refused PLA file or certificate, 4 if
 /// memory is refused, 5 if a device failed.
 ///
-/// The words are `FILE CERT`. Both files are opened before FILE is read and decided; then CERT is.
+/// The words are `FILE CERT`. Both files are opened first. CERT is read only if FILE has no fault.
 pub fn ordercheck<'a, R: Files + AllocGlobal + Threads + Sync, W: CountedWrite, E: CountedWrite>(
     rt: &R,
     words: &'a [&'a str],

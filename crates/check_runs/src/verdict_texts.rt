@@ -12,8 +12,9 @@ use std::fmt::Write;
 /// Bytes that are enough for the longest line: its words and two numbers of at most 6 digits.
 const LONGEST_LINE: usize = 32;
 
-/// Appends the name of a reason to `text`. For an edge, its set as a mask in four hexadecimal
-/// digits and the variable that it adds follow.
+/// Appends the name of `reason` to `text`. For an edge, the mask of the set from which it leads, in
+/// four hexadecimal digits, and the variable that it adds follow. If memory is refused, a part of
+/// these words may be appended.
 fn push_reason(text: &mut String, reason: Reason) -> Result<(), AllocError>
     ensures { OnOk result
         (string_bytes text.new ≡ string_bytes text.old ++ reason_words (reason_of reason)) }
@@ -33,7 +34,7 @@ fn push_reason(text: &mut String, reason: Reason) -> Result<(), AllocError>
     }
 }
 
-/// The line on a certificate that is not good: `invalid` and the reason.
+/// The line on a certificate that is not good: `invalid`, a space and the reason, with a line feed.
 pub(crate) fn invalid_text(alloc: Global, reason: Reason) -> Result<String, AllocError>
     ensures { IfOk result (λ text. string_bytes text ≡ invalid_line (reason_of reason)) }
 {
@@ -44,7 +45,8 @@ pub(crate) fn invalid_text(alloc: Global, reason: Reason) -> Result<String, Allo
     Ok(text)
 }
 
-/// Appends ` pairs q` to `text`, where q is the number `pairs`. Appends nothing if it is 0.
+/// Appends ` pairs q` to `text`, where q is the number `pairs`; nothing if it is 0. If memory is
+/// refused, a part of these words may be appended.
 fn push_pairs(text: &mut String, pairs: usize) -> Result<(), AllocError>
     ensures { OnOk result (string_bytes text.new ≡ string_bytes text.old ++ pairs_words pairs) }
 {
@@ -54,8 +56,8 @@ fn push_pairs(text: &mut String, pairs: usize) -> Result<(), AllocError>
     Ok(())
 }
 
-/// The line on a certificate that is good: `valid`, its total, and the number of its pairs if it
-/// has any.
+/// The line on a certificate that is good: `valid` and its total, then `pairs` and the number of
+/// its pairs if it has any, with a line feed.
 pub(crate) fn valid_text(alloc: Global, cert: &Certificate) -> Result<String, AllocError>
     ensures { IfOk result (λ text. string_bytes text ≡ valid_line cert.now) }
 {

@@ -52,7 +52,7 @@ impl<'a> Model for ClassTable<'a> {
 /// without variables below y.
 const SHORT_LEVELS: [VarIx; 4] = [3, 5, 7, 10];
 
-/// Whether each of `masks` equals `set`.
+/// Whether each of `masks` equals `set`; true if there are none.
 fn are_whole(masks: &[Mask], set: Mask) -> bool
     ensures { IsTrue result → (i : ℕ) → i < length masks.now → slice_index masks.now i ≡ set }
 {
@@ -64,9 +64,10 @@ fn are_whole(masks: &[Mask], set: Mask) -> bool
     true
 }
 
-/// The class table of `set` with the numbers and masks of `numbered`, which is used up. Repeated
-/// rows of 2^`level` entries may be missing there. If all subfunctions are distinct and depend on
-/// the whole set, only their count is kept.
+/// The class table of `set` for the functions of `problem`. `numbered` has its entries, perhaps
+/// without rows of 2^`level` entries that repeat an earlier row, and the masks of its classes. If
+/// all subfunctions are distinct and depend on the whole set, the table keeps only their count.
+/// Requires that no member of the set is below `level`.
 fn table_of<'a>(
     alloc: Global,
     problem: &'a Problem,
@@ -128,9 +129,11 @@ impl<'a> ClassTable<'a> {
         self.set
     }
 
-    /// A copy of this table without rows of 2^`y` entries that repeat an earlier row. None if no
-    /// such rows are found, or if it isn't worth while to look for them. Requires that no member of
-    /// the set is below `y`.
+    /// A copy of this table without rows of 2^`y` entries that repeat an earlier row; some may
+    /// stay. None if no repeat is found in the first half of the entries, if `y` isn't in
+    /// `SHORT_LEVELS`, if rows of 2^`y` or fewer entries may be left out already, or if only a
+    /// count of subfunctions is kept. Requires that `y` is from 1 to the number of inputs, and that
+    /// no member of the set is below `y`.
     pub(crate) fn with_short_rows(
         &self,
         alloc: Global,
@@ -166,8 +169,9 @@ impl<'a> ClassTable<'a> {
         }
     }
 
-    /// The class table of this table's set with `x` added. Requires that `x` is below `self.level`;
-    /// so `x` is smaller than all members of the set.
+    /// The class table of this table's set with `x` added. Requires that `x` is a variable of the
+    /// problem, that it is smaller than all members of the set, and that any rows left out of this
+    /// table have more than 2^`x` entries.
     pub(crate) fn with_variable(
         &self,
         alloc: Global,
@@ -195,10 +199,11 @@ impl<'a> ClassTable<'a> {
         }
     }
 
-    /// Whether the lower classes, those of the entries where `x` is 0, show that in the set with
-    /// `x` added each variable y has at least the width `needed[y]` over the set without y; false
-    /// shows nothing. This takes less time than `with_variable`. Requires that `x` is below
-    /// `self.level`; so `x` is smaller than all members of the set.
+    /// Whether a lower bound shows that each member y of the set with `x` added has at least the
+    /// width `needed[y]` over the other members; if false, some may have it nevertheless. A
+    /// variable behind the end of `needed`, which has at most 16 entries, needs 0. Makes no table.
+    /// Requires that `x` is a variable of the problem, that it is smaller than all members of the
+    /// set, and that any rows left out of this table have more than 2^`x` entries.
     pub(crate) fn tells_wide(
         &self,
         alloc: Global,

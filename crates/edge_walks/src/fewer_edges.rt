@@ -1,7 +1,7 @@
-//! Fewer edges to judge, of which one fails if any edge does. If variables may be exchanged without
-//! a change of any function, value or judged edge, a set and its image (the set of the partners of
+//! Fewer edges to test, of which one fails if any edge does. If variables may be exchanged without
+//! a change of any function, value or edge to test, a set and its image (the set of the partners of
 //! its variables) have edges of equal widths. So in each orbit, the sets that such exchanges take
-//! to one another, only the edges into the greatest set need be judged.
+//! to one another, only the edges into the greatest set need a test.
 
 ghost use Rattle.std.specs.Prelude.{◌≡◌, ◌<◌, ◌^◌, ◌++◌, ◌⊎◌, ℕ, [], ◌∷◌, IfOk, IfSome, IsTrue, OnOk, length, slice_index};
 ghost use Rattle.std.specs.List.{All};
@@ -13,9 +13,10 @@ use order_model::{Mask, Pairs};
 use std::alloc::{AllocError, Global};
 use symmetries::{Exchange, exchanges_of};
 
-/// Whether an exchange of variables keeps values and judged edges: each set and its image have
-/// equal values, and edges are judged into the image by the partners of the variables by which they
-/// are judged into the set. `images[m]` is the image of the set with the mask m.
+/// Whether an exchange of variables changes neither the values nor the edges to test of `edges`:
+/// whether each set and its image have equal values, and edges are to be tested into the image by
+/// the partners of the variables by which they are to be tested into the set. `images[m]` must be
+/// the image of the set with the mask m, for all sets of the problem's variables.
 fn keeps_edges(edges: Edges, images: &[Mask]) -> bool
     requires long { length images.now ≡ 2 ^ edges.problem.now.inputs }
     requires inside { (S : ℕ) → S < length images.now →
@@ -36,8 +37,8 @@ fn keeps_edges(edges: Edges, images: &[Mask]) -> bool
     true
 }
 
-/// Finds exchanges of variables under which no function, no value and no judged edge of `edges`
-/// changes. Some may be missed.
+/// Exchanges of variables that change no function, no set's value in `edges.values`, and no edge to
+/// test in `edges.judged`. Some may be missed.
 fn guides_of(alloc: Global, edges: Edges) -> Result<Vec<Exchange>, AllocError>
     ensures { IfOk result (λ v. AreAllGuides edges.entry v.items) }
 {
@@ -51,7 +52,8 @@ fn guides_of(alloc: Global, edges: Edges) -> Result<Vec<Exchange>, AllocError>
     Ok(guides)
 }
 
-/// Whether some exchange in `guides` takes `set` to a greater mask.
+/// Whether some exchange in `guides` takes `set`, a set of the problem's variables, to a greater
+/// mask. Requires that these exchanges change no function, value or edge to test of `edges`.
 fn has_greater_image(edges: Edges, guides: &[Exchange], set: Mask) -> bool
     requires guides { AreAllGuides edges guides.now }
     requires set { set < 2 ^ edges.problem.now.inputs }
@@ -65,8 +67,10 @@ fn has_greater_image(edges: Edges, guides: &[Exchange], set: Mask) -> bool
     false
 }
 
-/// Empties `fewer[set]`, the variables by which edges are still to be judged into `set`, for each
-/// set that an exchange in `guides` takes to a greater mask.
+/// Makes `fewer[m]` 0 if an exchange in `guides` takes the set with the mask m to a greater mask.
+/// `fewer[m]` has the variables of the edges still to be tested into the set with the mask m.
+/// Requires that the exchanges change no function, value or edge to test of `edges`, and that an
+/// edge in `fewer` fails if any in `edges` does; that stays so.
 fn leave_out(edges: Edges, guides: &[Exchange], fewer: &mut Vec<u16>)
     requires guides { AreAllGuides edges guides.now }
     requires fewer { AreEnough edges fewer.old.items }
@@ -91,8 +95,9 @@ struct Reached {
 }
 
 impl Reached {
-    /// Adds `set` to the sets of the present orbit, unless it was reached before, in this orbit or
-    /// an earlier one.
+    /// Marks `set` as reached, and appends it to `self.sets`, the sets of the present orbit.
+    /// Nothing changes if it was reached before, in this orbit or in another one, or has a variable
+    /// that the problem lacks. If memory is refused, it is marked but not appended.
     fn add(&mut self, set: Mask) -> Result<(), AllocError>
         ensures { OnOk result
             ((self.new.sets.items ≡ self.old.sets.items)
@@ -109,9 +114,12 @@ impl Reached {
     }
 }
 
-/// Adds to `reached` the sets to which the exchanges in `guides` take `set`, unless they were
-/// reached before. If such a set, `image`, is below `first`, empties `fewer[image]`, the variables
-/// by which edges are still to be judged into it. Requires that `set` is in the orbit of `first`.
+/// Takes `set`, of the orbit of `first`, to its images under the exchanges in `guides`. Adds to
+/// `reached` those that were not reached before, and makes `fewer[m]` 0 for those of a mask m below
+/// `first`. `fewer[m]` has the variables of the edges still to be tested into the set with the mask
+/// m. Requires that the exchanges change no function, value or edge to test of `edges`, that an
+/// edge in `fewer` fails if any in `edges` does, and that `reached.sets` are of the orbit, too. If
+/// memory is refused, only some images are taken.
 fn step_from(
     edges: Edges,
     guides: &[Exchange],
@@ -137,9 +145,12 @@ fn step_from(
     Ok(())
 }
 
-/// Empties `fewer[set]`, the variables by which edges are still to be judged into `set`, for each
-/// set below `first` in the orbit of `first`. The sets of this orbit replace those in
-/// `reached.sets`.
+/// Makes `fewer[m]` 0 for each mask m below `first` in the orbit of `first` under the exchanges in
+/// `guides`. `fewer[m]` has the variables of the edges still to be tested into the set with the
+/// mask m. `reached.sets` becomes the sets of this orbit; but if `first` was reached before, it
+/// becomes empty, and `fewer` stays. Requires that `first` is a set of the problem's variables,
+/// that the exchanges change no function, value or edge to test of `edges`, and that an edge in
+/// `fewer` fails if any in `edges` does. If memory is refused, only a part of this is done.
 fn leave_out_orbit(
     edges: Edges,
     guides: &[Exchange],
@@ -164,8 +175,11 @@ fn leave_out_orbit(
     Ok(())
 }
 
-/// Empties `fewer[set]`, the variables by which edges are still to be judged into `set`, for each
-/// set that isn't the greatest of its orbit under the exchanges in `guides`.
+/// Makes `fewer[m]` 0 if the set with the mask m isn't the greatest of its orbit under the
+/// exchanges in `guides`. `fewer[m]` has the variables of the edges still to be tested into the set
+/// with the mask m. Requires that the exchanges change no function, value or edge to test of
+/// `edges`, and that an edge in `fewer` fails if any in `edges` does; that stays so. If memory is
+/// refused, only some sets are done.
 fn leave_out_orbits(
     alloc: Global,
     edges: Edges,
@@ -188,8 +202,8 @@ fn leave_out_orbits(
     Ok(())
 }
 
-/// The number of sets into which some edge is judged. `judged[m]` is the mask of the variables by
-/// which edges into the set with the mask m are judged.
+/// The number of sets into which some edge is to be tested. `judged[m]` is the mask of the
+/// variables of the edges to test into the set with the mask m.
 pub(crate) fn count_judged(judged: &[Mask]) -> usize {
     let mut count = 0usize;
     for edges in judged {
@@ -201,10 +215,11 @@ pub(crate) fn count_judged(judged: &[Mask]) -> usize {
 /// This many steps along orbits take about as long as judging the edges into one set.
 const STEPS_OF_A_SET: usize = 512;
 
-/// For each set, at its mask, the variables by which edges are still to be judged into it; None if
-/// no exchange is found. Edges into sets that an exchange takes to greater ones are left out.
-/// Chains of exchanges are followed if many sets are left that no single exchange takes to a
-/// greater one.
+/// Some of the edges to test of `edges`, at least one of which fails if any edge does. Entry m has
+/// the variables of those into the set with the mask m. Edges are left out if an exchange that
+/// changes no function, value or edge to test takes their set to a greater mask; also if several
+/// such exchanges in turn do, unless following these takes at least `STEPS_OF_A_SET` steps for each
+/// set with edges left. None if no such exchange is found.
 pub(crate) fn fewer_edges(alloc: Global, edges: Edges) -> Result<Option<Vec<u16>>, AllocError>
     ensures { IfOk result (λ o. IfSome o (λ v. AreEnough edges.entry v.items)) }
 {

@@ -1,4 +1,4 @@
-//! The walk of the checker over all sets, which finds the first of the judged edges that fails. An
+//! The walk of the checker over all sets, which finds the first of given edges that fails. An
 //! edge leads from a set to the set with one more variable. It fails if the value of the larger set
 //! exceeds that of the smaller one by more than the width of this variable over the smaller set.
 //!

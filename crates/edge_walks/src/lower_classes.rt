@@ -13,10 +13,11 @@ use pair_buckets::pair_at;
 use std::alloc::{AllocError, Global};
 use subfunction_classes::{count_with, join_mask};
 
-/// For each class the union of the masks of those pairs of classes that have it as the lower class;
-/// 0 if no pair has. The mask of a pair has the variables that the subfunction joined from both
-/// depends on. `numbers` has a class table's entries, of which those 2^x apart are paired, and
-/// `masks` the mask of each class.
+/// For each class, the variables on which some function depends whose cofactor at `x` = 0 is this
+/// class; 0 if there is no such function. Each function is given by its cofactors by `x`: the
+/// classes at places i and i + 2^`x` of `numbers`, a class table, where bit `x` of i is 0.
+/// `masks[k]` is the mask of class k. Requires that each entry of `numbers` is a class of such a
+/// pair, and below the length of `masks`.
 fn lower_masks(
     alloc: Global,
     numbers: &[u32],
@@ -36,10 +37,12 @@ fn lower_masks(
     Ok(labels)
 }
 
-/// Whether the lower classes of the pairs show that, for each variable y, at least `needed[y]`
-/// distinct pairs of classes join to subfunctions that depend on y; false shows nothing. `numbers`
-/// has a class table's entries, of which those 2^x apart are paired, and `masks` for each class the
-/// variables that it depends on.
+/// Whether a lower bound shows for each variable y, `x` among them, that at least `needed[y]`
+/// distinct functions depend on y. If false, there may be as many nevertheless. Each function is
+/// given by its cofactors by `x`: the classes at places i and i + 2^`x` of `numbers`, a class
+/// table, where bit `x` of i is 0. `masks[k]` is the mask of class k. Requires that each entry of
+/// `numbers` is a class of such a pair, and below the length of `masks`, which is at most 2^20.
+/// `needed` has at most 16 entries; a variable behind its end needs 0.
 pub(crate) fn are_wide(
     alloc: Global,
     numbers: &[u32],

@@ -1,4 +1,4 @@
-//! The walk over all sets for the first judged edge that fails, by many threads or by one.
+//! The walk over all sets for the first edge that fails, by many threads or by one.
 
 ghost use Rattle.std.specs.Prelude.{◌≡◌, ◌-◌, ◌*◌, ◌^◌, ◌<◌, ◌≤◌, IfOk};
 ghost use Rattle.edge_walks.specs.Edges.{IsFirstEdge, IsFirstOfParts, part_at};
@@ -21,13 +21,14 @@ const PART_VARIABLES: u8 = 6;
 /// The class tables of the sets of this many highest variables are made once for all tasks.
 const SHARED_VARIABLES: u8 = 2;
 
-/// If edges are judged into at most this many sets, the calling thread walks over them alone.
+/// If edges are to be tested into at most this many sets, the calling thread walks over them alone.
 const SETS_FOR_ONE: usize = 32;
 
-/// The part of the sets that task number `place` walks over: the members that they have of the
-/// `end` highest variables, as a mask in which bit 0 is the lowest of these. Parts of few variables
-/// take longest; laying the low bits of the place over the high ones spreads them evenly over
-/// neighbouring places. Requires that `place` is below 2^end.
+/// The members that all sets of task number `place` have among the `end` highest variables, as a
+/// mask whose bit 0 is the lowest of these variables: the `end` lowest bits of `place`, with bits 0
+/// to 2 xored into bits 3 to 5. Different numbers give different masks, and those with few members,
+/// which take longest, are spread over the numbers. Requires `end` to be at most 6, and `place` to
+/// be below 2^`end`.
 #[tactic(auto, unfolding(crate::specs::Edges::part_at), using(crate::proofs::Places::part_within))]
 fn part_of(place: usize, end: u8) -> Mask
     requires end { end ≤ 6 }
@@ -39,9 +40,9 @@ fn part_of(place: usize, end: u8) -> Mask
     (mixed & ((1 << end) - 1)) as Mask
 }
 
-/// The first, by mask and then by variable, of the edges in `parts`; None if there are none. Each
-/// entry of `parts` has, for the sets of one task, the first judged edge that fails, or None; or an
-/// error, which is returned, if memory was refused to the task.
+/// The first edge in `parts`, by the mask that it leads from and then by variable; None if there
+/// are none. Each entry of `parts` is the result of one task: an edge that fails, or None, or an
+/// error if memory was refused. Err if any entry is an error.
 fn first_of_parts(parts: &[Result<Option<Edge>, AllocError>]) -> Result<Option<Edge>, AllocError>
     ensures { IfOk result (IsFirstOfParts parts.now) }
 {
@@ -55,9 +56,12 @@ fn first_of_parts(parts: &[Result<Option<Edge>, AllocError>]) -> Result<Option<E
     Ok(first)
 }
 
-/// The first judged edge that fails; None if none does. Each of 2^`end` tasks walks over the sets
-/// that agree in the `end` highest variables. `tops` has class tables of sets none of whose
-/// variables is below `y`. Requires that `root` stands at the empty set.
+/// The first edge in `root.edges` that fails, by the mask that it leads from and then by variable;
+/// None if none does. Each of 2^`end` tasks tests the edges into the sets that agree in the `end`
+/// highest variables. A task begins at the class table of its sets' members from `y` on, or at
+/// `root.table` if `tops` lacks that. Requires that `root.table` is that of the empty set, that
+/// `root.free` is the number n of variables, that `tops` has class tables of sets without variables
+/// below `y`, that `end` is at most 6 and at most n, and that n - `end` <= `y` < n.
 fn first_by_tasks<R: Threads + Sync>(
     rt: &R,
     alloc: Global,
@@ -94,7 +98,9 @@ pub trait Walker {
     // What a walk requires.
     ghost ready: { Self → Type 0 };
 
-    /// The first of the judged edges in `edges` that fails; None if none does.
+    /// The first edge that fails, by the mask that it leads from and then by variable, among those
+    /// that `edges.judged` lists; None if none does. An edge fails if `edges.values` rise along it
+    /// by more than its width.
     fn first_of_all(&self, alloc: Global, edges: Edges) -> Result<Option<Edge>, AllocError>
         requires { ready self.now }
         ensures { IfOk result (IsFirstEdge (FailsAmong edges.entry)) };
@@ -116,6 +122,9 @@ impl<'r, R: Threads + Sync> Walker for ThreadPool<'r, R> {
 
     ghost ready = { λ _. IsSync R.row };
 
+    /// The first edge in `edges` that fails, by the mask that it leads from and then by variable;
+    /// None if none does. Threads share the sets; if edges lead into at most `SETS_FOR_ONE` sets,
+    /// the calling thread tests them alone.
     fn first_of_all(&self, alloc: Global, edges: Edges) -> Result<Option<Edge>, AllocError> {
         if count_judged(edges.judged) <= SETS_FOR_ONE {
             return CallingThread.first_of_all(alloc, edges);
@@ -137,6 +146,8 @@ impl<'r, R: Threads + Sync> Walker for ThreadPool<'r, R> {
 impl Walker for CallingThread {
     ghost ready = { λ _. Unit {0} };
 
+    /// The first edge in `edges` that fails, by the mask that it leads from and then by variable,
+    /// found by the calling thread alone; None if none does.
     fn first_of_all(&self, alloc: Global, edges: Edges) -> Result<Option<Edge>, AllocError> {
         let table = ClassTable::of_problem(alloc, edges.problem)?;
         let root = Position {
@@ -148,11 +159,11 @@ impl Walker for CallingThread {
     }
 }
 
-/// The first of the judged edges in `edges` that fails; None if none does. If exchanges of
-/// variables change no function, value or judged edge, only the edges into some sets are judged at
-/// first. If one of these fails, the first failing edge of all leads from the same mask as that
-/// one, or from a smaller one, and the edges into sets that have edges from such masks are judged
-/// then.
+/// The first edge in `edges` that fails, by the mask that it leads from and then by variable; None
+/// if none does. `walker` tests the edges. If exchanges of variables change no function, value or
+/// edge to test, it first tests a part of the edges, of which one fails if any edge does. If the
+/// first of these to fail leads from the mask m, the first of all leads from m or a smaller mask;
+/// so it then tests only the edges into sets into which an edge can lead from such a mask.
 pub fn first_failure<W: Walker>(
     walker: &W,
     alloc: Global,

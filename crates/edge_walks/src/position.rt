@@ -1,4 +1,4 @@
-//! What a walk over sets judges, and where the walk stands.
+//! What a walk over sets tests, and where the walk stands.
 
 ghost use Rattle.edge_walks.specs.Edges.{AreEdgeTables};
 ghost use Rattle.edge_walks.specs.Blocks.{StandsAt};
@@ -10,15 +10,14 @@ use order_model::{Mask, Problem, VarIx};
 /// the order of their masks; with equal masks, in the order of their variables.
 pub type Edge = (Mask, VarIx);
 
-/// What a walk judges: edges between sets of variables, for the functions of `problem`.
+/// What a walk tests: edges between sets of variables, for the functions of `problem`.
 #[derive(Clone, Copy)]
 pub struct Edges<'a> {
     pub problem: &'a Problem,
     /// `values[m]` is the value of the set with the mask m, a number that the caller chooses. An
     /// edge fails along which it rises by more than the width.
     pub values: &'a [u32],
-    /// `judged[m]` is the mask of the variables by which edges into the set with the mask m are
-    /// judged.
+    /// `judged[m]` is the mask of the variables of the edges to test into the set with the mask m.
     pub judged: &'a [Mask],
     ghost tables: { AreEdgeTables problem.now.inputs values.now judged.now },
 }

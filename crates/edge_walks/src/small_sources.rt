@@ -17,9 +17,9 @@ fn smallest_source(set: Mask) -> Mask
     set - (1 << highest)
 }
 
-/// A copy of `judged` without the edges into those sets into which every edge leads from a mask
-/// above `last`. `judged[m]` is the mask of the variables by which edges into the set with the mask
-/// m are judged.
+/// A copy of `judged` in which the entry of a set is 0 if edges into it lead only from masks above
+/// `last`. `judged[m]` is the mask of the variables of the edges to test into the set with the mask
+/// m. Requires at most 65,536 entries.
 pub(crate) fn edges_up_to(
     alloc: Global,
     judged: &[Mask],

@@ -12,9 +12,9 @@ use crate::walk::{first_in_part, has_upper_judged, upper_table};
 use order_model::{Mask, VarIx};
 use std::alloc::{AllocError, Global};
 
-/// The class table of the set of `at.table` with the highest free variable, `at.free` - 1, added.
-/// None if no edge is judged into the larger set, nor into any set that has more of the free
-/// variables.
+/// The class table of the set of `at.table` with the variable `at.free` - 1 added. None if no edge
+/// is to be tested into this larger set with none, some or all of the smaller variables added.
+/// Requires 0 < `at.free`.
 fn judged_upper_table<'t>(
     alloc: Global,
     at: Position<'_, 't>,
@@ -30,9 +30,11 @@ fn judged_upper_table<'t>(
     Ok(Some(larger))
 }
 
-/// Appends to `tops` the class tables of the sets with the highest free variable of `root` added:
-/// that of the set of `root`, and those of the sets of the tables that `tops` has. Tables that no
-/// judged edge needs are left out.
+/// Adds the variable `root.free` - 1 to the set of `root.table`, and to the sets of the tables in
+/// `tops`; appends the class tables of these larger sets to `tops`. A table is left out if no edge
+/// is to be tested into its set with none, some or all of the smaller variables added. Requires
+/// `root.free` to be above 0, and the sets of the tables in `tops` to have no variable below
+/// `root.free`. If memory is refused, only some tables may be appended.
 fn add_variable<'t>(
     alloc: Global,
     root: Position<'_, 't>,
@@ -61,9 +63,10 @@ fn add_variable<'t>(
     Ok(())
 }
 
-/// The class tables of those non-empty sets without variables below `y` that the walk needs. A set
-/// is needed if an edge is judged into it, or into it with variables below `y` added. Expects
-/// `root` to stand at the empty set.
+/// The class tables of the non-empty sets without variables below `y` that the walk needs. It needs
+/// a set if an edge is to be tested into it with none, some or all of the variables added that are
+/// smaller than its members. Expects `root.table` to be that of the empty set. Requires `y` <=
+/// `root.free`.
 pub(crate) fn top_tables<'t>(
     alloc: Global,
     root: Position<'_, 't>,
@@ -85,11 +88,11 @@ pub(crate) fn top_tables<'t>(
     Ok(tops)
 }
 
-/// The first edge that fails among the judged edges into the sets of a part: `part` with none, some
-/// or all of the variables below `end` added. None if none fails. `tops` has class tables of sets
-/// without variables below `y`. The walk begins at the table in `tops` of those variables of `part`
-/// that are not below `y`, or at `root` if there is none. Requires that `root` stands at the empty
-/// set.
+/// The first edge of those to test in `root.edges` that fails and leads into the set `part`, or
+/// into `part` with variables below `end` added; None if none does. Edges are ordered by the mask
+/// from which they lead, then by variable. `root` is the place where a walk over all sets begins.
+/// `tops` has class tables from which it can begin later: of sets without variables below `y`.
+/// Requires that `part` has no variable below `end`, and that `end` <= `y`, which is a variable.
 pub(crate) fn first_from_tops(
     alloc: Global,
     root: Position,

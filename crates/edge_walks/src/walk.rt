@@ -11,7 +11,8 @@ use crate::upper_halves::upper_half_passes;
 use order_model::{Mask, VarIx, contains};
 use std::alloc::{AllocError, Global};
 
-/// The one of two edges that comes first, by mask and then by variable. If one is None, the other.
+/// The one of two edges that comes first, by the mask that it leads from and then by variable. If
+/// one is None, the other; None if both are.
 pub(crate) fn first_of(a: Option<Edge>, b: Option<Edge>) -> Option<Edge>
     ensures { IsFirstOf a b result }
 {
@@ -30,8 +31,9 @@ pub(crate) fn first_of(a: Option<Edge>, b: Option<Edge>) -> Option<Edge>
     Some(one)
 }
 
-/// Whether an edge is judged into a set whose mask is at least `set` and below `set` + 2^`y`.
-/// `judged[m]` is the mask of the variables by which edges into the set with the mask m are judged.
+/// Whether an edge is to be tested into a set whose mask is at least `set` and below `set` + 2^`y`.
+/// `judged[m]` is the mask of the variables of the edges to test into the set with the mask m.
+/// Requires `y` to be at most 16, and `judged` to have an entry for each of these masks.
 pub(crate) fn has_judged(judged: &[Mask], set: Mask, y: VarIx) -> bool
     requires variable { y ≤ 16 }
     requires within { set + 2 ^ y ≤ length judged.now }
@@ -46,8 +48,8 @@ pub(crate) fn has_judged(judged: &[Mask], set: Mask, y: VarIx) -> bool
     false
 }
 
-/// Whether an edge is judged into the upper half of the sets at which `at` stands: those that have
-/// the highest free variable, `at.free` - 1.
+/// Whether an edge is to be tested into the set of `at.table` with the variable `at.free` - 1, and
+/// none or some smaller ones, added. Requires 0 < `at.free`.
 pub(crate) fn has_upper_judged(at: Position) -> bool
     requires { 0 < at.free }
     ensures { result ≡ false → IsFirstEdge (FailsInUpper at.entry) None }
@@ -56,7 +58,8 @@ pub(crate) fn has_upper_judged(at: Position) -> bool
     has_judged(at.edges.judged, at.table.set() + (1 << x), x)
 }
 
-/// The class table of the set of `at.table` with the highest free variable, `at.free` - 1, added.
+/// The class table of the set of `at.table` with the variable `at.free` - 1 added. Requires 0 <
+/// `at.free`.
 pub(crate) fn upper_table<'t>(
     alloc: Global,
     at: Position<'_, 't>,
@@ -68,8 +71,8 @@ pub(crate) fn upper_table<'t>(
     at.table.with_variable(alloc, at.free - 1)
 }
 
-/// The first judged edge that leads into the set of `at.table` and fails; None if none does. Edges
-/// by larger variables lead from smaller masks, so they come first. Requires that `at.free` is 0.
+/// The first edge in `at.edges` that leads into the set of `at.table` and fails; None if none does.
+/// Edges by larger variables come first: they lead from smaller masks. Requires `at.free` to be 0.
 fn first_into(at: Position) -> Option<Edge>
     requires { at.free ≡ 0 }
     ensures { IsFirstEdge (FailsAt at.entry) result }
@@ -89,8 +92,9 @@ fn first_into(at: Position) -> Option<Edge>
     None
 }
 
-/// The first edge that fails among the judged edges into the sets at which `at` stands; None if
-/// none does. `short` is true if repeated rows of the table were looked for already.
+/// The first edge in `at.edges`, by the mask that it leads from and then by variable, that fails
+/// and leads into the set of `at.table` with none, some or all of the variables below `at.free`
+/// added; None if none does. `short` is true if repeated rows of the table were looked for already.
 pub(crate) fn first_failing(
     alloc: Global,
     at: Position,
@@ -135,9 +139,9 @@ pub(crate) fn first_failing(
     Ok(first_of(without, with))
 }
 
-/// The class table of the set of those variables of `part` that are not below `end`; None if this
-/// is the set of the table at `at`. Requires that this table's set has those variables of `part`
-/// that are not below `at.free`. Tables that are made on the way are dropped.
+/// The class table of the members of `part` that are not below `end`; None if this is the set of
+/// `at.table`. Requires that the set of `at.table` is the members of `part` that are not below
+/// `at.free`, and that `end` <= `at.free`.
 fn part_table<'t>(
     alloc: Global,
     at: Position<'_, 't>,
@@ -162,9 +166,10 @@ fn part_table<'t>(
     Ok(own)
 }
 
-/// The first edge that fails among the judged edges into the sets of one task: `part` with none,
-/// some or all of the variables below `end` added. None if none fails. Requires that the set of the
-/// table at `at` has those variables of `part` that are not below `at.free`.
+/// The first edge in `at.edges`, by the mask that it leads from and then by variable, that fails
+/// and leads into `part` with none, some or all of the variables below `end` added; None if none
+/// does. Requires that `part` has no variable below `end`, that the set of `at.table` is the
+/// members of `part` that are not below `at.free`, and that `end` <= `at.free`.
 pub(crate) fn first_in_part(
     alloc: Global,
     at: Position,
