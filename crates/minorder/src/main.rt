@@ -10,7 +10,7 @@ use std::rt::Files;
 use std::thread::Threads;
 
 /// Runs minorder with the words of the command line, and returns its exit status. The report goes
-/// to `out`, messages to `err`. Err has the exit status if the program can't run: 2 if a word of
+/// to `out`, messages to `err`. Err is the exit status if minorder can't be called: 2 if a word of
 /// the command line isn't UTF-8, 4 if memory is refused.
 fn minorder_status<R: Env + Files + AllocGlobal + Threads + Sync, W: CountedWrite, E: CountedWrite>(
     rt: &R,
@@ -22,7 +22,7 @@ fn minorder_status<R: Env + Files + AllocGlobal + Threads + Sync, W: CountedWrit
     Ok(minorder(rt, &words, out, err))
 }
 
-/// Runs the program on the standard streams and ends with its exit status.
+/// Runs minorder with standard output and standard error, and ends with its exit status.
 fn main(rt: HostRuntime) -> ExitCode {
     let mut out = Counting::new(rt.stdout());
     let mut err = Counting::new(rt.stderr());

@@ -18,7 +18,7 @@ pub(crate) struct AbovePair {
     pub below: u8,
 }
 
-/// `given`, the pairs that a call is given, as pairs (above, below) of variables.
+/// The pairs `given` as tuples (above, below) of variables, in the same order.
 fn numbers_of(alloc: Global, given: &[AbovePair]) -> Result<Vec<(VarIx, VarIx)>, AllocError>
     ensures { IfOk result (λ v. v.items ≡ pairs_given given.now) }
 {
@@ -30,8 +30,9 @@ fn numbers_of(alloc: Global, given: &[AbovePair]) -> Result<Vec<(VarIx, VarIx)>,
     Ok(pairs)
 }
 
-/// The pairs that a call is given, which an order of the variables below `n` has to keep. Refused
-/// if no such order keeps them, if a variable of a pair isn't below `n`, or if memory is refused.
+/// The pairs `given`, without duplicates, as pairs that orders of the variables below `n` have to
+/// keep. Err is `Pairs` if no such order keeps them or a variable of theirs isn't below `n`, else
+/// `OutOfMemory`. Requires `n` to be from 1 to 16.
 pub(crate) fn kept_pairs(alloc: Global, given: &[AbovePair], n: u8) -> Result<Pairs, Refusal>
     requires some { 1 ≤ n }
     requires few { n ≤ 16 }

@@ -21,8 +21,8 @@ pub(crate) struct GivenTables<'a> {
 }
 
 impl<'a> GivenTables<'a> {
-    /// Puts together what a call is given as truth tables: words, and the numbers of inputs and
-    /// outputs.
+    /// Puts together the truth tables of a call from C: their words, and the numbers of inputs and
+    /// outputs. Nothing is checked.
     pub(crate) fn of(words: &'a [u64], inputs: u32, outputs: u32) -> GivenTables<'a>
         ensures { result ≡ given words.entry inputs outputs }
     {
@@ -34,15 +34,15 @@ impl<'a> GivenTables<'a> {
     }
 }
 
-/// Whether the numbers of inputs and outputs are from 1 to 16.
+/// Whether the numbers of inputs and outputs of `given` are both from 1 to 16.
 pub(crate) fn is_in_range(given: &GivenTables) -> bool
     ensures { IsTrue result ↔ IsInRange given.now }
 {
     (1..=16).contains(&given.inputs) && (1..=16).contains(&given.outputs)
 }
 
-/// Whether the numbers of inputs and outputs are from 1 to 16, and there are as many words as their
-/// truth tables have.
+/// Whether `given` has 1 to 16 inputs, 1 to 16 outputs, and exactly the words of their packed truth
+/// tables.
 pub(crate) fn are_tables(given: &GivenTables) -> bool
     ensures { IsTrue result ↔ AreTables given.now }
 {
@@ -50,16 +50,18 @@ pub(crate) fn are_tables(given: &GivenTables) -> bool
         && given.words.len() == given.outputs as usize * words_per_table(given.inputs as u8)
 }
 
-/// Whether a call is given truth tables (see `are_tables`), and has room for as many variables of
-/// an order (`places`) and for as many level counts (`counts`) as there are inputs.
+/// Whether `given` has exactly the words of 1 to 16 truth tables of 1 to 16 inputs, and both
+/// `places`, the length of a slice for an order, and `counts`, that of a slice for level counts,
+/// are the number of inputs.
 pub(crate) fn has_call_shape(given: &GivenTables, places: usize, counts: usize) -> bool
     ensures { IsTrue result ↔ HasCallShape given.now places counts }
 {
     places == given.inputs as usize && counts == given.inputs as usize && are_tables(given)
 }
 
-/// The truth tables that a call is given. Refused if the numbers of inputs and outputs are out of
-/// range, if there are more or fewer words than the truth tables have, or if memory is refused.
+/// The truth tables `given`. Err is `Shape` if the number of inputs or that of outputs isn't from 1
+/// to 16, or there are more or fewer words than the truth tables have. Otherwise it is
+/// `OutOfMemory`.
 pub(crate) fn tables_of(alloc: Global, given: &GivenTables) -> Result<Tables, Refusal>
     ensures there { OnOk result (AreTables given.now) }
     ensures tables { IfOk result (λ t. t ≡ tables_in given.now) }
@@ -74,9 +76,9 @@ pub(crate) fn tables_of(alloc: Global, given: &GivenTables) -> Result<Tables, Re
     }
 }
 
-/// The truth tables that a call is given. Refused if `given` has none (see `are_tables`), if
-/// `places`, its room for an order's variables, or `counts`, its room for level counts, isn't the
-/// number of inputs, or if memory is refused.
+/// The truth tables `given`. Err is `Shape` if these are not exactly the words of 1 to 16 truth
+/// tables of 1 to 16 inputs, or if `places`, the length of a slice for an order, or `counts`, that
+/// of a slice for level counts, isn't the number of inputs. Otherwise it is `OutOfMemory`.
 pub(crate) fn tables_for(
     alloc: Global,
     given: &GivenTables,
@@ -93,8 +95,8 @@ pub(crate) fn tables_for(
     tables_of(alloc, given)
 }
 
-/// The order that a call is given as `variables`, top first. Refused if these are not the variables
-/// from 0 on, each once, or if memory is refused.
+/// The order `variables`, top first. Err is `Order` if `variables` doesn't have each variable below
+/// its length exactly once, else `OutOfMemory`. Requires 1 to 16 variables.
 fn order_of(alloc: Global, variables: &[u8]) -> Result<Order, Refusal>
     requires some { 1 ≤ length variables.now }
     requires few { length variables.now ≤ 16 }
@@ -118,9 +120,10 @@ pub(crate) struct Arguments {
     pub(crate) order: Order,
 }
 
-/// The truth tables and the order that a call is given. Refused if `given` has no truth tables (see
-/// `are_tables`), if `variables` is no order of the inputs, if `counts`, the room for level counts,
-/// isn't the number of inputs, or if memory is refused.
+/// The truth tables `given` and the order `variables`, top first. Err is `Shape` if `given` does
+/// not have exactly the words of 1 to 16 truth tables of 1 to 16 inputs, or if the length of
+/// `variables`, or `counts`, which is that of a slice for level counts, isn't the number of inputs.
+/// Otherwise it is `Order` if `variables` doesn't have each input exactly once, or `OutOfMemory`.
 pub(crate) fn arguments_of(
     alloc: Global,
     given: &GivenTables,

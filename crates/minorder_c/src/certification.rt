@@ -20,9 +20,10 @@ use small_search::{is_small, solve};
 use std::alloc::{AllocError, Global};
 use truth_table::Tables;
 
-/// The first order of the fewest nodes among those that keep the pairs, and the cells of its
-/// certificate. Unless the problem is small (`is_small`), the size of a sifted order bounds the
-/// search.
+/// The first order of the fewest nodes among those that keep `pairs`, and the cells of its
+/// certificate. Unless there are at most 10 inputs and the truth tables have at most 8,192 entries
+/// together (`is_small`), the size of a sifted order bounds the search. Requires `pairs` to be of
+/// the tables' variables.
 fn solution(alloc: Global, tables: &Tables, pairs: Pairs) -> Result<Solution, AllocError>
     requires { pairs.inputs ≡ tables.now.inputs }
     ensures { IfOk result (IsSolution tables.now pairs.pairs) }
@@ -36,8 +37,8 @@ fn solution(alloc: Global, tables: &Tables, pairs: Pairs) -> Result<Solution, Al
     Ok(solution)
 }
 
-/// The text of the certificate of the first order of the fewest nodes among those that keep the
-/// pairs.
+/// The text of the certificate of the first order of the fewest nodes among those that keep
+/// `pairs`. Requires `pairs` to be of the tables' variables.
 fn text_of(alloc: Global, tables: &Tables, pairs: Pairs) -> Result<String, AllocError>
     requires { pairs.inputs ≡ tables.now.inputs }
     ensures { IfOk result
@@ -50,9 +51,10 @@ fn text_of(alloc: Global, tables: &Tables, pairs: Pairs) -> Result<String, Alloc
     Ok(text)
 }
 
-/// The text of the certificate for the truth tables and the pairs `above` that a call is given.
-/// Refused if `given` has no truth tables (see `are_tables`), if no order keeps the pairs, or if
-/// memory is refused.
+/// The text of the certificate of the first order of the fewest nodes of the truth tables `given`,
+/// among the orders that keep the pairs `above`. Err is `Shape` if `given` does not have exactly
+/// the words of 1 to 16 truth tables of 1 to 16 inputs. Otherwise it is `Pairs` if no order of the
+/// inputs keeps the pairs, or `OutOfMemory`.
 fn certificate(alloc: Global, given: &GivenTables, above: &[AbovePair]) -> Result<String, Refusal>
     ensures shape { OnOk result (AreTables given.now) }
     ensures kept { OnOk result (CanBeKept given.now.inputs (pairs_given above.now)) }
@@ -66,12 +68,11 @@ fn certificate(alloc: Global, given: &GivenTables, above: &[AbovePair]) -> Resul
     Ok(text)
 }
 
-/// Writes the certificate of the first order of the fewest nodes among those that keep the pairs
-/// `above` to the front of `text`, as `minorder --cert` writes it, and its length to `size`. If
-/// `text` is too short only the length is written; a call that is refused otherwise writes nothing.
-/// Returns 0 if the text is written, `SHORT_ROOM` if there is too little room, or the status of the
-/// refusal: 2 if a number or a length doesn't fit, 4 if memory is refused, 8 if no order keeps the
-/// pairs.
+/// Writes the certificate of the first order of the fewest nodes of the packed truth tables
+/// `tables`, among those that keep the pairs `above`, to the front of `text`, and its length to
+/// `size`. Returns 0, or 7 if `text` is too short; then only `size` is written. A refused call
+/// writes nothing and returns 2 if `inputs` or `outputs` isn't from 1 to 16 or the length of
+/// `tables` doesn't match, 4 if memory is refused, 8 if no order of the inputs keeps the pairs.
 #[unsafe(no_mangle)]
 pub extern "C" fn minorder_certify_with_pairs(
     alloc: Global,

@@ -36,7 +36,7 @@ struct DiagramForC {
 }
 
 /// The number in C of a node or terminal: 0 and 1 for the terminals 0 and 1, and k + 2 for node k,
-/// from 0, of the diagram's list of nodes.
+/// from 0, of the diagram's list of nodes. Requires k to be below 2^20.
 fn number_of(r: Ref) -> u32
     requires { IsBefore (2 ^ 20) r }
     ensures { ref_named result ≡ r }
@@ -48,7 +48,7 @@ fn number_of(r: Ref) -> u32
     }
 }
 
-/// The nodes of a diagram as nodes in C, in the diagram's order.
+/// The nodes of a diagram as nodes in C, entry k for node k. Requires at most 2^20 nodes.
 fn nodes_of(alloc: Global, diagram: &Diagram) -> Result<Vec<DiagramNode>, AllocError>
     requires { length diagram.now.graph.nodes ≤ 2 ^ 20 }
     ensures { IfOk result (λ v. map node_for v.items ≡ diagram.now.graph.nodes) }
@@ -70,7 +70,8 @@ fn nodes_of(alloc: Global, diagram: &Diagram) -> Result<Vec<DiagramNode>, AllocE
     Ok(made)
 }
 
-/// The numbers in C of a diagram's roots, by rising output.
+/// The root of each output, as a number in C: 0 and 1 for the terminals 0 and 1, and k + 2 for node
+/// k, from 0, of the diagram's list of nodes. Requires at most 2^20 nodes.
 fn roots_of(alloc: Global, diagram: &Diagram) -> Result<Vec<u32>, AllocError>
     requires { length diagram.now.graph.nodes ≤ 2 ^ 20 }
     ensures { IfOk result (λ v. map ref_named v.items ≡ diagram.now.graph.roots) }
@@ -83,9 +84,11 @@ fn roots_of(alloc: Global, diagram: &Diagram) -> Result<Vec<u32>, AllocError>
     Ok(made)
 }
 
-/// The reduced diagram, in C, under `order` of the truth tables that a call is given. Refused if
-/// `given` has no truth tables (see `are_tables`), if `order` is no order of the inputs, if
-/// `roots`, the room for roots, isn't the number of outputs, or if memory is refused.
+/// The nodes and roots, in C, of the reduced diagram under `order` of the truth tables `given`. Err
+/// is `Shape` if `given` does not have exactly the words of 1 to 16 truth tables of 1 to 16 inputs,
+/// the length of `order` isn't the number of inputs, or `roots`, the length of a slice for roots,
+/// isn't that of outputs. Otherwise it is `Order` if `order` doesn't have each input exactly once,
+/// or `OutOfMemory`.
 fn diagram_of(
     alloc: Global,
     given: &GivenTables,
@@ -112,12 +115,11 @@ fn diagram_of(
     })
 }
 
-/// Writes the nodes of the reduced diagram under `order` to the front of `nodes`, lowest level
-/// first, the number of each output's root to `roots`, and how many nodes there are to `count`. If
-/// `nodes` is too short only `count` is written; a call that is refused otherwise writes nothing.
-/// Returns 0 if all is written, `SHORT_ROOM` if there is too little room, or the status of the
-/// refusal: 2 if a number or a length doesn't fit, 4 if memory is refused, 5 if `order` is no order
-/// of the inputs.
+/// Writes the reduced diagram of the packed truth tables `tables` under `order`: its nodes to the
+/// front of `nodes`, lowest first, their number to `count`, and each output's root to `roots`: 0 or
+/// 1 for a terminal, k + 2 for node k. Returns 0, or 7 if `nodes` is too short; then only `count`
+/// is written. A refused call writes nothing and returns 2 if `inputs` or `outputs` isn't from 1 to
+/// 16 or a length doesn't match, 4 if memory is refused, 5 if `order` is no order.
 #[unsafe(no_mangle)]
 pub extern "C" fn minorder_diagram_with_lengths(
     alloc: Global,

@@ -17,8 +17,10 @@ use small_search::{SmallSearch, Workspace, are_few, write_optimum};
 use std::alloc::{AllocError, Global};
 use truth_table::Tables;
 
-/// The first order of the fewest nodes among those that keep the pairs, with its level counts and
-/// its size, found by a search by layers. The size of a sifted order bounds the search.
+/// The first order of the fewest nodes among those that keep `pairs`, with its level counts and its
+/// size, found by a search by layers. The size of a sifted order bounds the search. Requires
+/// `given` to have exactly the words of 1 to 16 truth tables of 1 to 16 inputs, and `pairs` to be
+/// of these inputs.
 fn searched(alloc: Global, given: &GivenTables, pairs: Pairs) -> Result<SizedOrder, AllocError>
     requires tables { AreTables given.now }
     requires pairs { pairs.inputs ≡ given.now.inputs }
@@ -30,9 +32,11 @@ fn searched(alloc: Global, given: &GivenTables, pairs: Pairs) -> Result<SizedOrd
     find_optimum_alone(alloc, tables.problem(), bound)
 }
 
-/// Writes the first order of the fewest nodes among those that keep the pairs to `order`, top
-/// first, and its level counts to `levels`, and returns its size. `workspace` is working memory for
-/// small problems. If memory is refused, `order` and `levels` stay.
+/// Writes the first order of the fewest nodes among those that keep `pairs` to `order`, top first,
+/// and its level counts to `levels`, and returns its size. What `workspace`, working memory, holds
+/// before doesn't matter. If memory is refused, `order` and `levels` stay. Requires `given` to have
+/// exactly the words of 1 to 16 truth tables of 1 to 16 inputs, pairs of these inputs, and the
+/// number of inputs as the length of `order` and of `levels`.
 pub(crate) fn optimum(
     alloc: Global,
     given: &GivenTables,
@@ -61,10 +65,10 @@ pub(crate) fn optimum(
     Ok(best.total)
 }
 
-/// Writes the first order of the fewest nodes to `order`, top first, and its level counts to
-/// `levels`, and returns its size. Refused if `given` has no truth tables (see `are_tables`), if
-/// the length of `order` or of `levels` isn't the number of inputs, or if memory is refused. Then
-/// nothing is written.
+/// Writes the first order of the fewest nodes of the truth tables `given` to `order`, top first,
+/// and its level counts to `levels`, and returns its size. An error writes nothing, and is `Shape`
+/// if `given` does not have exactly the words of 1 to 16 truth tables of 1 to 16 inputs, or the
+/// length of `order` or of `levels` isn't the number of inputs. Otherwise it is `OutOfMemory`.
 fn exact(
     alloc: Global,
     given: &GivenTables,
@@ -87,10 +91,11 @@ fn exact(
     Ok(total)
 }
 
-/// Writes the first order of the fewest nodes among those that keep the pairs `above` to `order`,
-/// top first, and its level counts to `levels`, and returns its size. Refused if `given` has no
-/// truth tables (see `are_tables`), if no order keeps the pairs, if the length of `order` or of
-/// `levels` isn't the number of inputs, or if memory is refused. Then nothing is written.
+/// Writes the first order of the fewest nodes of the truth tables `given`, among those that keep
+/// the pairs `above`, to `order`, top first, and its level counts to `levels`, and returns its
+/// size. An error writes nothing, and is `Shape` if `given` does not have exactly the words of 1 to
+/// 16 truth tables of 1 to 16 inputs, or the length of `order` or of `levels` isn't the number of
+/// inputs. Otherwise it is `Pairs` if no order of the inputs keeps the pairs, or `OutOfMemory`.
 fn exact_above(
     alloc: Global,
     given: &GivenTables,
@@ -118,9 +123,10 @@ fn exact_above(
     Ok(total)
 }
 
-/// Writes the first order of the fewest nodes to `order`, top first, its level counts to `levels`
-/// and its size to `total`. A call that is refused writes nothing. Returns 0, or the status of the
-/// refusal: 2 if a number or a length doesn't fit, 4 if memory is refused.
+/// Writes the first order of the fewest nodes of the packed truth tables `tables` to `order`, top
+/// first, its level counts to `levels` and its size to `total`. Returns 0. A refused call writes
+/// nothing and returns 2 if `inputs` or `outputs` isn't from 1 to 16 or the length of `tables`,
+/// `order` or `levels` doesn't match them, 4 if memory is refused.
 #[unsafe(no_mangle)]
 pub extern "C" fn minorder_exact_with_lengths(
     alloc: Global,
@@ -149,10 +155,11 @@ pub extern "C" fn minorder_exact_with_lengths(
     }
 }
 
-/// Writes the first order of the fewest nodes among those that keep the pairs `above` to `order`,
-/// top first, its level counts to `levels` and its size to `total`. A call that is refused writes
-/// nothing. Returns 0, or the status of the refusal: 2 if a number or a length doesn't fit, 4 if
-/// memory is refused, 8 if no order keeps the pairs or one of them has another variable.
+/// Writes the first order of the fewest nodes of the packed truth tables `tables`, among the orders
+/// that keep the pairs `above`, to `order`, top first, its level counts to `levels` and its size to
+/// `total`. Returns 0. A refused call writes nothing and returns 2 if `inputs` or `outputs` isn't
+/// from 1 to 16 or the length of `tables`, `order` or `levels` doesn't match them, 4 if memory is
+/// refused, 8 if no order of the inputs keeps the pairs.
 #[unsafe(no_mangle)]
 pub extern "C" fn minorder_exact_above_with_lengths(
     alloc: Global,

@@ -10,9 +10,11 @@ use crate::arguments::{GivenTables, arguments_of};
 use crate::status::Refusal;
 use std::alloc::Global;
 
-/// The level counts, top first, under `order` of the truth tables that a call is given. Refused if
-/// `given` has no truth tables (see `are_tables`), if `order` is no order of the inputs, or if
-/// `counts`, how many level counts the caller has room for, isn't the number of inputs.
+/// The level counts, top first, under `order` of the truth tables `given`. Err is `Shape` if
+/// `given` does not have exactly the words of 1 to 16 truth tables of 1 to 16 inputs, or if the
+/// length of `order`, or `counts`, which is that of a slice for level counts, isn't the number of
+/// inputs. Otherwise it is `Order` if `order` doesn't have each input exactly once, or
+/// `OutOfMemory`.
 fn level_counts_of(
     alloc: Global,
     given: &GivenTables,
@@ -33,9 +35,10 @@ fn level_counts_of(
     Ok(levels)
 }
 
-/// Writes the level counts under `order` to `levels`, top first. A call that is refused writes
-/// nothing. Returns 0, or the status of the refusal: 2 if a number or a length doesn't fit, 4 if
-/// memory is refused, 5 if `order` is no order of the inputs.
+/// Writes the level counts of the packed truth tables `tables` under `order` to `levels`, top
+/// first. Returns 0. A refused call writes nothing and returns 2 if `inputs` or `outputs` isn't
+/// from 1 to 16 or the length of `tables`, `order` or `levels` doesn't match them, 4 if memory is
+/// refused, 5 if `order` is no order of the inputs.
 #[unsafe(no_mangle)]
 pub extern "C" fn minorder_levels_with_lengths(
     alloc: Global,

@@ -35,9 +35,9 @@ fn is_length(length: usize, many: usize, size: usize) -> bool
     }
 }
 
-/// Whether a call is given the truth tables of `many` problems, and both `places`, its room for the
-/// variables of orders, and `counts`, its room for level counts, are `many` times the number of
-/// inputs.
+/// Whether `given` has 1 to 16 inputs, 1 to 16 outputs, and exactly the words of the packed truth
+/// tables of `many` problems, and both `places`, the length of a slice for orders, and `counts`,
+/// that of a slice for level counts, are `many` times the number of inputs.
 fn is_shape(given: &GivenTables, places: usize, counts: usize, many: usize) -> bool
     ensures { IsTrue result ↔ HasManyShape given.now places counts many }
 {
@@ -51,8 +51,9 @@ fn is_shape(given: &GivenTables, places: usize, counts: usize, many: usize) -> b
 }
 
 /// Appends the first order of the fewest nodes of one problem, its level counts and its size to
-/// `answers`. `workspace` is working memory for small problems. Requires that `given` has the truth
-/// tables of this one problem. If memory is refused, `answers` may have got a part of these.
+/// `answers`. If memory is refused, only a part of these may be appended. What `workspace`, working
+/// memory, holds before doesn't matter. Requires `given` to have exactly the words of the problem's
+/// 1 to 16 truth tables of 1 to 16 inputs.
 fn put(
     alloc: Global,
     given: &GivenTables,
@@ -79,7 +80,8 @@ fn put(
 }
 
 /// The first order of the fewest nodes of each of `many` problems, with its level counts and its
-/// size. The words of `given` are their truth tables, one problem after the other.
+/// size. Requires `given` to have exactly the words of their packed truth tables, one problem after
+/// the other, with 1 to 16 inputs and 1 to 16 outputs each.
 fn optima_of(alloc: Global, given: &GivenTables, many: usize) -> Result<Answers, AllocError>
     requires { HasManyShape given.now (many * given.now.inputs) (many * given.now.inputs) many }
     ensures optima { IfOk result
@@ -108,11 +110,11 @@ fn optima_of(alloc: Global, given: &GivenTables, many: usize) -> Result<Answers,
     Ok(answers)
 }
 
-/// Writes for each of many problems the first order of the fewest nodes to `orders`, top first, its
-/// level counts to `levels` and its size to `totals`, whose length is the number of problems. The
-/// truth tables stand one problem behind the other, and so do the answers. A call that is refused
-/// writes nothing. Returns 0, or the status of the refusal: 2 if a number or a length doesn't fit,
-/// 4 if memory is refused.
+/// Writes the first order of the fewest nodes of each problem to `orders`, top first, its level
+/// counts to `levels` and its size to `totals`, whose length is the number of problems. The packed
+/// truth tables `tables`, with `inputs` inputs and `outputs` outputs a problem, and the answers
+/// stand one problem after the other. Returns 0. A refused call writes nothing and returns 2 if
+/// these numbers aren't from 1 to 16 or a slice's length doesn't match, 4 if memory is refused.
 #[unsafe(no_mangle)]
 pub extern "C" fn minorder_exact_many_with_lengths(
     alloc: Global,

@@ -49,6 +49,7 @@ impl From<AllocError> for Unread {
 
     ghost from_gives = { λ _ unread. unread ≡ OutOfMemory };
 
+    /// Turns a refused allocation into `OutOfMemory`.
     fn from(_: AllocError) -> Unread {
         Unread::OutOfMemory
     }
@@ -71,8 +72,7 @@ struct PlaForC {
     words: Vec<u64>,
 }
 
-/// The number in C of a line's fault: 1 to 14, in the order of the words of `minorder_fault_text`
-/// in include/minorder.h.
+/// The number in C of a line's fault: 1 to 14, in the order in which `LineFault` lists them.
 fn kind_of(fault: LineFault) -> u32
     ensures { result ≡ fault_kind fault }
 {
@@ -94,7 +94,8 @@ fn kind_of(fault: LineFault) -> u32
     }
 }
 
-/// The cover that a text states, or why the text isn't read.
+/// The cover of the PLA file with the text `text`. Err is `Fault` with the fault by which the text
+/// is no PLA file, or `OutOfMemory`.
 fn cover_of(alloc: Global, text: &[u8]) -> Result<Cover, Unread>
     ensures within { OnOk result (length text.now ≤ longest) }
     ensures read { IfOk result (λ cover. Reads text.now cover) }
@@ -116,9 +117,9 @@ fn cover_of(alloc: Global, text: &[u8]) -> Result<Cover, Unread>
     }
 }
 
-/// Where in `text` the names of the inputs, or of the outputs, stand; `names` says which. The list
-/// is filled up to 16 places with places of length 0, and has only these if the text lists no
-/// names. Requires that `cover` is what the text states.
+/// Where the names of the inputs or of the outputs, as `names` says, stand in `text`. The list has
+/// 16 entries: those past the last name have length 0, and so have all if the text lists no names.
+/// Requires that `cover` is what the text states.
 fn names_of(
     alloc: Global,
     text: &[u8],
@@ -141,8 +142,8 @@ fn names_of(
     Ok(places)
 }
 
-/// The numbers of inputs and outputs, the names and the truth tables that a text states, or why the
-/// text isn't read.
+/// The numbers of inputs and outputs, the names and the truth tables of the PLA file with the text
+/// `text`. Err is `Fault` with the fault by which the text is no PLA file, or `OutOfMemory`.
 fn pla_of(alloc: Global, text: &[u8]) -> Result<PlaForC, Unread>
     ensures read { IfOk result (λ p. IsReadWith text.now p.inputs p.outputs p.input_names.items
         p.output_names.items (λ Is. Is p.words.items)) }
@@ -164,12 +165,11 @@ fn pla_of(alloc: Global, text: &[u8]) -> Result<PlaForC, Unread>
     })
 }
 
-/// Reads the text of a PLA file, and writes its numbers of inputs and outputs, where their names
-/// stand in the text, and the truth tables, to the front of `tables`. Returns 0 if all is written.
-/// If `tables` is too short, all but the truth tables is written, and `SHORT_ROOM` returned. Of a
-/// text that is no PLA file only the first fault is written, and `BAD_PLA` returned. A call that is
-/// refused otherwise writes nothing. It returns 2 unless `input_names` and `output_names` have 16
-/// places each, or 4 if memory is refused.
+/// Reads the text of a PLA file. Writes its numbers of inputs and outputs, where their names stand
+/// in the text, and the packed truth tables to the front of `tables`. Returns 0 if all is written.
+/// If `tables` is too short, writes all but the truth tables and returns 7. If the text is no PLA
+/// file, writes only its first fault, to `fault`, and returns 9. Writes nothing if it returns 2,
+/// because `input_names` or `output_names` hasn't 16 places, or 4, for refused memory.
 #[unsafe(no_mangle)]
 pub extern "C" fn minorder_read_pla_with_lengths(
     alloc: Global,

@@ -6,7 +6,7 @@ ghost use Rattle.std.specs.Prelude.{◌≡◌, ◌≤◌, ◌++◌, drop, length
 /// in C.
 pub(crate) const SHORT_ROOM: u32 = 7;
 
-/// Copies `items` to the front of `buffer`; the rest of the buffer stays.
+/// Copies `items` to the front of `buffer`, which has to have room for them. The rest of it stays.
 pub(crate) fn put_front<T: Copy>(buffer: &mut [T], items: &[T])
     requires { length items.now ≤ length buffer.old }
     ensures { buffer.new ≡ items.now ++ drop (length items.now) buffer.old }

@@ -26,10 +26,11 @@ fn levels_of(alloc: Global, sifted: &Sifted) -> Result<Vec<u32>, AllocError>
     counts[..sifted.order().len()].to_vec(alloc)
 }
 
-/// The order after one pass of sifting from `order`, with its level counts and its size. Refused if
-/// `given` has no truth tables (see `are_tables`), if `order` is no order of the inputs, if
-/// `counts`, the caller's room for level counts, isn't the number of inputs, or if memory is
-/// refused.
+/// The order after one pass of sifting from `order`, with its level counts and its size. Err is
+/// `Shape` if `given` does not have exactly the words of 1 to 16 truth tables of 1 to 16 inputs, or
+/// if the length of `order`, or `counts`, which is that of a slice for level counts, isn't the
+/// number of inputs. Otherwise it is `Order` if `order` doesn't have each input exactly once, or
+/// `OutOfMemory`.
 fn sifted_order(
     alloc: Global,
     given: &GivenTables,
@@ -55,10 +56,11 @@ fn sifted_order(
     })
 }
 
-/// Replaces `order` by the order after one pass of sifting from it, and writes that order's level
-/// counts to `levels`, top first, and its size to `total`. A call that is refused writes nothing.
-/// Returns 0, or the status of the refusal: 2 if a number or a length doesn't fit, 4 if memory is
-/// refused, 5 if `order` is no order of the inputs.
+/// Replaces `order` by the order after one pass of sifting from it, for the packed truth tables
+/// `tables`, and writes the new level counts to `levels`, top first, and the new size to `total`.
+/// Returns 0. A refused call writes nothing and returns 2 if `inputs` or `outputs` isn't from 1 to
+/// 16 or the length of `tables`, `order` or `levels` doesn't match them, 4 if memory is refused, 5
+/// if `order` is no order of the inputs.
 #[unsafe(no_mangle)]
 pub extern "C" fn minorder_sift_with_lengths(
     alloc: Global,

@@ -12,7 +12,8 @@ use std::alloc::{AllocError, Global};
 use truth_table::{Tables, reduced_diagram};
 
 /// The order after one pass of sifting from `start`, which puts each variable once at the uppermost
-/// place of least size that keeps the pairs. Requires that `start` keeps them.
+/// place of least size that keeps `pairs`. Requires `start` and `pairs` to be of the tables'
+/// variables, and `start` to keep the pairs.
 pub(crate) fn sifted_from(
     alloc: Global,
     tables: &Tables,
@@ -35,8 +36,8 @@ pub(crate) fn sifted_from(
     Ok(sifted)
 }
 
-/// An order that keeps the pairs, whose size bounds the search. It is found by sifting from the
-/// lexicographically first of the orders that keep the pairs.
+/// An order that keeps `pairs`, whose size bounds the search. It is found by sifting from the
+/// lexicographically first order that keeps them. Requires `pairs` to be of the tables' variables.
 pub(crate) fn bound_of(alloc: Global, tables: &Tables, pairs: Pairs) -> Result<Sifted, AllocError>
     requires { pairs.inputs ≡ tables.now.inputs }
     ensures problem { IfOk result (λ s. s.problem ≡ tables.now) }

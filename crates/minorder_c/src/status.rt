@@ -24,7 +24,9 @@ pub(crate) enum Refusal {
 }
 
 impl Refusal {
-    /// The number that a refused call returns, as include/minorder.h names it.
+    /// The status that a refused call returns: 2 for a wrong number or length, 3 for a text that is
+    /// no certificate, 4 for refused memory, 5 for a list that is no order, 8 for pairs that no
+    /// order keeps.
     pub fn status(self) -> u32
         ensures { result ≡ status_of self }
     {
@@ -41,6 +43,7 @@ impl Refusal {
 impl From<AllocError> for Refusal {
     ghost from_gives = { λ _ refusal. refusal ≡ OutOfMemory };
 
+    /// Turns a refused allocation into `OutOfMemory`.
     fn from(_: AllocError) -> Refusal {
         Refusal::OutOfMemory
     }

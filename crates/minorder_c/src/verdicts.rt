@@ -24,8 +24,8 @@ pub(crate) struct ReturnedVerdict {
     pub variable: u32,
 }
 
-/// The verdict in C whose `reason` is given, with 0 as its mask and its variable. 0 says that the
-/// certificate is good, and 1 to 7 are the reasons without an edge.
+/// The verdict in C with this `reason`, and 0 as its mask and its variable. `reason` is 0 if the
+/// certificate is good, and 1 to 7 for a reason other than a failing edge.
 fn plain(reason: u32) -> ReturnedVerdict
     ensures { result ≡ record { reason = reason; mask = 0; variable = 0 } }
 {
@@ -36,7 +36,10 @@ fn plain(reason: u32) -> ReturnedVerdict
     }
 }
 
-/// The verdict in C for a verdict of the checker.
+/// The verdict in C for a verdict of the checker. Its reason is 0 if the certificate is good, else
+/// 1 for `Shape`, 2 `Order`, 3 `Pairs`, 4 `Levels`, 5 `Total`, 6 `Start`, 7 `CellTooBig`, 8 `Edge`.
+/// For `Edge` it has the mask of the set from which the failing edge leads and the variable that
+/// the edge adds, else 0 for both.
 pub(crate) fn verdict_for_c(verdict: Verdict) -> ReturnedVerdict
     ensures { result ≡ returned_verdict verdict }
 {
@@ -57,7 +60,7 @@ pub(crate) fn verdict_for_c(verdict: Verdict) -> ReturnedVerdict
     }
 }
 
-/// The certificate that `text` is. Refused if it is none, or if memory is refused.
+/// The certificate that `text` is. Err is `Certificate` if it is none, or `OutOfMemory`.
 fn certificate_of(alloc: Global, text: &[u8]) -> Result<Certificate, Refusal>
     ensures spelled { IfOk result (λ cert. text.now ≡ spelling cert) }
     ensures refused { IfErr result (RefusesText (Unit {0}) text.now) }
@@ -77,9 +80,9 @@ pub(crate) struct Judgement {
     pub(crate) verdict: Verdict,
 }
 
-/// The certificate that `text` is, and the verdict on it for the truth tables that a call is given.
-/// Refused if `given` has no truth tables (see `are_tables`), if `text` is no certificate, or if
-/// memory is refused.
+/// The certificate that `text` is, and the verdict on it for the truth tables `given`. Err is
+/// `Shape` if `given` does not have exactly the words of 1 to 16 truth tables of 1 to 16 inputs.
+/// Otherwise it is `Certificate` if `text` is no certificate, or `OutOfMemory`.
 pub(crate) fn judgement_on(
     alloc: Global,
     given: &GivenTables,
@@ -100,9 +103,10 @@ pub(crate) fn judgement_on(
     }
 }
 
-/// Writes the verdict on `certificate`, a text, for the functions of `tables` to `verdict`. A call
-/// that is refused writes nothing. Returns 0 whatever the verdict, or the status of the refusal: 2
-/// if a number or a length doesn't fit, 3 if the text is no certificate, 4 if memory is refused.
+/// Writes the verdict on the text `certificate`, for the packed truth tables `tables`, to
+/// `verdict`. Returns 0, whatever the verdict. A refused call writes nothing and returns 2 if
+/// `inputs` or `outputs` isn't from 1 to 16 or the length of `tables` doesn't match them, 3 if the
+/// text is no certificate, 4 if memory is refused.
 #[unsafe(no_mangle)]
 pub extern "C" fn minorder_check(
     alloc: Global,

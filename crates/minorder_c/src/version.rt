@@ -2,7 +2,7 @@
 
 ghost use Rattle.std.specs.Prelude.{◌≡◌};
 
-/// The version as one number: 10,000 times its first number, 100 times the second, and the third.
+/// The version of the library, whose three numbers a.b.c give 10,000 a + 100 b + c.
 #[unsafe(no_mangle)]
 pub extern "C" fn minorder_version() -> u32
     ensures { result ≡ 10000 }

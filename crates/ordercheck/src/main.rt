@@ -11,8 +11,8 @@ use std::rt::Files;
 use std::thread::Threads;
 
 /// Runs ordercheck with the words of the command line, and returns its exit status. The verdict
-/// goes to `out`, messages to `err`. Err has the exit status if the program can't run: 2 if a word
-/// of the command line isn't UTF-8, 4 if memory is refused.
+/// goes to `out`, messages to `err`. Err is the exit status if ordercheck can't be called: 2 if a
+/// word of the command line isn't UTF-8, 4 if memory is refused.
 fn ordercheck_status<
     R: Env + Files + AllocGlobal + Threads + Sync,
     W: CountedWrite,
@@ -23,7 +23,7 @@ fn ordercheck_status<
     Ok(ordercheck(rt, &words, out, err))
 }
 
-/// Runs the program on the standard streams and ends with its exit status.
+/// Runs ordercheck with standard output and standard error, and ends with its exit status.
 fn main(rt: HostRuntime) -> ExitCode {
     let mut out = Counting::new(rt.stdout());
     let mut err = Counting::new(rt.stderr());

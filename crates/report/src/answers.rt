@@ -20,8 +20,9 @@ use std::alloc::{AllocError, Global};
 use std::thread::Threads;
 use truth_table::Tables;
 
-/// The pairs that an order of `n` variables has to keep: those that the plan lists, or none if it
-/// has no list. Err has the reason for which the list is refused.
+/// The pairs that an order of `n` variables has to keep: those that `plan` lists, or none if it has
+/// no list. Err if the list is refused: it isn't of the form `2,0:1,0`, or it has a variable that
+/// isn't below `n`, or no order keeps its pairs. Requires `n` to be from 1 to 16.
 pub(crate) fn pairs_of<'a>(plan: &RunPlan<'a>, n: u8) -> Result<Pairs, PairsFault>
     requires some { 1 ≤ n }
     requires few { n ≤ 16 }
@@ -33,7 +34,9 @@ pub(crate) fn pairs_of<'a>(plan: &RunPlan<'a>, n: u8) -> Result<Pairs, PairsFaul
     }
 }
 
-/// The text of the report on what a search found.
+/// The text of the report on `found`: the order of the fewest nodes with its level counts and size,
+/// the sifted order and its size, and the size under the file order. `instance` has the names of
+/// the variables. Requires `found` to be the result of the search for `instance`.
 fn report_of(alloc: Global, instance: &SearchInput<'_>, found: &Found) -> Result<String, AllocError>
     requires { IsFound instance.now found.now }
     ensures { IfOk result
@@ -54,8 +57,8 @@ fn report_of(alloc: Global, instance: &SearchInput<'_>, found: &Found) -> Result
     Ok(text)
 }
 
-/// The text of the certificate of the best order; None if `best` has no cells, because none is
-/// wanted.
+/// The text of the certificate that the order of `best` has the fewest nodes among those that keep
+/// `pairs`, or None if `best` has no cells. Requires `best` to be found for `problem` and `pairs`.
 fn certificate_of(
     alloc: Global,
     problem: &Problem,
@@ -75,8 +78,10 @@ fn certificate_of(
     Ok(Some(text))
 }
 
-/// Searches for the first order of the fewest nodes of the cover's functions among those that keep
-/// `pairs`. Returns the report on it, and its certificate if `certify` is true, else None.
+/// Searches for the first order of the fewest nodes of the cover's functions, among the orders that
+/// keep `pairs`, with `workers` workers, whose threads `rt` starts. Returns the report on this
+/// order, and its certificate, which is None unless `certify` is true. Requires `pairs` to be of
+/// the cover's inputs.
 pub(crate) fn answer_texts<R: Threads + Sync>(
     rt: &R,
     alloc: Global,

@@ -19,7 +19,8 @@ pub(crate) struct Best {
 }
 
 impl Best {
-    /// The order of `solution`, with the cells that its certificate lists.
+    /// The order of `solution` with its level counts and size, and the cells that its certificate
+    /// lists.
     fn of(solution: Solution) -> Best
         ensures optimum { result.optimum ≡ solution.optimum }
         ensures cells { result.cells ≡ Some solution.cells }
@@ -31,10 +32,10 @@ impl Best {
     }
 }
 
-/// Finds the first order of the fewest nodes among those that keep the pairs of `bound`, a sifted
-/// order whose size bounds the search. If `certify` is true the result has the cells that the
-/// order's certificate lists; without them fewer sets are searched. Requires that `start` was
-/// prepared for the problem and the pairs of `bound`.
+/// Finds, for the functions and the pairs of `bound`, the first order of the fewest nodes among
+/// those that keep the pairs. `bound` is a sifted order, whose size bounds the search. The result
+/// also has the cells that the order's certificate lists if `certify` is true, else None for the
+/// cells. Requires that `start` was prepared for these functions and pairs.
 pub(crate) fn best_order<R: Threads + Sync>(
     rt: &R,
     alloc: Global,
@@ -57,9 +58,10 @@ pub(crate) fn best_order<R: Threads + Sync>(
     })
 }
 
-/// Finds the first order of the fewest nodes among those that keep `pairs`, and if `certify` is
-/// true the cells that its certificate lists. The calling thread searches alone: this is meant for
-/// small truth tables.
+/// Finds the first order of the fewest nodes among those that keep `pairs`, by a search on the
+/// calling thread that is fast for small truth tables, but allows any. The result also has the
+/// cells that the order's certificate lists if `certify` is true, else None for the cells. Requires
+/// `pairs` to be of the problem's variables.
 pub(crate) fn small_best(
     alloc: Global,
     problem: &Problem,

@@ -17,7 +17,8 @@ use std::alloc::{AllocError, Global};
 use std::thread::Threads;
 use truth_table::reduced_diagram;
 
-/// The level counts of a diagram, top first.
+/// The level counts of a diagram, top first: one for each variable of its order. Requires at most
+/// 16 variables.
 fn levels_of(alloc: Global, diagram: &Diagram) -> Result<Vec<u32>, AllocError>
     requires { length diagram.now.order ≤ 16 }
     ensures long { IfOk result (λ v. length v.items ≡ length diagram.now.order) }
@@ -30,8 +31,9 @@ fn levels_of(alloc: Global, diagram: &Diagram) -> Result<Vec<u32>, AllocError>
     counts[..diagram.order().len()].to_vec(alloc)
 }
 
-/// The reduced diagram of the cover's functions under `order`. Small truth tables are reduced
-/// directly; else workers build the diagram in a store of nodes.
+/// The reduced diagram of the cover's functions under `order`, an order of the cover's inputs. It
+/// is made level by level from the truth tables if there are at most 10 inputs and the tables have
+/// at most 8,192 entries together (`is_small`), else by workers in a store of nodes.
 fn diagram_under<R: Threads + Sync>(
     rt: &R,
     alloc: Global,
@@ -58,8 +60,8 @@ fn diagram_under<R: Threads + Sync>(
     )
 }
 
-/// The diagram of the cover's functions under the starting order, the first order that keeps the
-/// pairs.
+/// The reduced diagram of the cover's functions under the starting order: the lexicographically
+/// first of the orders that keep the pairs of `instance`.
 pub(crate) fn starting_diagram<R: Threads + Sync>(
     rt: &R,
     alloc: Global,
@@ -72,9 +74,9 @@ pub(crate) fn starting_diagram<R: Threads + Sync>(
     Ok(diagram)
 }
 
-/// The level counts of the cover's functions under the file order, top first. Requires that
-/// `starting` is a diagram of the cover's functions. If its order is the file order, the level
-/// counts are read off it; else another diagram is built.
+/// The level counts of the cover's functions under the file order, top first. They are read off
+/// `starting` if that diagram's order is the file order, else off a new diagram. Requires
+/// `starting` to be the reduced diagram of the cover's functions under its order.
 pub(crate) fn file_order_levels_of<R: Threads + Sync>(
     rt: &R,
     alloc: Global,

@@ -15,9 +15,9 @@ use std::fs;
 use std::rt::Files;
 use std::thread::Threads;
 
-/// Opens the PLA file, creates the certificate's file if one is wanted, and carries out the plan of
-/// `line`, whose report goes to `out`. With `--count` no certificate is made. Returns how the run
-/// ended: `Fault::Device` if a file can't be opened or created.
+/// Opens the PLA file of `line`, creates the certificate's file if `line` names one and has no
+/// `--count`, and carries out the plan of `line`, whose report goes to `out`. Returns how the run
+/// ended, which is `Refused` for `Fault::Device` if a file can't be opened or created.
 fn run_on_files<'a, R: Files + AllocGlobal + Threads + Sync, W: CountedWrite>(
     rt: &R,
     line: &Line<'a>,
@@ -43,11 +43,11 @@ fn run_on_files<'a, R: Files + AllocGlobal + Threads + Sync, W: CountedWrite>(
     run(rt, rt.alloc(), &line.plan, &mut file, out, &mut cert)
 }
 
-/// The program minorder. `words` are those after its name; the report goes to `out`, messages to
-/// `err`. Returns the exit status.
-///
-/// The words are `[--workers W] [--cert OUT] [--count] [--above LIST] FILE`. FILE is opened, then
-/// OUT is made, empty, and then FILE is read; if a run is refused OUT stays as it was made.
+/// The program minorder. `words`, those after its name, are `[--workers W] [--cert OUT] [--count]
+/// [--above LIST] FILE`. The report goes to `out`, messages to `err`. Returns the exit status: 0
+/// done, or help was requested; 2 words refused; 3 FILE refused; 4 out of memory; 5 a device
+/// failed; 8 pairs refused. OUT is created, empty, after FILE is opened and before it is read, but
+/// not with `--count`.
 pub fn minorder<'a, R: Files + AllocGlobal + Threads + Sync, W: CountedWrite, E: CountedWrite>(
     rt: &R,
     words: &'a [&'a str],

@@ -13,9 +13,11 @@ use report_texts::{RunTexts, counts_of, write_texts};
 use std::alloc::Global;
 use std::thread::Threads;
 
-/// The texts that `plan` asks for: the counts, or the report on the best order, with the
-/// certificate if `certify` is true. Err has the fault of the pairs that the plan lists, or that
-/// memory was refused.
+/// The texts of a run on `cover`. With `plan.count` there is only the report of the level counts
+/// under the file order, and the plan's pairs are not looked at. Otherwise there are the report on
+/// the first order of the fewest nodes among those that keep these pairs and, if `certify` is true,
+/// this order's certificate; Err is `Pairs` with the fault of the plan's list of pairs. Err is
+/// `OutOfMemory` if memory is refused.
 fn planned_texts<'a, R: Threads + Sync>(
     rt: &R,
     alloc: Global,
@@ -46,14 +48,11 @@ fn planned_texts<'a, R: Threads + Sync>(
     }
 }
 
-/// Reads a PLA file and writes the texts that `plan` asks for. With `plan.count` these are the
-/// level counts and the size under the file order; else the report on the first order of the fewest
-/// nodes that keeps the pairs, beside the sifted one, and its certificate if `cert` is a writer.
-/// Returns how the run ended.
-///
-/// The file is read to its end before anything is decided, and both texts are made whole before the
-/// first byte is written. The certificate goes out first. A count leaves the certificate's writer
-/// alone.
+/// Reads the PLA file `file` to its end, makes all texts of the run, then writes them, and returns
+/// how the run ended. With `plan.count` the text is a report of the level counts and the size under
+/// the file order, which goes to `out`. Otherwise the texts are the certificate of the first order
+/// of the fewest nodes among those that keep the plan's pairs, which goes to `cert` unless that is
+/// None, and then a report on this order and the sifted order, which goes to `out`.
 pub fn run<'a, R: Threads + Sync, F: CountedRead, W: CountedWrite, C: CountedWrite>(
     rt: &R,
     alloc: Global,

@@ -1,6 +1,6 @@
 //! The search for the first order of the fewest nodes of a cover's functions: sifting finds the
 //! bound of the search, while workers prepare it. Sifting starts from the diagram under the
-//! starting order, the first order that keeps the pairs.
+//! starting order, the lexicographically first that keeps the pairs.
 
 ghost use Rattle.std.specs.Prelude.{◌≡◌, IfOk, sum};
 ghost use Rattle.std.specs.Thread.{IsSync};
@@ -28,12 +28,13 @@ pub(crate) struct Sifting {
     pub(crate) sifted: Order,
     /// The number of nodes under the order after one pass.
     pub(crate) size: u32,
-    /// The order that sifting on found, whose size bounds the search.
+    /// The order that further sifting found, whose size bounds the search.
     pub(crate) bound: Sifted,
 }
 
-/// Sifts the diagram of `manager` by the threads of `workers` workers: finds the order after one
-/// pass, and from there the order whose size bounds the search.
+/// Sifts the diagram of `manager` with the threads of `workers` workers. Returns the order after
+/// one pass, the number of nodes under it, and the order after further sifting, whose size bounds
+/// the search.
 fn sift<R: Threads + Sync>(
     rt: &R,
     alloc: Global,
@@ -53,8 +54,9 @@ fn sift<R: Threads + Sync>(
     })
 }
 
-/// Makes the manager by which `starting` is sifted among the orders that keep the pairs. Requires
-/// that `starting` is the diagram under the starting order.
+/// Makes the manager by which `starting` is sifted among the orders that keep the pairs of
+/// `instance`. Requires that `starting` is the cover's reduced diagram under the lexicographically
+/// first of these orders.
 fn manager_of(
     alloc: Global,
     instance: &SearchInput<'_>,
@@ -69,8 +71,10 @@ fn manager_of(
     Ok(manager)
 }
 
-/// Prepares the search. `size` is the number of nodes under the starting order; it serves as the
-/// bound, cut to 2^20, because sifting has found none yet.
+/// Prepares what the search for `instance` starts with, before sifting has found the bound of the
+/// search: takes the lesser of 2^20 and `size` for the bound. `size` is the number of nodes under
+/// the lexicographically first order that keeps the pairs of `instance`. Requires that `renaming`
+/// was made for the truth tables of `instance`.
 fn prepare_below<'a, R: Threads + Sync>(
     rt: &R,
     alloc: Global,
@@ -94,9 +98,10 @@ fn prepare_below<'a, R: Threads + Sync>(
     Ok(start)
 }
 
-/// Sifts the diagram of `manager` and prepares the search. Returns what sifting found, and what the
-/// search begins with. Both are done at the same time, or one after the other if only one worker
-/// would be busy.
+/// Sifts the diagram of `manager`, and computes what the search for `instance` starts with. Returns
+/// both results. They are computed at the same time if `instance.busy_workers` gives more than one
+/// worker. Requires that `manager` has the reduced diagram under the lexicographically first order
+/// that keeps the instance's pairs, and `renaming` was made for its truth tables.
 fn sift_and_prepare<'a, R: Threads + Sync>(
     rt: &R,
     alloc: Global,
@@ -133,7 +138,8 @@ fn sift_and_prepare<'a, R: Threads + Sync>(
 }
 
 /// The number of nodes of the cover's functions under the file order. Requires that `starting` is
-/// the diagram under the starting order.
+/// their reduced diagram under the lexicographically first order that keeps the pairs of
+/// `instance`.
 fn file_size_of<R: Threads + Sync>(
     rt: &R,
     alloc: Global,
@@ -150,7 +156,7 @@ fn file_size_of<R: Threads + Sync>(
 /// The result of a search.
 #[derive(Drop)]
 pub(crate) struct Found {
-    /// The first order of the fewest nodes, with the cells of its certificate if these are wanted.
+    /// The first order of the fewest nodes, with the cells of its certificate if the run makes one.
     pub best: Best,
     /// The order after one pass of sifting.
     pub sifted: Order,
@@ -160,8 +166,11 @@ pub(crate) struct Found {
     pub file_size: u64,
 }
 
-/// Sifts and searches by the calling thread alone, for small truth tables. `file_size` is the
-/// number of nodes under the file order, and `manager` has the diagram under the starting order.
+/// Finds the sifted order and the first order of the fewest nodes among those that keep the pairs
+/// of `instance`, by a search on the calling thread that is fast for small truth tables, but allows
+/// any. Requires that `manager` has the reduced diagram under the lexicographically first of these
+/// orders, and that `file_size` is the number of nodes under the file order, which the result
+/// repeats.
 fn search_small(
     alloc: Global,
     instance: &SearchInput<'_>,
@@ -187,8 +196,9 @@ fn search_small(
     })
 }
 
-/// Searches for the first order of the fewest nodes among those that keep the pairs, with the cells
-/// of its certificate if these are wanted.
+/// Finds the first order of the fewest nodes among those that keep the pairs of `instance`, the
+/// order after one pass of sifting with its size, and the size under the file order. If
+/// `instance.certify` is true, the result also has the cells of the first order's certificate.
 pub(crate) fn search<R: Threads + Sync>(
     rt: &R,
     alloc: Global,

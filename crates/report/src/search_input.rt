@@ -16,7 +16,7 @@ pub(crate) struct SearchInput<'a> {
     pub tables: &'a Tables,
     /// The pairs that the order has to keep.
     pub pairs: &'a Pairs,
-    /// Whether a certificate is wanted.
+    /// Whether the run makes a certificate.
     pub certify: bool,
     /// How many workers the run may keep busy.
     pub workers: Workers,
@@ -28,8 +28,9 @@ pub(crate) struct SearchInput<'a> {
 const ENTRIES_WORTH_THREADS: usize = 1 << 14;
 
 impl SearchInput<'_> {
-    /// The workers for building diagrams and preparing the search: `self.workers`, or one if the
-    /// truth tables are too small for threads.
+    /// The workers that build diagrams and prepare the search: `self.workers`, or one if the truth
+    /// tables of all outputs together have fewer than `ENTRIES_WORTH_THREADS` entries, which is
+    /// 16,384.
     pub(crate) fn busy_workers(&self) -> Workers {
         let problem = self.tables.problem();
         let entries = usize::from(problem.outputs()) << problem.inputs();

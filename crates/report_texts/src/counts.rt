@@ -11,8 +11,8 @@ use std::alloc::{AllocError, Global};
 use std::thread::Threads;
 use truth_table::Tables;
 
-/// The level counts of a cover's functions under the file order, top first, directly from the truth
-/// tables.
+/// The level counts of a cover's functions under the file order, top first, counted in the truth
+/// tables. The threads of `rt` share the work of making these.
 fn file_order_counts<R: Threads + Sync>(
     rt: &R,
     alloc: Global,
@@ -28,8 +28,8 @@ fn file_order_counts<R: Threads + Sync>(
     Ok(counts)
 }
 
-/// The report of `--count`: the level counts and the number of nodes of the cover's diagram under
-/// the file order.
+/// The report of `--count` on a cover, in two lines: the level counts of its functions under the
+/// file order, top first, and their sum, the number of nodes.
 pub fn counts_of<R: Threads + Sync>(
     rt: &R,
     alloc: Global,

@@ -4,10 +4,11 @@ ghost use Rattle.command_line.specs.declared.line.RunPlan.{RunPlan};
 ghost use Rattle.report_texts.specs.Answers.{AskTheSame};
 ghost use Rattle.report_texts.specs.Runs.{LeaveTheSame};
 
-/// Let two plans differ in the number of workers alone. Then a cover has the same report by both,
-/// and the same text of its certificate. If runs by the two plans read the same file and succeed,
-/// both append the same bytes for the report, and the same for the certificate, whatever the
-/// schedule.
+/// Law: what minorder writes depends neither on the number of workers nor on the schedule. Let two
+/// plans (number of workers, `--count` or not, pairs to keep) differ in the number of workers
+/// alone. By both, a cover has the same report and the same certificate. Runs by both that read the
+/// same file and succeed append the same bytes to the report's writer, and the same to the
+/// certificate's.
 pub fn texts_are_determined()
     ensures { (plan other : RunPlan) → AskTheSame plan other → LeaveTheSame plan other }
 {}

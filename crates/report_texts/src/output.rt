@@ -17,8 +17,8 @@ pub struct RunTexts {
     pub certificate: Option<String>,
 }
 
-/// Writes `text`, that of a certificate, to the writer `cert`. Nothing is written if there is no
-/// text or no writer; a failed write may have written a part.
+/// Writes `text`, that of a certificate, to the writer `cert`, or nothing if either is None. Err if
+/// a write failed; then a part of the text may have been written.
 fn write_certificate<C: CountedWrite>(
     cert: &mut Option<C>,
     text: &Option<String>,
@@ -41,9 +41,9 @@ fn write_certificate<C: CountedWrite>(
     }
 }
 
-/// Writes the texts of a run: first the certificate to `cert`, if there are a certificate and a
-/// writer for it, and then the report to `out`. After a failure nothing more is written, and the
-/// outcome is that a device failed.
+/// Writes the texts of a run: first the certificate to `cert`, if the run has one and `cert` isn't
+/// None, and then the report to `out`. Returns `Done`, or once a write fails `Refused` for
+/// `Fault::Device`; then nothing more is written, but a part of the text may have been.
 pub fn write_texts<W: CountedWrite, C: CountedWrite>(
     texts: &RunTexts,
     out: &mut W,

@@ -14,7 +14,8 @@ use std::fmt::Write;
 /// of its inputs. They suffice for the fixed words and at most 51 numbers.
 const LONGEST: usize = 1024;
 
-/// Appends `numbers` to `text`, each after a space.
+/// Appends `numbers` to `text`, each after a space. If memory is refused, a part may have been
+/// appended.
 fn push_spaced(text: &mut String, numbers: &[u32]) -> Result<(), AllocError>
     ensures { OnOk result
         (string_bytes text.new ≡ string_bytes text.old ++ each_spaced numbers.now) }
@@ -25,7 +26,8 @@ fn push_spaced(text: &mut String, numbers: &[u32]) -> Result<(), AllocError>
     Ok(())
 }
 
-/// Appends `numbers` to `text`, with one space between each two.
+/// Appends `numbers` to `text`, with one space between each two. If memory is refused, a part may
+/// have been appended.
 fn push_numbers(text: &mut String, numbers: &[u32]) -> Result<(), AllocError>
     ensures { OnOk result (string_bytes text.new ≡ string_bytes text.old ++ spaced numbers.now) }
 {
@@ -37,7 +39,8 @@ fn push_numbers(text: &mut String, numbers: &[u32]) -> Result<(), AllocError>
     Ok(())
 }
 
-/// Appends the numbers of variables, each after a space.
+/// Appends `variables`, as numbers, to `text`, each after a space. If memory is refused, a part may
+/// have been appended.
 fn push_spaced_variables(text: &mut String, variables: &[VarIx]) -> Result<(), AllocError>
     ensures { OnOk result
         (string_bytes text.new ≡ string_bytes text.old ++ each_spaced variables.now) }
@@ -48,7 +51,8 @@ fn push_spaced_variables(text: &mut String, variables: &[VarIx]) -> Result<(), A
     Ok(())
 }
 
-/// Appends the numbers of variables with one space between each two.
+/// Appends `variables`, as numbers, to `text`, with one space between each two. If memory is
+/// refused, a part may have been appended.
 fn push_variables(text: &mut String, variables: &[VarIx]) -> Result<(), AllocError>
     ensures { OnOk result (string_bytes text.new ≡ string_bytes text.old ++ spaced variables.now) }
 {
@@ -60,7 +64,8 @@ fn push_variables(text: &mut String, variables: &[VarIx]) -> Result<(), AllocErr
     Ok(())
 }
 
-/// Appends the name of a variable. Entry x of `names` is the name of variable x.
+/// Appends to `text` the name of `variable`, the entry of `names` at this index. Requires `names`
+/// to have such an entry. If memory is refused, a part may have been appended.
 fn push_name(text: &mut String, names: &[String], variable: VarIx) -> Result<(), AllocError>
     requires { variable < length names.now }
     ensures { OnOk result
@@ -71,8 +76,9 @@ fn push_name(text: &mut String, names: &[String], variable: VarIx) -> Result<(),
     Ok(())
 }
 
-/// Appends the names of variables, each after a space. Entry x of `names` is the name of variable
-/// x.
+/// Appends to `text` the names of `variables`, each after a space. Entry x of `names` is the name
+/// of variable x. Requires a name for each of these variables. If memory is refused, a part may
+/// have been appended.
 fn push_spaced_names(
     text: &mut String,
     names: &[String],
@@ -90,8 +96,9 @@ fn push_spaced_names(
     Ok(())
 }
 
-/// Appends the names of variables with one space between each two. Entry x of `names` is the name
-/// of variable x.
+/// Appends to `text` the names of `variables`, with one space between each two. Entry x of `names`
+/// is the name of variable x. Requires a name for each of these variables. If memory is refused, a
+/// part may have been appended.
 fn push_names(text: &mut String, names: &[String], variables: &[VarIx]) -> Result<(), AllocError>
     requires { All (λ x. x < length names.now) variables.now }
     ensures { OnOk result
@@ -106,8 +113,9 @@ fn push_names(text: &mut String, names: &[String], variables: &[VarIx]) -> Resul
     Ok(())
 }
 
-/// Appends the two lines of an order: the numbers of its variables, and their names. Entry x of
-/// `names` is the name of variable x.
+/// Appends the two lines of an order to `text`: `order:` with the numbers of its variables, top
+/// first, and `names:` with their names. Entry x of `names` is the name of variable x. Requires a
+/// name for each of these variables. If memory is refused, a part may have been appended.
 fn push_order(text: &mut String, names: &[String], order: &[VarIx]) -> Result<(), AllocError>
     requires { All (λ x. x < length names.now) order.now }
     ensures { OnOk result
@@ -122,7 +130,8 @@ fn push_order(text: &mut String, names: &[String], order: &[VarIx]) -> Result<()
     Ok(())
 }
 
-/// Appends two lines: the level counts, top first, and their sum.
+/// Appends two lines to `text`: `levels:` with the level counts `levels`, top first, and `nodes:`
+/// with their sum. Requires at most 16 levels. If memory is refused, a part may have been appended.
 fn push_counts(text: &mut String, levels: &[u32]) -> Result<(), AllocError>
     requires { length levels.now ≤ 16 }
     ensures { OnOk result
@@ -152,8 +161,10 @@ pub struct Report<'a> {
     pub file_size: u64,
 }
 
-/// Appends three lines: the sifted order, the number of nodes under it, and the number of nodes
-/// under the file order.
+/// Appends three lines of `report` to `text`: `sifted order:` with the numbers of the sifted
+/// order's variables, top first, `sifted nodes:` with the number of nodes under it, and
+/// `file order nodes:` with the number of nodes under the file order. If memory is refused, a part
+/// may have been appended.
 fn push_sizes(text: &mut String, report: &Report<'_>) -> Result<(), AllocError>
     ensures { OnOk result
         (string_bytes text.new ≡ string_bytes text.old
@@ -174,7 +185,8 @@ fn push_sizes(text: &mut String, report: &Report<'_>) -> Result<(), AllocError>
     Ok(())
 }
 
-/// The two lines of the report of `--count`: the level counts, top first, and their sum.
+/// The two lines of the report of `--count`: the level counts `levels`, top first, and their sum.
+/// Requires at most 16 levels.
 pub(crate) fn count_text(alloc: Global, levels: &[u32]) -> Result<String, AllocError>
     requires { length levels.now ≤ 16 }
     ensures { IfOk result (λ text. string_bytes text ≡ counts_lines levels.now) }
@@ -184,7 +196,8 @@ pub(crate) fn count_text(alloc: Global, levels: &[u32]) -> Result<String, AllocE
     Ok(text)
 }
 
-/// The number of bytes that names take with a space after each.
+/// The number of bytes that `names` take with a space after each, or the greatest usize if there
+/// are more.
 fn names_room(names: &[String]) -> usize {
     let mut room: usize = 0;
     for name in names {
@@ -193,7 +206,9 @@ fn names_room(names: &[String]) -> usize {
     room
 }
 
-/// The seven lines of a report. Their storage is reserved before the first byte is made.
+/// The text of `report`, in seven lines: the order as numbers and as names, its level counts, its
+/// size, the sifted order, its size, and the size under the file order. Requires a name for each
+/// variable of the order, and at most 16 levels.
 pub fn report_text(alloc: Global, report: &Report<'_>) -> Result<String, AllocError>
     requires order { All (λ x. x < length report.now.names.now) report.now.order.now }
     requires levels { length report.now.levels.now ≤ 16 }

@@ -25,8 +25,9 @@ struct Seen {
     errors: Vec<u8>,
 }
 
-/// Calls the program that `line` begins with, with the words after it, and returns what the call
-/// did. An error if there is no such program.
+/// Calls minorder or ordercheck, whichever `line` begins with, with the line's other words, and
+/// returns its status and what it wrote. Single spaces separate words. An error if the line begins
+/// with another word.
 fn call<R: Files + AllocGlobal + Threads + Sync>(rt: &R, line: &str) -> Result<Seen> {
     let words: Vec<&str> = line.split(' ').collect(rt.alloc())?;
     let mut output = Counting::new(Vec::<u8>::new(rt.alloc()));
@@ -43,13 +44,15 @@ fn call<R: Files + AllocGlobal + Threads + Sync>(rt: &R, line: &str) -> Result<S
     })
 }
 
-/// Writes `bytes` to a new file. It is an error if there is a file with that name already.
+/// Writes `bytes` to a new file `name`. An error if there is a file with that name already, or it
+/// can't be written.
 fn put_file<R: Files>(rt: &R, name: &str, bytes: &[u8]) -> Result<()> {
     ensure!(!fs::exists(rt, name)?, "{name} is there");
     fs::write(rt, name, bytes).context(format_args!("putting {name} there"))
 }
 
-/// Writes the files that the case has before a call, each cut to `length` bytes if it is longer.
+/// Writes the files that are there before a call of `case`, each cut to `length` bytes if it is
+/// longer. An error if one of them exists already, or can't be written; those before it stay.
 fn put_files<R: Files>(rt: &R, case: &Case<'_>, length: usize) -> Result<()> {
     for text in case.texts.iter() {
         if let Place::File(name) = text.place {
@@ -59,7 +62,7 @@ fn put_files<R: Files>(rt: &R, case: &Case<'_>, length: usize) -> Result<()> {
     Ok(())
 }
 
-/// Removes all files that the case names, as far as they are there.
+/// Removes all files that `case` names, as far as they are there. Errors are ignored.
 fn remove_files<R: Files>(rt: &R, case: &Case<'_>) {
     for text in case.texts.iter() {
         if let Place::File(name) | Place::After(name) | Place::Absent(name) = text.place {
@@ -68,9 +71,9 @@ fn remove_files<R: Files>(rt: &R, case: &Case<'_>) {
     }
 }
 
-/// Whether `got`, which a call wrote to `stream`, is what the case says of this stream. If clap
-/// writes it that is any text but the empty one; else it is the case's text for the stream, or the
-/// empty text if the case has none.
+/// Whether `got`, which a call wrote to `stream`, is as the case says: the case's text for the
+/// stream, or empty if it has none. If the case says that clap, the parser of the command line,
+/// writes to the stream, any text is right but the empty one.
 fn agrees(case: &Case<'_>, stream: Place<'_>, got: &[u8]) -> bool {
     if case.by_clap == Some(stream) {
         return !got.is_empty();
@@ -81,7 +84,8 @@ fn agrees(case: &Case<'_>, stream: Place<'_>, got: &[u8]) -> bool {
     }
 }
 
-/// Whether there is a file `name`, and it has these bytes.
+/// Whether the file `name` has exactly these bytes. False if there is no such file or it can't be
+/// read.
 fn holds<R: Files + AllocGlobal>(rt: &R, name: &str, bytes: &[u8]) -> bool {
     match fs::read(rt, name) {
         Ok(held) => held.as_slice() == bytes,
@@ -89,9 +93,9 @@ fn holds<R: Files + AllocGlobal>(rt: &R, name: &str, bytes: &[u8]) -> bool {
     }
 }
 
-/// Whether each file that the case gives for after the call has its bytes, and each absent one is
-/// not there. Files put there before the call aren't compared. A file that can't be read is not as
-/// the case says; the error is that of a failed test for absence.
+/// Whether each file that `case` gives for after the call has its bytes, and each that it calls
+/// absent is not there. False if a file that it gives can't be read. An error if it can't be tested
+/// whether a file is absent.
 fn has_files<R: Files + AllocGlobal>(rt: &R, case: &Case<'_>) -> Result<bool> {
     for text in case.texts.iter() {
         let is_well = match text.place {
@@ -106,8 +110,9 @@ fn has_files<R: Files + AllocGlobal>(rt: &R, case: &Case<'_>) -> Result<bool> {
     Ok(true)
 }
 
-/// The name of the first part of `seen` that is not as the case says; None if all is as it says.
-/// Files are compared last.
+/// The name of the first part of `seen` that is not as `case` says: status, standard output,
+/// standard error, or else a file. None if all is as it says. An error if it can't be tested
+/// whether a file is absent.
 fn difference<R: Files + AllocGlobal>(
     rt: &R,
     case: &Case<'_>,
@@ -126,7 +131,8 @@ fn difference<R: Files + AllocGlobal>(
     })
 }
 
-/// Prints that the call `line` differs from its case in `part`, with all that was seen.
+/// Prints that the call `line` differs from `case` in `part`, with the status and the output of
+/// `seen`.
 fn print_difference<R: AllocGlobal + Print>(
     rt: &R,
     case: &Case<'_>,
@@ -143,8 +149,10 @@ fn print_difference<R: AllocGlobal + Print>(
     Ok(())
 }
 
-/// Makes the call `line` of the case, with the case's files cut to `length` bytes, adds it to
-/// `tally`, and prints a line if it does something else than the case says.
+/// Makes the call `line` of `case`, with the case's files cut to `length` bytes, and then removes
+/// the files. Adds the call to `tally`, and prints a line if the call does something else than the
+/// case says, which is no error. An error if the call can't be made or compared; then files may
+/// stay.
 fn carry_out_call<R: Files + AllocGlobal + Threads + Sync + Print>(
     rt: &R,
     case: &Case<'_>,
@@ -163,10 +171,10 @@ fn carry_out_call<R: Files + AllocGlobal + Threads + Sync + Print>(
     Ok(())
 }
 
-/// Makes each call of the case once for each length from the first to the last of `case.lengths`,
-/// with the case's files cut to so many bytes. Makes these files before a call and removes them
-/// after it. Adds the calls to `tally`, and prints a line for each that does something else than
-/// the case says, which is no error.
+/// Makes each call of `case` once for each length from the first to the last of `case.lengths`,
+/// with the case's files cut to this length. Adds the calls to `tally`, and prints a line for each
+/// that does something else than the case says, which is no error. An error if a call can't be made
+/// or compared; then files may stay, and no further call is made.
 pub fn carry_out<R: Files + AllocGlobal + Threads + Sync + Print>(
     rt: &R,
     case: &Case<'_>,

@@ -45,8 +45,10 @@ pub struct Case<'a> {
     pub by_clap: Option<Place<'a>>,
 }
 
-/// What a text stands for, by the line that begins it: its first word `word`, and `rest`, which
-/// follows it. None if the line begins no text.
+/// What a text of a case stands for, by the line that begins it. `word` is the line's first word,
+/// and `rest` what follows its first space. For `file`, `after` and `absent` it is the file with
+/// the name `rest`: as it is before the call, as it is after it, and not there after it. For
+/// `output` and `errors`, with `rest` empty, it is that stream. None for any other line.
 fn place_of<'a>(word: &str, rest: &'a str) -> Option<Place<'a>> {
     match word {
         "file" => Some(Place::File(rest)),
@@ -58,7 +60,8 @@ fn place_of<'a>(word: &str, rest: &'a str) -> Option<Place<'a>> {
     }
 }
 
-/// Reads two lengths, the first and the last, from `range`, which has a space between them.
+/// Reads two lengths, the first and the last, from `range`: two decimals with a space between them.
+/// An error if it is anything else.
 fn lengths(range: &str) -> Result<(usize, usize)> {
     let Some((first, last)) = range.split_once(' ') else {
         bail!("two lengths")
@@ -81,21 +84,26 @@ impl<'a> Case<'a> {
         }
     }
 
-    /// Adds an empty text for `place` to the case; the lines that follow append to this text.
+    /// Adds an empty text for `place` to the case, as its last text. If memory is refused, the case
+    /// stays as it is.
     fn begin(&mut self, alloc: Global, place: Place<'a>) -> Result<(), AllocError> {
         let bytes = Vec::new(alloc);
         self.texts.push(Text { place, bytes })?;
         Ok(())
     }
 
-    /// Adds a call to the case. `words` are the program's name and its words, with spaces between.
+    /// Adds a call to the case. `words` are the program's name and its words, with a space between
+    /// each two. If memory is refused, the case stays as it is.
     fn call(&mut self, words: &'a str) -> Result<(), AllocError> {
         self.calls.push(words)?;
         Ok(())
     }
 
-    /// Reads a line of the case's text: it begins a text, adds a call, sets the lengths, the status
-    /// or the stream to which clap writes, or else changes the last text of the case.
+    /// Reads a line of the case. `file`, `after`, `absent`, `output` or `errors` begins a text,
+    /// `call` adds a call, `lengths` sets the lengths, `status` the status, and `output by clap` or
+    /// `errors by clap` the stream to which clap, the parser of command lines, writes. Any other
+    /// line changes the last text. An error if the line is none of a case, or the file whose bytes
+    /// it adds can't be read; then the last text may have a part of what it adds.
     fn read_line<R: Files + AllocGlobal>(&mut self, rt: &R, line: &'a str) -> Result<()> {
         let (word, rest) = line.split_once(' ').unwrap_or((line, ""));
         if let Some(place) = place_of(word, rest) {
@@ -119,8 +127,10 @@ impl<'a> Case<'a> {
         }
     }
 
-    /// Changes the last text of the case by what `line` says. It is an error if the case has no
-    /// text yet.
+    /// Changes the last text of the case by `line`: `|TEXT` appends the text and a line feed,
+    /// `+TEXT` the text alone, `bytes CODES` bytes by their hexadecimal codes, and `from FILE` the
+    /// bytes of a file; `fill LENGTH` sets the length. An error if the case has no text yet, the
+    /// line is none of these, or the file can't be read; then a part may have been appended.
     fn lengthen<R: Files + AllocGlobal>(&mut self, rt: &R, line: &str) -> Result<()> {
         match self.texts.last_mut() {
             Some(text) => lengthen(rt, &mut text.bytes, line),
@@ -129,7 +139,8 @@ impl<'a> Case<'a> {
     }
 }
 
-/// Appends `text` to `bytes`, and a line feed if `is_whole` is true.
+/// Appends `text` to `bytes`, and a line feed if `is_whole` is true. If memory is refused, a part
+/// may have been appended.
 fn add_text(bytes: &mut Vec<u8>, text: &str, is_whole: bool) -> Result<(), AllocError> {
     bytes.extend_from_slice(text.as_bytes())?;
     if is_whole {
@@ -138,7 +149,8 @@ fn add_text(bytes: &mut Vec<u8>, text: &str, is_whole: bool) -> Result<(), Alloc
     Ok(())
 }
 
-/// Appends to `bytes` those bytes whose hexadecimal codes `codes` has, with spaces between.
+/// Appends to `bytes` the bytes whose hexadecimal codes `codes` lists, with a space between each
+/// two. An error if one is no code of a byte; the bytes before it are then appended.
 fn add_codes(bytes: &mut Vec<u8>, codes: &str) -> Result<()> {
     for code in codes.split(' ') {
         let byte = u8::from_str_radix(code, 16)?;
@@ -147,22 +159,26 @@ fn add_codes(bytes: &mut Vec<u8>, codes: &str) -> Result<()> {
     Ok(())
 }
 
-/// Appends the bytes of the file `name` to `bytes`.
+/// Appends the bytes of the file `name` to `bytes`. An error if the file can't be read; then
+/// nothing is appended.
 fn add_file<R: Files + AllocGlobal>(rt: &R, bytes: &mut Vec<u8>, name: &str) -> Result<()> {
     let held = fs::read(rt, name)?;
     bytes.extend_from_slice(&held)?;
     Ok(())
 }
 
-/// Cuts or lengthens `bytes` to the number of bytes that `length` spells; added bytes are `x`.
+/// Cuts `bytes` to the number of bytes that `length` spells in decimal, or lengthens it to that
+/// number by bytes `x`. An error if `length` is no number; then `bytes` stays as it is.
 fn fill(bytes: &mut Vec<u8>, length: &str) -> Result<()> {
     let length = length.parse()?;
     bytes.resize(length, b'x')?;
     Ok(())
 }
 
-/// Changes `bytes` by what a line of a text says: appends text, bytes by their codes, or the bytes
-/// of a file, or cuts or lengthens `bytes` to a length.
+/// Changes `bytes` by `line`: `|TEXT` appends the text and a line feed, `+TEXT` the text alone,
+/// `bytes CODES` bytes by their hexadecimal codes, and `from FILE` the bytes of a file;
+/// `fill LENGTH` cuts `bytes` to this length, or lengthens it by bytes `x`. An error if the line is
+/// none of these, or the file can't be read; then a part may have been appended.
 fn lengthen<R: Files + AllocGlobal>(rt: &R, bytes: &mut Vec<u8>, line: &str) -> Result<()> {
     if let Some(whole) = line.strip_prefix('|') {
         return Ok(add_text(bytes, whole, true)?);
@@ -178,8 +194,10 @@ fn lengthen<R: Files + AllocGlobal>(rt: &R, bytes: &mut Vec<u8>, line: &str) -> 
     }
 }
 
-/// Reads a line of a file of cases: it begins a case, which is added to `cases`, is read by the
-/// last case, or is empty or a comment.
+/// Reads a line of a file of cases. `case NAME` adds a case to `cases`, and empty lines and
+/// comments, which begin with `#`, are skipped. Any other line changes the last of `cases`. An
+/// error if there is none yet, or if the line is no line of a case; the last case may then be
+/// changed in part.
 fn read_line<'a, R: Files + AllocGlobal>(
     rt: &R,
     cases: &mut Vec<Case<'a>>,
@@ -197,7 +215,8 @@ fn read_line<'a, R: Files + AllocGlobal>(
         .context(format_args!("in {}: {line}", case.name))
 }
 
-/// Reads the cases that `text` has. An error if some line is no line of a case.
+/// Reads the cases that `text` has, in their order. An error if a line is none of a case, or if a
+/// file whose bytes a line adds can't be read.
 pub fn read_cases<'a, R: Files + AllocGlobal>(rt: &R, text: &'a str) -> Result<Vec<Case<'a>>> {
     let mut cases = Vec::new(rt.alloc());
     for line in text.lines() {

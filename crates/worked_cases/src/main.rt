@@ -15,7 +15,8 @@ use std::rt::Files;
 use std::thread::Threads;
 use std::{env, fs};
 
-/// Carries out the cases of the file `file`, and adds their calls to `tally`.
+/// Makes the calls of the cases in the file `file`, and adds them to `tally`. An error if the file
+/// can't be read, or a call can't be made or compared.
 fn carry_out_file<R: Files + AllocGlobal + Threads + Sync + Print>(
     rt: &R,
     file: &str,
@@ -29,8 +30,9 @@ fn carry_out_file<R: Files + AllocGlobal + Threads + Sync + Print>(
     Ok(())
 }
 
-/// Carries out the cases of all files that the command line names. It is an error if a call did
-/// something else than its case says.
+/// Makes the calls of worked cases, and prints how many they are and how many did something else
+/// than their case says; an error if any did. The command line names a folder, which becomes the
+/// current one, and the files of cases there.
 fn main(rt: HostRuntime) -> Result<()> {
     let mut words = env::args(&rt)?.skip(1);
     let folder = words.next().context("the words are FOLDER FILE..")?;
