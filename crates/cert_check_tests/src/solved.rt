@@ -254,7 +254,7 @@ fn judge_near<R: Abort + Threads + Sync>(
     }
 }
 
-/// Judges it with each cost changed, alone and with that of the exchanged set.
+/// Judges a certificate with each cost changed, alone and with that of the exchanged set.
 fn judge_changes<R: Abort + Threads + Sync>(rt: &R, alloc: Global, solved: &Solved, plain: &Plain) {
     let inputs = solved.tables.problem().inputs();
     let cells = solved.solution.cells.as_slice();

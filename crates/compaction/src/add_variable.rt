@@ -63,7 +63,8 @@ impl StripParts {
     /// The parts of a class table in strips; that they fit together isn't tested. `outer` has the
     /// strip names, function by function, by rising assignments of the high variables outside the
     /// set. `numbers` has the class numbers in the strips, one strip after another. `masks` has the
-    /// mask of each class number, by rising number, even of those that don't occur in `numbers`.
+    /// mask of each class number, by rising number, even of those that don't occur in `numbers`. So
+    /// `all_used` is false.
     pub(crate) fn new(outer: Vec<u32>, numbers: Vec<u32>, masks: Vec<Mask>) -> StripParts
         ensures outer { result.outer ≡ outer }
         ensures numbers { result.numbers ≡ numbers }

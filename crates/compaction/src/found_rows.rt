@@ -117,8 +117,8 @@ impl<'a> SharedTables<'a> {
 }
 
 /// Joins the lists of rows in `parts`, each found by one thread: the last list comes first. Err if
-/// a thread was refused memory. Requires all lists to be for `problem`. `end`, the size of the
-/// largest sets of which rows are to be found, is only stored in the result.
+/// some entry of `parts` is, or if memory is refused. Requires all lists to be for `problem`.
+/// `end`, the size up to which rows are to be found, is only stored in the result.
 fn collect<'a>(
     alloc: Global,
     problem: &'a Problem,

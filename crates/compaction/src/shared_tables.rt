@@ -66,7 +66,7 @@ fn with_low<'a>(alloc: Global, tables: &[Strips<'a>], x: VarIx) -> Made<'a>
 }
 
 /// Joins the lists of tables that threads made: the tables of `parts[0]`, then those of `parts[1]`,
-/// and so on. Err if a thread ran out of memory.
+/// and so on. Err if some entry of `parts` is, or if memory is refused.
 fn concatenate<'a>(
     alloc: Global,
     parts: Vec<Result<Vec<Strips<'a>>, AllocError>>,
@@ -254,7 +254,7 @@ impl<'a> SharedTables<'a> {
     }
 
     /// The class table at which a walk to `set` begins, and a number k: the table is that of the
-    /// members of `set` below k. At most, k is the number of low variables.
+    /// members of `set` below k, and k is at most the number of low variables.
     pub(crate) fn first_table(&self, set: Mask) -> (&Strips<'a>, u8)
         ensures known { result.1 ≤ low_of self.now }
         ensures table { result.0.now ≡ classes_of self.now (set % 2 ^ result.1) }

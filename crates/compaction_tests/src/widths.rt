@@ -104,7 +104,7 @@ fn blocks_have_the_widths_of_their_sets(rt: HostRuntime) {
     }
 }
 
-// Of the numbers two runs of 256 points are equal to others; of half the sets of the cubes all
+// Of the numbers two strips of 256 points are equal to others; of half the sets of the cubes all
 // subfunctions are distinct. The sums were counted by another program, by the definition.
 #[test]
 fn widths_of_ten_variables_have_the_counted_sums(rt: HostRuntime) {

@@ -2,7 +2,7 @@
 //! edge leads from a set to the set with one more variable. It fails if the value of the larger set
 //! exceeds that of the smaller one by more than the width of this variable over the smaller set.
 //!
-//! This crate shares with the search definitions and laws, the types of problems, the finding of
+//! Shared with the search are definitions and laws, the types of problems, the finding of
 //! exchanges, the numbering of pairs of classes, and the counting of the classes that depend on a
 //! variable.
 #![tactic(auto)]

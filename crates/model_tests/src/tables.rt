@@ -11,6 +11,7 @@ use truth_table::Tables;
 /// Three products of the variables 0 to 5, in which variable i meets variable i + 3.
 static INTERLEAVED: &[u8] = b".i 6\n.o 1\n1--1-- 1\n-1--1- 1\n--1--1 1\n.e\n";
 
+/// The truth tables of the cover that a text describes.
 fn tables_of<R: Abort + Threads + Sync>(rt: &R, alloc: Global, text: &[u8]) -> Tables {
     let cover = read_cover(alloc, &mut Counting::new(text)).expect(rt, "a cover");
     Tables::of_cover(rt, alloc, &cover).expect(rt, "memory")

@@ -11,14 +11,13 @@ pub struct Crew<'a, R, G> {
     pub rt: &'a R,
     /// The number of workers.
     pub workers: Workers,
-    /// What each worker calls after it claimed an item of work, such as a set, and before it hands
-    /// in the result.
+    /// What each worker calls before it hands in the result for an item of work, such as a set.
     pub gate: &'a G,
 }
 
 impl<'a, R, G> Crew<'a, R, G> {
-    /// A crew of `workers` workers. `rt` starts their threads, and each worker calls `gate` after
-    /// it claims an item of work and before it hands in the result.
+    /// A crew of `workers` workers. `rt` starts their threads, and each worker calls `gate` before
+    /// it hands in the result for an item of work.
     pub fn new(rt: &'a R, workers: Workers, gate: &'a G) -> Crew<'a, R, G>
         ensures starts { result.rt.now ≡ rt.now }
         ensures workers { result.workers ≡ workers }

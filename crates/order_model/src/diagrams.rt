@@ -76,9 +76,9 @@ fn in_order(order: &[VarIx], counts: [u32; 16]) -> [u32; 16]
     levels
 }
 
-/// A decision diagram with one root per function, and an order of its variables. Neither does it
-/// have to be reduced, nor do its nodes have to follow the order: calls that need this require it.
-/// The size of the diagram is the number of its nodes, whether a root reaches them or not.
+/// A decision diagram with one root per function, and an order of its variables. Calls that need it
+/// to be reduced, or its nodes to follow the order, require this. The size of the diagram is the
+/// number of its nodes, whether a root reaches them or not.
 #[derive(Debug, Drop)]
 pub struct Diagram {
     /// The order of the variables, top first.

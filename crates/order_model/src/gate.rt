@@ -1,11 +1,11 @@
-//! What a caller does between a worker's claim and its result.
+//! What a worker calls before it hands in a result.
 
-/// What each worker calls between the claim of an item and its result. `minorder` passes `NoGate`,
-/// which does nothing; other gates are for callers who hold workers there, as tests do.
+/// What each worker calls before it hands in the result for an item of work. `minorder` passes
+/// `NoGate`, which does nothing; other gates are for callers who hold workers there, as tests do.
 pub trait Gate: Sync {
-    /// Worker number `worker`, counted from 1, calls this after it claims `item` and before it
-    /// hands in the result. In a search the item is the mask of a set. In building a diagram it is
-    /// the number, counted from 0, of a piece: an output, or a part of one, that one worker builds.
+    /// Worker number `worker`, counted from 1, calls this after it computed the result for `item`
+    /// and before it hands the result in. In a search the item is the mask of a set. In building a
+    /// diagram it is the number, counted from 0, of a part of an output.
     fn between(&self, worker: u8, item: u32);
 }
 

@@ -61,7 +61,7 @@ fn gather(
 
 /// Starts a thread for each of `seats`, 1 to 64 seats at `board`, which is for the layer of
 /// `context`. The threads claim the board's blocks until none is left, and post the cells of their
-/// sets. Returns one of the seats. Err if memory was refused to some worker.
+/// sets. Returns one of the seats.
 fn post_by_workers<R: Threads + Sync, G: Gate>(
     crew: &Crew<'_, R, G>,
     alloc: Global,

@@ -13,7 +13,7 @@ use std::alloc::{AllocError, Global};
 use subset_layers::{Block, Costs, Layer};
 
 /// The rows of widths to compute next: `requests` has the sets and those members whose widths are
-/// wanted, and `end` is the size of the largest of these sets.
+/// wanted, and `end` is the size up to which sets may have been added.
 #[derive(Drop)]
 pub(crate) struct LookAhead {
     pub(crate) requests: Requests,
@@ -37,10 +37,10 @@ fn is_found(context: &LayerContext<'_>, prepared: &Preparation<'_>, block: &Bloc
     true
 }
 
-/// Adds to `requests` the widths that the cells of the sets of `block` take. They are asked of each
-/// set's image, the set to which `prepared` takes it, unless the source of widths in `context` has
-/// a row with the widths of all members of the image. The block is one of the layer of `context`.
-/// If memory is refused nothing changes.
+/// Adds to `requests` the widths that the cells of the sets of `block` take, as widths of each
+/// set's image, the set to which `prepared` takes it. Leaves out images of which the source of
+/// widths in `context` has a row with the widths of all members. The block is one of the layer of
+/// `context`. If memory is refused nothing changes.
 fn add_needs(
     alloc: Global,
     context: &LayerContext<'_>,

@@ -32,7 +32,7 @@ fn ends<T: AllocGlobal + Threads + Sync, C: Read + Drop>(
     outcome == wanted && is_written
 }
 
-/// Whether a check of a certificate whose reader fails after some calls ends so. The certificate is
+/// Whether a check of a certificate whose reader fails after some calls ends as given. It is
 /// 31 pieces of at most four bytes, and a call that finds the end.
 fn ends_as_read<T: AllocGlobal + Threads + Sync>(
     rt: &T,

@@ -12,8 +12,7 @@ use std::alloc::{AllocError, Global};
 use std::thread;
 use std::thread::Threads;
 
-/// The most passes of sifting that `repeat` makes. Two to five passes gain all that there is to be
-/// gained.
+/// The most passes of sifting that `repeat` makes, which are seldom needed.
 const MOST_PASSES: u32 = 16;
 
 /// The fewest inputs for which sifting is repeated: with fewer, a search takes no longer than

@@ -23,7 +23,7 @@ pub(crate) enum Subfunctions<'a> {
 
 /// At index p the values over three variables that depend on the variable at place p, where place 0
 /// has the highest: bit v % 64 of word v / 64 is 1 if value v does. A value over fewer variables
-/// depends on the same places if it is read as one over three.
+/// depends on the same ones of its places if it is read as one over three.
 const DEPENDENT: [[u64; 4]; 3] = [
     [
         0x6ff6ffffffff6ff6,

@@ -42,7 +42,7 @@ fn limit(bound: u32) -> Limit
     }
 }
 
-/// A cell of it with the bound 7, on top of which stands the variable 0.
+/// A cell of the parity with the bound 7, on top of which stands the variable 0.
 fn parity_cell(problem: &Problem, mask: Mask, cost: u32, pairs: &Pairs) -> CellResult
     requires problem { problem.now ≡ parity.problem }
     requires pairs { pairs.now.pairs ≡ [] }

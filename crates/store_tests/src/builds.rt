@@ -236,6 +236,8 @@ fn meet_over_terms<R: Abort + Threads + Sync>(
     cover_size(rt, alloc, input, workers, &gate) == 16 && gate.saw_each(u64::MAX)
 }
 
+/// Whether two workers that meet build sixteen nodes from truth tables, and saw each of the four
+/// parts once.
 fn meet_over_restrictions<R: Abort + Threads + Sync>(
     rt: &R,
     alloc: Global,

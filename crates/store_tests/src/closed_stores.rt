@@ -12,6 +12,7 @@ use std::alloc::Global;
 use std::process::Abort;
 use unique_table::{CloseFault, NodeId, Session, Store};
 
+/// The conjunction and the disjunction of two variables.
 fn two_functions(rt: &impl Abort, alloc: Global) -> Problem
     ensures inputs { result.inputs ≡ 2 }
     ensures tables { result.tables ≡ two_tables }
@@ -24,6 +25,7 @@ fn two_functions(rt: &impl Abort, alloc: Global) -> Problem
     problem
 }
 
+/// A store for these two functions under the file order, and its first session.
 fn store_of_both(rt: &impl Abort, alloc: Global) -> (Store, Session)
     ensures session { result.1.store ≡ result.0 }
     ensures order { order_of result.0.plan ≡ 0 ∷ 1 ∷ [] }

@@ -45,7 +45,7 @@ pub(crate) fn blank_words(count: usize) -> &'static [u64]
 }
 
 /// How the outputs of a store are split into parts. For `Pieces::Tables` each part is an output
-/// with its top two variables fixed (if it has one variable, that one). For `Pieces::Terms` each
+/// with its top two variables fixed (or the only one). For `Pieces::Terms` each
 /// part is a disjunction of some of an output's terms; the result has a copy of the list of terms.
 pub(crate) fn kind_of(alloc: Global, pieces: Pieces<'_>) -> Result<PieceKind, AllocError>
     ensures { IfOk result (λ kind. IsKind kind pieces.entry) }

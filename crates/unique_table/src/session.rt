@@ -31,7 +31,7 @@ impl Model for Session {
 pub struct Stake {
     /// How many units the session has.
     pub units: u64,
-    /// The whole store is 2 to the power of this many units.
+    /// The whole store is 2^`halvings` units.
     pub halvings: u64,
 }
 

@@ -59,8 +59,8 @@ pub struct StoreFull;
 
 impl Store {
     /// Makes an empty store for the functions of `problem` under `order`, and its first session.
-    /// `pieces` says how outputs are split into parts: by fixing the top two variables (if there is
-    /// one, that one), or into disjunctions of terms. Requires `order` to have the variables of
+    /// `pieces` says how outputs are split into parts: by fixing the top two variables (or the only
+    /// one), or into disjunctions of terms. Requires `order` to have the variables of
     /// `problem`, and terms, if `pieces` has them, to give its functions.
     pub fn new(
         alloc: Global,
