@@ -2,7 +2,7 @@
 """bounds.py [LEAST]: how often the bound of a search is the optimum, over the functions of optima/optima.csv with at least LEAST
 inputs (13)
 
-Sifts as `Sifted::tightened` does, by the library's passes. MINORDER_LIBRARY names the library.
+Sifts as `sifting::search_bound` does, by the library's passes. MINORDER_LIBRARY names the library.
 """
 import math
 import os

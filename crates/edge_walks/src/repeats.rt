@@ -46,9 +46,9 @@ fn is_kept(kept: &[u32], place: usize, row: &[u32]) -> bool
     before == row
 }
 
-/// Whether two equal rows of 2^`y` entries are found in the first half of `numbers`; some may be
-/// missed. Requires that `numbers` are whole rows, at most 2^20 entries, and that `y` is at most
-/// 16.
+/// Whether two equal rows of 2^`y` entries are found in the first half of `numbers`. Some may be
+/// missed: a wrong answer costs time or memory only. Requires that `numbers` has whole rows, at
+/// most 2^20 entries, and that `y` is at most 16.
 fn has_repeat(alloc: Global, numbers: &[u32], y: VarIx) -> Result<bool, AllocError>
     requires variable { y ≤ 16 }
     requires few { length numbers.now ≤ 2 ^ 20 }

@@ -61,6 +61,7 @@ fn join_keys(alloc: Global, entries: &EntryPairs<'_>, base: u32) -> Result<Vec<u
         map (joined_key base) (places.pairs entries.now.numbers (2 ^ entries.now.rank))) }
 {
     let mut joined = vec![in alloc; 0u32; entries.len()]?;
+    // Blocks of 1, 2, 4 and 8 pairs are frequent: each has a loop that the compiler unrolls.
     match entries.rank() {
         0 => join_blocks(entries, 0, base, &mut joined),
         1 => join_blocks(entries, 1, base, &mut joined),

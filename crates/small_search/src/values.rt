@@ -75,6 +75,7 @@ pub(crate) fn join_values(before: &[u8], x: VarIx, shift: u32, values: &mut [u8]
     requires long { length values.old ≡ length before.now / 2 }
     ensures { AreJoined before.now x (2 ^ shift) values.new }
 {
+    // With a constant step the compiler makes vectors of the loop.
     match x {
         0 => join_blocks(before, 0, 1, shift, values),
         1 => join_blocks(before, 1, 2, shift, values),

@@ -77,15 +77,13 @@ fn size_flags(alloc: Global, inputs: u8, size: u8) -> Result<Vec<bool>, AllocErr
     Ok(flags)
 }
 
-/// A flag for each number below 256: entry k says whether k is the low byte of one of `masks`.
-/// Requires `limit`, the number of flags, to be 256.
-fn low_flags(alloc: Global, masks: &[u16], limit: usize) -> Result<Vec<bool>, AllocError>
-    requires { limit ≡ 256 }
+/// 256 flags: entry k says whether k is the low byte of one of `masks`.
+fn low_flags(alloc: Global, masks: &[u16]) -> Result<Vec<bool>, AllocError>
     ensures { IfOk result
         (λ flags. flags.items ≡ map (λ low. list_any (λ mask. nat_eq (mask % 256) low) masks.now)
         (range_with_len 0 256)) }
 {
-    let mut flags = vec![in alloc; false; limit]?;
+    let mut flags = vec![in alloc; false; LOW_BYTES]?;
     for mask in masks {
         flags[*mask as usize % LOW_BYTES] = true;
     }
@@ -108,7 +106,7 @@ impl Layer {
     {
         let flags = size_flags(alloc, inputs, size)?;
         let masks = Selection::of(alloc, &flags)?;
-        let low_flags = low_flags(alloc, &masks.numbers, LOW_BYTES)?;
+        let low_flags = low_flags(alloc, &masks.numbers)?;
         let lows = Selection::of(alloc, &low_flags)?;
         Ok(Layer {
             inputs,
