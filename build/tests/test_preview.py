@@ -139,7 +139,7 @@ class Estimates(unittest.TestCase):
     def test_the_first_build(self):
         seconds = seconds_of(crates.TOP, crates.all_of("minorder"))
         left = Estimate(seconds, crates.named(), 4).seconds_left({})
-        self.assertTrue(8 * 60 < left < 30 * 60, left)
+        self.assertTrue(5 * 60 < left < 30 * 60, left)
 
 
 class Plans(unittest.TestCase):
