@@ -30,6 +30,8 @@ def tightened(tables, sifted):
 
 
 def main():
+    if len(sys.argv) > 2 or not all(word.isdigit() for word in sys.argv[1:]):
+        sys.exit(__doc__)
     least = int(sys.argv[1]) if len(sys.argv) > 1 else 13
     ratios = []
     for entry in benchmarks.entries():
@@ -44,4 +46,5 @@ def main():
               f"{mean:.3f} times it in the geometric mean, {max(found):.2f} at most")
 
 
-main()
+if __name__ == "__main__":
+    main()

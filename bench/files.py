@@ -96,7 +96,6 @@ FILES = {
 }
 
 if __name__ == "__main__":
-    if len(sys.argv) == 2:
-        sys.stdout.write(FILES[sys.argv[1]]())
-    else:
-        print("\n".join(FILES))
+    if len(sys.argv) > 2 or not FILES.keys() >= set(sys.argv[1:]):
+        sys.exit(__doc__)
+    sys.stdout.write(FILES[sys.argv[1]]() if len(sys.argv) == 2 else "".join(f"{it}\n" for it in FILES))

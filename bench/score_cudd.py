@@ -45,6 +45,8 @@ def results(harness):
 def main():
     if len(sys.argv) not in (2, 3):
         sys.exit(__doc__)
+    if not os.access(f"{sys.argv[1]}/cudd", os.X_OK):
+        sys.exit(f"score_cudd.py: {sys.argv[1]} has no cudd; bench/peers.sh builds it")
     text = results(f"{sys.argv[1]}/cudd")
     if len(sys.argv) == 3:
         with open(sys.argv[2], "w") as file:

@@ -38,7 +38,7 @@ def measured(script, files):
 
 
 def main():
-    if not 4 <= len(sys.argv) <= 5:
+    if not 4 <= len(sys.argv) <= 5 or not all(word.isdigit() for word in sys.argv[1:4]):
         sys.exit(__doc__)
     inputs, outputs, count = (int(word) for word in sys.argv[1:4])
     peers = sys.argv[4] if len(sys.argv) > 4 else None

@@ -17,7 +17,7 @@ def run(program, file):
 
 
 def main():
-    if "--" not in sys.argv or len(sys.argv) < 5:
+    if "--" not in sys.argv or len(sys.argv) < 5 or not sys.argv[1].isdigit():
         sys.exit(__doc__)
     at = sys.argv.index("--")
     runs, programs, files = int(sys.argv[1]), sys.argv[2:at], sys.argv[at + 1:]
@@ -32,4 +32,5 @@ def main():
             print(f"{name} {program}: wall {wall:.4f}, processor {processor:.3f}", flush=True)
 
 
-main()
+if __name__ == "__main__":
+    main()

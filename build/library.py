@@ -142,4 +142,4 @@ def take_gate(kit: str, name: str) -> None:
 
 
 if __name__ == "__main__":
-    sys.exit(build(loaded(sys.argv[1]), *sys.argv[2:]))
+    sys.exit(build(loaded(sys.argv[1]), *sys.argv[2:]) if len(sys.argv) == 4 else __doc__)
