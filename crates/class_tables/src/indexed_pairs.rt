@@ -60,10 +60,11 @@ fn number_pairs_by_index(
     prove!(pairs.rank() < 16);
     let indexed = index_pairs(alloc, &pairs.entries)?;
     let distinct = distinct_pairs(alloc, &pairs.entries, &indexed)?;
-    let joined = join_masks(alloc, &distinct, pairs.x, pairs.masks)?;
+    let mut masks = Vec::new(alloc);
+    join_masks(&distinct, pairs.x, pairs.masks, &mut masks)?;
     Ok(MaskedNumbers {
         numbers: indexed,
-        masks: joined,
+        masks,
     })
 }
 

@@ -8,7 +8,7 @@ ghost use Rattle.compaction.specs.Strips.{GrowsStrips};
 
 use crate::names::{NamePairs, number_names};
 use order_model::{Mask, VarIx};
-use pair_numbering::{MaskedPairs, PairKeys, label_pairs};
+use pair_numbering::{MaskedPairs, PairKeys, are_in_order, label_pairs};
 use std::alloc::{AllocError, Global};
 use std::marker::Model;
 
@@ -77,19 +77,6 @@ impl StripParts {
             all_used: false,
         }
     }
-}
-
-/// Whether the numbers are 0, 1, 2 and so on; true if there are none.
-pub(crate) fn are_in_order(numbers: &[u32]) -> bool
-    ensures up { IsTrue result → AreOwn numbers.now }
-    ensures all { AreOwn numbers.now → IsTrue result }
-{
-    for (i, number) in numbers.iter().enumerate() {
-        if *number as usize != i {
-            return false;
-        }
-    }
-    true
 }
 
 /// The `count` numbers 0, 1, 2 and so on. Requires `count` to be at most 2^20.

@@ -5,9 +5,8 @@ ghost use Rattle.std.specs.Prelude.{◌≡◌, ℕ, ◌*◌, ◌^◌, ◌<◌, �
 ghost use Rattle.subfunction_classes.specs.PairTables.{AllBelow, IsPairTable};
 ghost use Rattle.pair_numbering.specs.Numbers.{ArePairsNumbered};
 
-use crate::add_variable::are_in_order;
 use order_model::{Mask, VarIx, contains};
-use pair_numbering::{EntryPairs, NumberedPairs, number_entries};
+use pair_numbering::{EntryPairs, NumberedPairs, are_in_order, number_entries};
 use std::alloc::{AllocError, Global};
 
 /// Pairs of strip names are numbered beforehand only for tables with at most this many names.

@@ -8,10 +8,10 @@ ghost use Rattle.definitions.specs.Orders.{has};
 ghost use Rattle.subfunction_classes.specs.PairTables.{AllBelow, AreOwn};
 ghost use Rattle.compaction.specs.Strips.{masks_in_use, low_variables as low_of};
 
-use crate::add_variable::{StripParts, StripTable, add_above, are_in_order};
+use crate::add_variable::{StripParts, StripTable, add_above};
 use crate::names::NamePairs;
 use order_model::{Mask, Problem, VarIx, WidthRow, contains};
-use pair_numbering::{MaskedPairs, label_pairs};
+use pair_numbering::{MaskedPairs, are_in_order, label_pairs};
 use std::alloc::{AllocError, Global};
 use std::marker::Model;
 use subfunction_classes::{count_with, rank_of};

@@ -5,7 +5,7 @@ use Rattle.std.proofs.Common.{◌≡◌, ℕ, ◌+◌, ◌%◌, ◌^◌, bit_or,
 use Rattle.std.specs.Int.{bit_at}
 use Rattle.edge_walks.specs.Blocks.{IsPartTable}
 use Rattle.edge_walks.specs.Tables.{TableOf, rows_with}
-use Rattle.pair_buckets.proofs.HighSets.{part_high, part_more, part_same}
+use Rattle.subfunction_classes.proofs.HighSets.{part_high, part_more, part_same}
 
 module _ (root : TableOf) (part x y : ℕ) (next : y ≡ x + 1) where
   -- all variables below the bound are free

@@ -19,7 +19,7 @@ use Rattle.subfunction_classes.proofs.OneMoreVariable.{IsReady, is_ready, holds_
 use Rattle.subfunction_classes.proofs.Lists.{place_of}
 use Rattle.edge_walks.specs.Rows.{AreWholeRows, IsShortened}
 use Rattle.edge_walks.specs.Tables.{HoldsRows, TableOf, classes_at, rows_with}
-use Rattle.pair_buckets.proofs.HighSets.{free_all, high_new, step_down}
+use Rattle.subfunction_classes.proofs.HighSets.{free_all, high_new, step_down}
 use Rattle.edge_walks.proofs.Rows.{among_short, rows_left, short_among, short_count, short_fewer, short_finer, short_map, short_pairs, short_rank}
 use mathlib.Core.List.{map-map}
 

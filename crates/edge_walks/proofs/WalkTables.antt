@@ -15,7 +15,7 @@ use Rattle.definitions.specs.Widths.{width}
 use Rattle.edge_walks.specs.Blocks.{IsBlock, IsPartTable, StandsAt}
 use Rattle.edge_walks.specs.LowerClasses.{IsWide}
 use Rattle.edge_walks.specs.Tables.{TableOf, rows_at, rows_with, table_at}
-use Rattle.pair_buckets.proofs.HighSets.{double, high_more, high_or, multiple, step_down}
+use Rattle.subfunction_classes.proofs.HighSets.{double, high_more, high_or, multiple, step_down}
 
 -- the first set of a block has variables below n
 pub block_small : (n set y : ℕ) → IsBlock n set y → set < 2 ^ n

@@ -12,7 +12,7 @@ ghost use Rattle.edge_walks.specs.Tables.{HoldsRows, classes_at, rows_at, rows_w
 use crate::lower_classes::are_wide;
 use crate::repeats::without_repeats;
 use order_model::{Mask, Problem, VarIx, contains};
-use pair_buckets::{Numbered, are_own, numbered_pairs};
+use pair_numbering::{MaskedNumbers, MaskedPairs, are_in_order, number_with_masks};
 use std::alloc::{AllocError, Global};
 use std::marker::Model;
 use subfunction_classes::{count_with, no_dependence, value_numbers};
@@ -73,14 +73,14 @@ fn table_of<'a>(
     problem: &'a Problem,
     set: Mask,
     level: VarIx,
-    numbered: Numbered,
+    numbered: MaskedNumbers,
 ) -> ClassTable<'a>
     requires { HoldsRows (table_at problem.now set level) numbered.numbers.items
         numbered.masks.items }
     ensures { result ≡ table_at problem.now set level }
 {
-    let Numbered { numbers, masks } = numbered;
-    if masks.len() == numbers.len() && are_whole(&masks, set) && are_own(&numbers) {
+    let MaskedNumbers { numbers, masks } = numbered;
+    if masks.len() == numbers.len() && are_whole(&masks, set) && are_in_order(&numbers) {
         return ClassTable {
             problem,
             set,
@@ -193,7 +193,8 @@ impl<'a> ClassTable<'a> {
                 masks: Vec::new(alloc),
             }),
             None => {
-                let numbered = numbered_pairs(alloc, &self.numbers, x, &self.masks)?;
+                let pairs = MaskedPairs::of_table(&self.numbers, u32::from(x), x, &self.masks);
+                let numbered = number_with_masks(alloc, &pairs)?;
                 Ok(table_of(alloc, self.problem, set, x, numbered))
             }
         }

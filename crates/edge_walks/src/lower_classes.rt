@@ -9,7 +9,7 @@ ghost use Rattle.subfunction_classes.specs.Places as places;
 ghost use Rattle.edge_walks.specs.LowerClasses.{AreLowerMasks, pairs_with};
 
 use order_model::{Mask, VarIx};
-use pair_buckets::pair_at;
+use pair_numbering::EntryPairs;
 use std::alloc::{AllocError, Global};
 use subfunction_classes::{count_with, join_mask};
 
@@ -30,8 +30,9 @@ fn lower_masks(
         (λ v. AreLowerMasks masks.now x (places.pairs numbers.now (2 ^ x)) v.items) }
 {
     let mut labels = vec![in alloc; 0u16; masks.len()]?;
-    for j in 0..numbers.len() / 2 {
-        let pair = pair_at(numbers, x, j);
+    let pairs = EntryPairs::of_table(numbers, u32::from(x));
+    for j in 0..pairs.len() {
+        let pair = pairs.pair(j);
         labels[pair.0 as usize] |= join_mask(masks, x, pair);
     }
     Ok(labels)

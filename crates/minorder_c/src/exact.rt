@@ -85,7 +85,7 @@ fn exact(
     if !has_call_shape(given, order.len(), levels.len()) {
         return Err(Refusal::Shape);
     }
-    let mut workspace = Workspace::new(alloc)?;
+    let mut workspace = Workspace::new(alloc);
     let pairs = Pairs::none(given.inputs as u8);
     let total = optimum(alloc, given, pairs, &mut workspace, order, levels)?;
     Ok(total)
@@ -118,7 +118,7 @@ fn exact_above(
         return Err(Refusal::Shape);
     }
     let pairs = kept_pairs(alloc, above, given.inputs as u8)?;
-    let mut workspace = Workspace::new(alloc)?;
+    let mut workspace = Workspace::new(alloc);
     let total = optimum(alloc, given, pairs, &mut workspace, order, levels)?;
     Ok(total)
 }

@@ -97,7 +97,7 @@ fn optima_of(alloc: Global, given: &GivenTables, many: usize) -> Result<Answers,
         levels: Vec::with_capacity(alloc, many * n)?,
         totals: Vec::with_capacity(alloc, many)?,
     };
-    let mut workspace = Workspace::new(alloc)?;
+    let mut workspace = Workspace::new(alloc);
     for i in 0..many {
         let words = block(given.words, size, i);
         put(

@@ -1,7 +1,7 @@
 //! Numbers of pairs by first occurrence, with a cell of 16 bits for each possible pair of classes.
 //! These cells are entries of an array; the cells of sets are something else.
 
-ghost use Rattle.std.specs.Prelude.{◌≡◌, ℕ, ◌+◌, ◌*◌, ◌/◌, ◌^◌, ◌<◌, ◌≤◌, length, slice_index, take, IfOk, IfSome};
+ghost use Rattle.std.specs.Prelude.{◌≡◌, ℕ, ◌+◌, ◌*◌, ◌/◌, ◌^◌, ◌<◌, ◌≤◌, length, slice_index, take, IfOk, IfSome, IsTrue};
 ghost use Rattle.pair_numbering.specs.Cells.{AreCelled};
 ghost use Rattle.pair_numbering.specs.MaskedNumbers.{NumbersMasked};
 
@@ -9,7 +9,7 @@ use crate::entries::BlockHalves;
 use crate::masks::MaskedPairs;
 use crate::numbers::MaskedNumbers;
 use definitions::Mask;
-use std::alloc::{AllocError, Global};
+use std::alloc::AllocError;
 use subfunction_classes::join_mask;
 
 /// The most numbers that cells can hold: a cell of 16 bits is 0 or one more than a number.
@@ -99,28 +99,29 @@ fn number_blocks(
     Some(count)
 }
 
-/// Numbers the pairs by first occurrence: the number of each pair, and for each number the mask of
-/// the function whose cofactors are the pair. `cells` is working memory: n * n entries for n
-/// classes, all 0 before. None if there may be more than `MOST_NUMBERS` numbers.
+/// Numbers the pairs by first occurrence: overwrites `to` with the number of each pair, and with the
+/// mask of the function whose cofactors are the pair of each number. `cells` becomes working memory
+/// of n * n entries for n classes. False if there may be more than `MOST_NUMBERS` numbers: then, and
+/// if memory is refused, `to` has no meaning.
 pub(crate) fn number_pairs_by_cells(
-    alloc: Global,
     pairs: &MaskedPairs<'_>,
-    cells: &mut [u16],
-) -> Result<Option<MaskedNumbers>, AllocError>
-    requires cells { length cells.old ≡ length pairs.now.masks.now * length pairs.now.masks.now }
-    requires empty { (k : ℕ) → k < length cells.old → slice_index cells.old k ≡ 0 }
-    ensures { IfOk result
-        (λ o. IfSome o (λ v. NumbersMasked pairs.now v.numbers.items v.masks.items)) }
+    cells: &mut Vec<u16>,
+    to: &mut MaskedNumbers,
+) -> Result<bool, AllocError>
+    ensures { IfOk result (λ done. IsTrue done →
+        NumbersMasked pairs.now to.new.numbers.items to.new.masks.items) }
 {
     let half = pairs.entries.len();
-    let mut joined = vec![in alloc; 0u16; half]?;
-    let mut out = vec![in alloc; 0u32; half]?;
-    let Some(count) = number_blocks(pairs, cells, &mut out, &mut joined) else {
-        return Ok(None);
-    };
-    joined.truncate(count as usize);
-    Ok(Some(MaskedNumbers {
-        numbers: out,
-        masks: joined,
-    }))
+    let classes = pairs.masks.len();
+    cells.clear();
+    cells.resize(classes * classes, 0)?;
+    to.masks.resize(half, 0)?;
+    to.numbers.resize(half, 0)?;
+    match number_blocks(pairs, cells, &mut to.numbers, &mut to.masks) {
+        Some(count) => {
+            to.masks.truncate(count as usize);
+            Ok(true)
+        }
+        None => Ok(false),
+    }
 }

@@ -9,6 +9,7 @@ mod entries;
 mod keys;
 mod lower_classes;
 mod masks;
+mod memory;
 mod numbers;
 mod slots;
 
@@ -16,4 +17,5 @@ pub use chains::first_pairs;
 pub use entries::EntryPairs;
 pub use keys::{PairKeys, label_pairs};
 pub use masks::{MaskedPairs, join_masks};
-pub use numbers::{MaskedNumbers, NumberedPairs, number_entries, number_with_masks};
+pub use memory::PairMemory;
+pub use numbers::{MaskedNumbers, NumberedPairs, are_in_order, number_entries, number_with_masks};

@@ -1,13 +1,13 @@
 //! How many pairs have each class as their lower class, the class where the variable is 0. A pair
 //! whose lower class no other pair has is equal to no other pair.
 
-ghost use Rattle.std.specs.Prelude.{◌≡◌, ◌+◌, ◌/◌, ◌^◌, ◌<◌, ◌≤◌, length, IfOk};
+ghost use Rattle.std.specs.Prelude.{◌≡◌, ◌+◌, ◌/◌, ◌^◌, ◌<◌, ◌≤◌, length, OnOk};
 ghost use Rattle.subfunction_classes.specs.PairTables.{AllBelow, IsPairTable};
 ghost use Rattle.subfunction_classes.specs.Places as places;
 ghost use Rattle.pair_numbering.specs.LowerClasses.{AreCounted, AreLone};
 
 use crate::entries::EntryPairs;
-use std::alloc::{AllocError, Global};
+use std::alloc::AllocError;
 
 /// Pairs of a table's entries, and how many of them have each class as their lower class.
 #[derive(Drop)]
@@ -41,24 +41,26 @@ fn count_block(entries: &EntryPairs<'_>, block: usize, counts: &mut [u8])
     }
 }
 
-/// How many pairs have each class as their lower class: entry c, for each c below `classes`, is 0,
-/// 1, or 2 for two or more. If there are no more classes than pairs, nothing is counted and all
-/// entries are 0. Requires all classes to be below `classes`.
+/// Overwrites `counts`: entry c, for each c below `classes`, is how many pairs have the lower class
+/// c: 0, 1, or 2 for two or more. If there are no more classes than pairs, nothing is counted and
+/// all entries are 0. Requires all classes to be below `classes`. If memory is refused, `counts` has
+/// no meaning.
 pub(crate) fn count_lowers(
-    alloc: Global,
     entries: &EntryPairs<'_>,
     classes: usize,
-) -> Result<Vec<u8>, AllocError>
+    counts: &mut Vec<u8>,
+) -> Result<(), AllocError>
     requires table { IsPairTable entries.now.numbers entries.now.rank classes }
-    ensures long { IfOk result (λ v. length v.items ≡ classes) }
-    ensures lone { IfOk result (λ v.
-        AreLone (places.pairs entries.now.numbers (2 ^ entries.now.rank)) v.items) }
+    ensures long { OnOk result (length counts.new.items ≡ classes) }
+    ensures lone { OnOk result
+        (AreLone (places.pairs entries.now.numbers (2 ^ entries.now.rank)) counts.new.items) }
 {
-    let mut counts = vec![in alloc; 0u8; classes]?;
+    counts.clear();
+    counts.resize(classes, 0)?;
     if classes > entries.len() {
         for block in 0..entries.len() >> entries.rank() {
-            count_block(entries, block, &mut counts);
+            count_block(entries, block, counts);
         }
     }
-    Ok(counts)
+    Ok(())
 }

@@ -1,6 +1,6 @@
 //! The masks of classes and of pairs: the variables that their functions depend on.
 
-ghost use Rattle.std.specs.Prelude.{◌≡◌, ℕ, ◌*◌, ◌^◌, ◌<◌, ◌≤◌, map, length, IfOk};
+ghost use Rattle.std.specs.Prelude.{◌≡◌, ℕ, ◌*◌, ◌^◌, ◌<◌, ◌≤◌, map, length, OnOk};
 ghost use Rattle.subfunction_classes.specs.Dependence.{joined_mask};
 ghost use Rattle.subfunction_classes.specs.PairTables.{AllBelow, IsPairTable};
 ghost use Rattle.subfunction_classes.specs.Strips.{names_of, unrolled};
@@ -9,7 +9,7 @@ ghost use Rattle.pair_numbering.specs.Numbers.{ArePairsBelow};
 
 use crate::entries::EntryPairs;
 use definitions::{Mask, VarIx};
-use std::alloc::{AllocError, Global};
+use std::alloc::AllocError;
 use subfunction_classes::join_mask;
 
 /// The pairs of a class table's entries that differ in variable `x`. `masks` has for each class the
@@ -87,22 +87,22 @@ impl<'e> MaskedPairs<'e> {
     }
 }
 
-/// For each pair of classes in `pairs` the mask of the function with these two cofactors, first
-/// that by x = 0, then that by x = 1. `masks[c]` has, for each class c, the variables on which it
-/// depends.
+/// Overwrites `joined`: entry k becomes the mask of the function whose cofactors by x = 0 and x = 1
+/// are the two classes of pair k. `masks[c]` has, for each class c, the variables on which it
+/// depends. If memory is refused, `joined` has no meaning.
 pub fn join_masks(
-    alloc: Global,
     pairs: &[(u32, u32)],
     x: VarIx,
     masks: &[Mask],
-) -> Result<Vec<Mask>, AllocError>
+    joined: &mut Vec<Mask>,
+) -> Result<(), AllocError>
     requires variable { x < 16 }
     requires classes { ArePairsBelow pairs.now (length masks.now) }
-    ensures { IfOk result (λ v. v.items ≡ map (joined_mask masks.now x) pairs.now) }
+    ensures { OnOk result (joined.new.items ≡ map (joined_mask masks.now x) pairs.now) }
 {
-    let mut joined = vec![in alloc; 0u16; pairs.len()]?;
+    joined.resize(pairs.len(), 0)?;
     for k in 0..pairs.len() {
         joined[k] = join_mask(masks, x, pairs[k]);
     }
-    Ok(joined)
+    Ok(())
 }

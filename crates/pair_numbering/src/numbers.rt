@@ -1,28 +1,33 @@
-//! Numbers of pairs by first occurrence, and their masks: by cells, slots or chains, whichever is
-//! fastest.
+//! Numbers of pairs by first occurrence, in lists of their own.
 
-ghost use Rattle.std.specs.Prelude.{◌≡◌, ℕ, ◌*◌, ◌^◌, ◌<◌, ◌≤◌, length, IfOk};
-ghost use Rattle.subfunction_classes.specs.PairTables.{IsPairTable};
+ghost use Rattle.std.specs.Prelude.{◌≡◌, ◌<◌, ◌^◌, ◌≤◌, ℕ, length, slice_index, IfOk, IsTrue};
+ghost use Rattle.subfunction_classes.specs.PairTables.{AreOwn, IsPairTable};
 ghost use Rattle.pair_numbering.specs.Numbers.{ArePairsNumbered};
 ghost use Rattle.pair_numbering.specs.MaskedNumbers.{NumbersMasked};
 
-use crate::cells::number_pairs_by_cells;
-use crate::chains::{find_first_pairs, number_firsts};
 use crate::entries::EntryPairs;
-use crate::masks::{MaskedPairs, join_masks};
-use crate::slots::number_pairs_by_slots;
+use crate::masks::MaskedPairs;
+use crate::memory::PairMemory;
 use definitions::Mask;
 use std::alloc::{AllocError, Global};
 
-/// Pairs are numbered by cells if there are at most this many cells for each pair.
-const MOST_CELLS_PER_PAIR: usize = 16;
-
 /// `numbers[j]` is the number of pair j, and `masks[k]` the mask of number k: the variables that
-/// the functions of its pair depend on.
+/// the functions of its pair depend on. If the pairs are those of a set's class table, these are the
+/// class table of the set with one more variable.
 #[derive(Drop)]
 pub struct MaskedNumbers {
     pub numbers: Vec<u32>,
     pub masks: Vec<Mask>,
+}
+
+impl MaskedNumbers {
+    /// Empty lists, with room for the numbers and the masks of `pairs` pairs.
+    pub fn with_room(alloc: Global, pairs: usize) -> Result<MaskedNumbers, AllocError> {
+        Ok(MaskedNumbers {
+            numbers: Vec::with_capacity(alloc, pairs)?,
+            masks: Vec::with_capacity(alloc, pairs)?,
+        })
+    }
 }
 
 /// `numbers[j]` is the number of pair j, and `pairs[k]` the pair with the number k.
@@ -45,11 +50,11 @@ pub fn number_entries(
         (λ v. ArePairsNumbered entries.now.numbers entries.now.rank v.numbers.items
         v.pairs.items) }
 {
-    if let Some(numbered) = number_pairs_by_slots(alloc, entries, classes)? {
-        return Ok(numbered);
-    }
-    let first = find_first_pairs(alloc, entries, classes)?;
-    number_firsts(alloc, entries, &first)
+    let mut memory = PairMemory::new(alloc);
+    let mut numbers = Vec::new(alloc);
+    memory.number(alloc, entries, classes, &mut numbers)?;
+    let PairMemory { pairs, .. } = memory;
+    Ok(NumberedPairs { numbers, pairs })
 }
 
 /// Numbers the pairs by first occurrence: the number of each pair, and for each number the mask of
@@ -60,20 +65,21 @@ pub fn number_with_masks(
 ) -> Result<MaskedNumbers, AllocError>
     ensures { IfOk result (λ v. NumbersMasked pairs.now v.numbers.items v.masks.items) }
 {
-    prove!(pairs.rank() < 16);
-    let classes = pairs.masks.len();
-    let half = pairs.entries.len();
-    let cells = classes * classes;
-    if cells <= MOST_CELLS_PER_PAIR * half {
-        let mut cells = vec![in alloc; 0u16; cells]?;
-        if let Some(numbered) = number_pairs_by_cells(alloc, pairs, &mut cells)? {
-            return Ok(numbered);
+    let mut to = MaskedNumbers::with_room(alloc, 0)?;
+    PairMemory::new(alloc).number_with_masks(alloc, pairs, &mut to)?;
+    Ok(to)
+}
+
+/// Whether the numbers are 0, 1, 2 and so on; true if there are none. If they are a class table, no
+/// two of its entries are then equal.
+pub fn are_in_order(numbers: &[u32]) -> bool
+    ensures up { IsTrue result → AreOwn numbers.now }
+    ensures all { AreOwn numbers.now → IsTrue result }
+{
+    for (i, number) in numbers.iter().enumerate() {
+        if *number as usize != i {
+            return false;
         }
     }
-    let numbered = number_entries(alloc, &pairs.entries, classes)?;
-    let joined = join_masks(alloc, &numbered.pairs, pairs.x, pairs.masks)?;
-    Ok(MaskedNumbers {
-        numbers: numbered.numbers,
-        masks: joined,
-    })
+    true
 }

@@ -1,15 +1,15 @@
 //! Numbers of pairs by first occurrence, found in hash slots that each have the number of a pair. A
 //! pair whose lower class no other pair has is new, and takes no slot.
 
-ghost use Rattle.std.specs.Prelude.{◌≡◌, ℕ, ◌+◌, ◌*◌, ◌/◌, ◌^◌, ◌<◌, ◌≤◌, length, slice_index, take, IfOk, IfSome};
+ghost use Rattle.std.specs.Prelude.{◌≡◌, ℕ, ◌+◌, ◌*◌, ◌/◌, ◌^◌, ◌<◌, ◌≤◌, length, slice_index, take, IfOk, IfSome, IsTrue};
 ghost use Rattle.pair_numbering.specs.Slots.{AreSlotted, IsSlot, home_of};
 ghost use Rattle.subfunction_classes.specs.PairTables.{IsPairTable};
 ghost use Rattle.pair_numbering.specs.Numbers.{ArePairsNumbered};
 
 use crate::entries::{BlockHalves, EntryPairs};
 use crate::lower_classes::{CountedPairs, count_lowers};
-use crate::numbers::NumberedPairs;
-use std::alloc::{AllocError, Global};
+use crate::memory::PairMemory;
+use std::alloc::AllocError;
 
 /// The most slots that are tried for a pair.
 const TRIES: usize = 64;
@@ -133,37 +133,41 @@ fn number_blocks(
 /// The most pairs that are numbered by slots of 16 bits.
 const MOST_PAIRS: usize = 1 << 15;
 
-/// Numbers the pairs by first occurrence, in a hash table: the number of each pair, and the pair of
-/// each number. None if there are more than `MOST_PAIRS` pairs, or if other pairs hold all `TRIES`
-/// slots that are tried for a pair. Requires all classes to be below `classes`.
+/// Numbers the pairs by first occurrence, in a hash table: overwrites `numbers` with the number of
+/// each pair, and `memory.pairs` with the pair of each number. False if there are more than
+/// `MOST_PAIRS` pairs, or if other pairs hold all `TRIES` slots that are tried for a pair: then, and
+/// if memory is refused, the two have no meaning. Requires all classes to be below `classes`.
 pub(crate) fn number_pairs_by_slots(
-    alloc: Global,
     entries: &EntryPairs<'_>,
     classes: usize,
-) -> Result<Option<NumberedPairs>, AllocError>
+    memory: &mut PairMemory,
+    numbers: &mut Vec<u32>,
+) -> Result<bool, AllocError>
     requires { IsPairTable entries.now.numbers entries.now.rank classes }
-    ensures { IfOk result
-        (λ o. IfSome o (λ v. ArePairsNumbered entries.now.numbers entries.now.rank v.numbers.items
-        v.pairs.items)) }
+    ensures { IfOk result (λ done. IsTrue done →
+        ArePairsNumbered entries.now.numbers entries.now.rank numbers.new.items
+        memory.new.pairs.items) }
 {
     let half = entries.len();
     if half > MOST_PAIRS {
-        return Ok(None);
+        return Ok(false);
     }
-    let counts = count_lowers(alloc, entries, classes)?;
-    let mut slots = vec![in alloc; half as u16; SLOTS_PER_PAIR * half + TRIES]?;
-    let mut keys = vec![in alloc; (0u32, 0u32); half]?;
-    let mut out = vec![in alloc; 0u32; half]?;
+    count_lowers(entries, classes, &mut memory.counts)?;
+    memory.slots.clear();
+    memory
+        .slots
+        .resize(SLOTS_PER_PAIR * half + TRIES, half as u16)?;
+    memory.pairs.resize(half, (0, 0))?;
+    numbers.resize(half, 0)?;
     let pairs = CountedPairs {
         entries,
-        counts: &counts,
+        counts: &memory.counts,
     };
-    let Some(count) = number_blocks(&pairs, &mut slots, &mut keys, &mut out) else {
-        return Ok(None);
-    };
-    keys.truncate(count as usize);
-    Ok(Some(NumberedPairs {
-        numbers: out,
-        pairs: keys,
-    }))
+    match number_blocks(&pairs, &mut memory.slots, &mut memory.pairs, numbers) {
+        Some(count) => {
+            memory.pairs.truncate(count as usize);
+            Ok(true)
+        }
+        None => Ok(false),
+    }
 }

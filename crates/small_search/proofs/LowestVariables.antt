@@ -9,7 +9,7 @@ use Rattle.std.proofs.Math.Nat.{mod-lt}
 use Rattle.std.proofs.lemmas.Bool.{cases_lt}
 use Rattle.std.proofs.lemmas.Nat.{pow_pos, pow-add, div-add-mod', div-mul-add, ones_cat, zero_from_ones}
 use Rattle.std.proofs.lemmas.Nat.Bits.{bit_at-trailing_zeros}
-use Rattle.pair_buckets.proofs.HighSets.{low_bits, multiple}
+use Rattle.subfunction_classes.proofs.HighSets.{low_bits, multiple}
 
 pub record IsLowest (set x : ℕ) : Type 0 where
   pub below : set % 2 ^ x ≡ 0

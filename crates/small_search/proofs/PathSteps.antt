@@ -20,7 +20,7 @@ use Rattle.subfunction_classes.specs.PairTables.{AllBelow, IsPaired, NumbersPair
 use Rattle.subfunction_classes.specs.Places.{pair_at, pairs}
 use Rattle.subfunction_classes.specs.Table.{ClassesOf, HoldsClasses, classes_of, free_below, set_of}
 use Rattle.subfunction_classes.proofs.OneMoreVariable.{IsReady, is_ready, holds_more}
-use Rattle.pair_buckets.proofs.HighSets.{free_all, high_new, high_or, step_down}
+use Rattle.subfunction_classes.proofs.HighSets.{free_all, high_new, high_or, step_down}
 use mathlib.Core.List.{map-map}
 use Rattle.small_search.specs.Joining.{AreJoined}
 use Rattle.small_search.specs.Values.{size_of, set_values}

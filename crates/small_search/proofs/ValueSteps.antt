@@ -37,7 +37,7 @@ use Rattle.subfunction_classes.proofs.Constants.{outside_none, value_of, values_
 use Rattle.subfunction_classes.proofs.OneMoreVariable.{step_is}
 use Rattle.subfunction_classes.proofs.StartClasses.{values_are}
 use Rattle.subfunction_classes.proofs.RankLaws.{ranks_alike}
-use Rattle.pair_buckets.proofs.HighSets.{free_all, high_new, high_or, step_down}
+use Rattle.subfunction_classes.proofs.HighSets.{free_all, high_new, high_or, step_down}
 use mathlib.Core.List.{map-map}
 use Rattle.small_search.specs.ClassesOfValues.{NumbersValues}
 use Rattle.small_search.specs.Values.{size_of, value_over, values, set_values, mask_over}

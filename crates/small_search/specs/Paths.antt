@@ -6,7 +6,7 @@
 use Rattle.std.specs.Prelude.{◌≡◌, ℕ, ◌+◌, ◌-◌, ◌*◌, ◌/◌, ◌^◌, ◌<◌, ◌≤◌, List, count_ones, length, slice_index_or}
 use Rattle.std.specs.Int.{trailing_zeros, w16}
 use Rattle.definitions.specs.Problems.{TruthTables}
-use Rattle.pair_buckets.specs.declared.numbers.Numbered.{Numbered}
+use Rattle.pair_numbering.specs.declared.numbers.MaskedNumbers.{MaskedNumbers}
 use Rattle.subfunction_classes.specs.Table.{HoldsClasses, classes_of}
 use Rattle.small_search.specs.ValuePlaces.{values_at}
 use Rattle.small_search.specs.Values.{set_values}
@@ -18,7 +18,7 @@ without_lowest set = set - 2 ^ trailing_zeros w16 set
 abbrev pub HoldValues : TruthTables → ℕ → PathTables → ℕ → Type 0
 HoldValues p set tables size = count_ones set ≤ 3 → values_at tables.entries tables.values.items size ≡ set_values p set
 
-abbrev pub HoldNumbers : TruthTables → ℕ → List Numbered → ℕ → Numbered → Type 0
+abbrev pub HoldNumbers : TruthTables → ℕ → List MaskedNumbers → ℕ → MaskedNumbers → Type 0
 HoldNumbers p set classes size d =
     let table = slice_index_or classes (size - 4) d in
     3 < count_ones set → HoldsClasses (classes_of p set) table.numbers.items table.masks.items
@@ -28,4 +28,4 @@ pub record HoldPath (p : TruthTables) (set : ℕ) (tables : PathTables) : Type 0
   pub long : length tables.values.items ≡ 2 * tables.entries
   pub many : p.inputs ≤ 3 + length tables.classes.items
   pub values : (k : ℕ) → HoldValues p (set / 2 ^ k * 2 ^ k) tables (count_ones (set / 2 ^ k))
-  pub numbers : (k : ℕ) (d : Numbered) → HoldNumbers p (set / 2 ^ k * 2 ^ k) tables.classes.items (count_ones (set / 2 ^ k)) d
+  pub numbers : (k : ℕ) (d : MaskedNumbers) → HoldNumbers p (set / 2 ^ k * 2 ^ k) tables.classes.items (count_ones (set / 2 ^ k)) d

@@ -11,15 +11,17 @@ ghost use Rattle.small_search.specs.ClassesOfValues.{NumbersValues};
 ghost use Rattle.small_search.specs.Values.{mask_at, mask_over, places};
 
 use order_model::{Mask, VarIx};
-use pair_buckets::{Numbered, PairNumbers};
-use std::alloc::AllocError;
+use pair_numbering::{EntryPairs, MaskedNumbers, PairMemory};
+use std::alloc::{AllocError, Global};
 
-/// The factor of hashes: an odd number whose multiples spread over the numbers of 32 bits.
-const SPREAD: u32 = 2_654_435_761;
-
-/// At least so many buckets are taken for each pair that is to be numbered: most pairs are then the
-/// first of their bucket.
-const BUCKETS_EACH: usize = 8;
+/// Working memory in which class tables are made. What it holds before doesn't matter.
+#[derive(Drop)]
+pub(crate) struct ClassMemory {
+    /// Memory in which pairs are numbered.
+    pub(crate) pairs: PairMemory,
+    /// The values over three variables, as 32-bit numbers.
+    pub(crate) values: Vec<u32>,
+}
 
 /// `PLACES[v]`, for each value v over three variables, has the places of the variables that v
 /// depends on, as a mask.
@@ -117,7 +119,7 @@ fn masks_by_places(variables: &[VarIx; 4]) -> [Mask; 16]
 /// variable is 0 and where it is 1, as truth tables of the other three, below 256. If memory is
 /// refused, `masks` has no meaning.
 fn write_masks(
-    pairs: &PairNumbers,
+    pairs: &[(u32, u32)],
     variables: &[VarIx; 4],
     masks: &mut Vec<Mask>,
 ) -> Result<(), AllocError>
@@ -131,36 +133,33 @@ fn write_masks(
     let count = pairs.len();
     masks.resize(count, 0)?;
     for k in 0..count {
-        masks[k] = by_places[joined_places(pairs.pair(k)) as usize];
+        masks[k] = by_places[joined_places(pairs[k]) as usize];
     }
     Ok(())
 }
 
-/// Pair `j`, counted from 0 in rising order, of entries of `values` whose assignments differ in
-/// variable x alone: the entry where x is 0, and the one where x is 1. Requires that `values` are
-/// over variables above x, so that the two stand 2^x apart, and that `j` is below half of their
-/// number.
-#[inline(always)]
-fn value_pair(values: &[u8], x: VarIx, j: usize) -> (u32, u32)
-    requires paired { IsPaired values.now x }
-    requires place { j < length values.now / 2 }
-    ensures { result ≡ places_of_pairs.pair_at values.now (2 ^ x) j }
+/// Overwrites `wide` with `values`, as 32-bit numbers. If memory is refused, `wide` has no meaning.
+fn widen(values: &[u8], wide: &mut Vec<u32>) -> Result<(), AllocError>
+    ensures { OnOk result (wide.new.items ≡ values.now) }
 {
-    let step = 1usize << x;
-    let low = 2 * j - (j & (step - 1));
-    (u32::from(values[low]), u32::from(values[low + step]))
+    wide.resize(values.len(), 0)?;
+    for i in 0..values.len() {
+        wide[i] = u32::from(values[i]);
+    }
+    Ok(())
 }
 
 /// Overwrites `to` with the class table of `set`, four variables with x as the lowest: the class
 /// numbers, and the mask of each class. `values` has the truth tables, as numbers below 256, of all
 /// subfunctions over the set without x: outputs in order, and of each the assignments rising. What
-/// `seen` has before doesn't matter. If memory is refused, `to` has no meaning.
+/// `memory` has before doesn't matter. If memory is refused, `to` has no meaning.
 pub(crate) fn number_values(
+    alloc: Global,
     values: &[u8],
     x: VarIx,
     set: Mask,
-    seen: &mut PairNumbers,
-    to: &mut Numbered,
+    memory: &mut ClassMemory,
+    to: &mut MaskedNumbers,
 ) -> Result<(), AllocError>
     requires paired { IsPaired values.now x }
     requires few { length values.now ≤ 2 ^ 20 }
@@ -169,13 +168,11 @@ pub(crate) fn number_values(
     ensures { OnOk result
         (NumbersValues (members 16 set) values.now x to.new.numbers.items to.new.masks.items) }
 {
-    let half = values.len() / 2;
-    seen.restart(SPREAD, (BUCKETS_EACH * half + 1).next_power_of_two())?;
-    to.numbers.resize(half, 0)?;
-    for j in 0..half {
-        let number = seen.insert(value_pair(values, x, j))?;
-        to.numbers[j] = number;
-    }
-    write_masks(seen, &variables_of(set), &mut to.masks)?;
+    widen(values, &mut memory.values)?;
+    let entries = EntryPairs::of_table(&memory.values, u32::from(x));
+    memory
+        .pairs
+        .number(alloc, &entries, 256, &mut to.numbers)?;
+    write_masks(&memory.pairs.pairs, &variables_of(set), &mut to.masks)?;
     Ok(())
 }

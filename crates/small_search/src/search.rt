@@ -62,11 +62,11 @@ pub struct Workspace {
 impl Workspace {
     /// A workspace for searches of small problems. Each search enlarges its memory if it needs
     /// more.
-    pub fn new(alloc: Global) -> Result<Workspace, AllocError> {
-        Ok(Workspace {
-            tables: PathTables::new(alloc)?,
+    pub fn new(alloc: Global) -> Workspace {
+        Workspace {
+            tables: PathTables::new(alloc),
             cells: Vec::new(alloc),
-        })
+        }
     }
 }
 
@@ -100,6 +100,7 @@ fn subfunctions_in<'a>(
 /// this requires that there are no pairs to keep.
 #[inline(always)]
 fn next_cell(
+    alloc: Global,
     search: &SmallSearch<'_>,
     tables: &mut PathTables,
     cells: &[Cell],
@@ -115,7 +116,7 @@ fn next_cell(
     ensures cell { IfOk result (λ c. pair_of c ≡ cell_for search.now set) }
     ensures few { IfOk result (λ c. IsFew search.now set c.cost) }
 {
-    tables.add_lowest(search, set)?;
+    tables.add_lowest(alloc, search, set)?;
     let lawful = all_lawful || search.lawful(set);
     let subfunctions = subfunctions_in(search, tables, set);
     Ok(cell_of_set(search, cells, &subfunctions, set, lawful))
@@ -142,7 +143,7 @@ fn find_cells(
         variable: 0,
     })?;
     for number in 1..sets {
-        let cell = next_cell(search, tables, cells, number as Mask, all_lawful)?;
+        let cell = next_cell(alloc, search, tables, cells, number as Mask, all_lawful)?;
         cells.push(cell)?;
     }
     Ok(())
@@ -184,7 +185,7 @@ fn all_cells(alloc: Global, problem: &Problem, pairs: &Pairs) -> Result<Vec<Cell
 {
     let words = words_of(alloc, problem)?;
     let search = SmallSearch::new(problem.inputs(), problem.outputs(), &words, pairs);
-    let mut path = PathTables::new(alloc)?;
+    let mut path = PathTables::new(alloc);
     let mut cells = Vec::new(alloc);
     find_cells(alloc, &search, &mut path, &mut cells)?;
     Ok(cells)

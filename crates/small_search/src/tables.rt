@@ -5,16 +5,16 @@
 
 ghost use Rattle.std.specs.Prelude.{◌≡◌, ◌+◌, ◌-◌, ◌*◌, ◌/◌, ◌^◌, ◌<◌, ◌≤◌, OnOk, length};
 ghost use Rattle.small_search.specs.Joining.{IsJoinedAt};
-ghost use Rattle.small_search.specs.ClassSteps.{IsNumberedFrom, IsReadyAt};
+ghost use Rattle.small_search.specs.ClassSteps.{IsNumbered, IsNumberedFrom, IsReady, IsReadyAt};
 ghost use Rattle.small_search.specs.Paths.{HoldPath};
 ghost use Rattle.small_search.specs.ValuePlaces.{start_of as place_of, values_at};
 ghost use Rattle.subfunction_classes.specs.PairTables.{AllBelow, IsPaired};
 
-use crate::classes::number_values;
+use crate::classes::{ClassMemory, number_values};
 use crate::instance::SmallSearch;
 use crate::values::{join_values, push_points};
 use order_model::{Mask, VarIx};
-use pair_buckets::{Numbered, PairNumbers, number_pairs};
+use pair_numbering::{MaskedNumbers, MaskedPairs, PairMemory};
 use std::alloc::{AllocError, Global};
 
 /// Over at most so many variables a subfunction is kept as its value, the truth table in a byte;
@@ -32,9 +32,9 @@ pub(crate) struct PathTables {
     pub(crate) values: Vec<u8>,
     /// The class tables of sets of four and more variables: at index i that of the set of i + 4
     /// variables.
-    pub(crate) classes: Vec<Numbered>,
-    /// Working memory in which pairs are numbered.
-    seen: PairNumbers,
+    pub(crate) classes: Vec<MaskedNumbers>,
+    /// Working memory in which class tables are made.
+    memory: ClassMemory,
 }
 
 /// The index at which the values over `size` variables, 0 to 3, begin in a list of the values over
@@ -90,16 +90,37 @@ fn make_values(values: &mut [u8], entries: usize, x: VarIx, size: u32)
     join_values(before, x, 1 << (size - 1), own);
 }
 
+/// Overwrites `to` with the class table of the set of `from` with x added: the numbers of the pairs
+/// of its entries that differ in x alone, and their masks. Requires that x is smaller than all
+/// members of the set. What `memory` has before doesn't matter. If memory is refused, `to` has no
+/// meaning.
+#[inline(always)]
+fn add_below(
+    alloc: Global,
+    from: &MaskedNumbers,
+    x: VarIx,
+    memory: &mut PairMemory,
+    to: &mut MaskedNumbers,
+) -> Result<(), AllocError>
+    requires { IsReady from.now x }
+    ensures { OnOk result (IsNumbered from.now to.new x) }
+{
+    let pairs = MaskedPairs::of_table(&from.numbers, u32::from(x), x, &from.masks);
+    memory.number_with_masks(alloc, &pairs, to)?;
+    Ok(())
+}
+
 /// Overwrites `classes[size - 4]` with the class table of a set of `size` variables, 5 to 16. Makes
 /// it from `classes[size - 5]`, the table of the set without its lowest variable x. Requires
-/// `classes` to have both. What `seen` has before doesn't matter. If memory is refused,
+/// `classes` to have both. What `memory` has before doesn't matter. If memory is refused,
 /// `classes[size - 4]` has no meaning.
 #[inline(always)]
 fn make_classes(
-    classes: &mut [Numbered],
+    alloc: Global,
+    classes: &mut [MaskedNumbers],
     size: u32,
     x: VarIx,
-    seen: &mut PairNumbers,
+    memory: &mut PairMemory,
 ) -> Result<(), AllocError>
     requires more { 4 < size }
     requires few { size ≤ 16 }
@@ -108,8 +129,8 @@ fn make_classes(
     ensures { OnOk result (IsNumberedFrom classes.old classes.new (size - 5) x) }
 {
     let (smaller, others) = classes.split_at_mut(size as usize - 4);
-    let Numbered { numbers, masks } = &smaller[size as usize - 5];
-    number_pairs(numbers, x, masks, seen, &mut others[0])
+    let smaller = &*smaller;
+    add_below(alloc, &smaller[size as usize - 5], x, memory, &mut others[0])
 }
 
 /// Appends empty class tables to `classes`, each with room for `room` pairs, until it has at least
@@ -118,27 +139,30 @@ fn make_classes(
 fn add_tables(
     alloc: Global,
     room: usize,
-    classes: &mut Vec<Numbered>,
+    classes: &mut Vec<MaskedNumbers>,
     inputs: usize,
 ) -> Result<(), AllocError>
     ensures { OnOk result (inputs ≤ 3 + length classes.new.items) }
 {
     let missing = inputs.saturating_sub(3).saturating_sub(classes.len());
     for _size in 0..missing {
-        classes.push(Numbered::with_room(alloc, room)?)?;
+        classes.push(MaskedNumbers::with_room(alloc, room)?)?;
     }
     Ok(())
 }
 
 impl PathTables {
     /// Path tables that belong to no search yet. `restart` makes them those of a search.
-    pub(crate) fn new(alloc: Global) -> Result<PathTables, AllocError> {
-        Ok(PathTables {
+    pub(crate) fn new(alloc: Global) -> PathTables {
+        PathTables {
             entries: 0,
             values: Vec::new(alloc),
             classes: Vec::new(alloc),
-            seen: PairNumbers::new(alloc)?,
-        })
+            memory: ClassMemory {
+                pairs: PairMemory::new(alloc),
+                values: Vec::new(alloc),
+            },
+        }
     }
 
     /// Makes these the tables for the empty set and the functions of `search`, whatever they were
@@ -174,6 +198,7 @@ impl PathTables {
     #[inline(always)]
     pub(crate) fn add_lowest(
         &mut self,
+        alloc: Global,
         search: &SmallSearch<'_>,
         set: Mask,
     ) -> Result<(), AllocError>
@@ -190,9 +215,9 @@ impl PathTables {
             make_values(&mut self.values, self.entries, x, size);
         } else if size == MOST_VALUE_VARIABLES + 1 {
             let values = values_over(&self.values, self.entries, MOST_VALUE_VARIABLES);
-            number_values(values, x, set, &mut self.seen, &mut self.classes[0])?;
+            number_values(alloc, values, x, set, &mut self.memory, &mut self.classes[0])?;
         } else {
-            make_classes(&mut self.classes, size, x, &mut self.seen)?;
+            make_classes(alloc, &mut self.classes, size, x, &mut self.memory.pairs)?;
         }
         Ok(())
     }

@@ -122,7 +122,7 @@ fn finds_words_small(rt: &impl Abort, alloc: Global, tables: &Tables) -> bool {
 /// Whether the search for small problems writes the optimum of the words, with memory of a larger
 /// search.
 fn writes_words_small(rt: &impl Abort, alloc: Global) -> bool {
-    let mut workspace = Workspace::new(alloc).expect(rt, "memory");
+    let mut workspace = Workspace::new(alloc);
     let pairs = Pairs::none(4);
     let parity = SmallSearch::new(4, 1, &[0x6996], &pairs);
     let parity_size = write_optimum(alloc, &parity, &mut workspace, &mut [0; 4], &mut [0; 4]);

@@ -19,3 +19,4 @@ pub mod DistinctPairs
 pub mod OneMoreVariable
 pub mod LowSets
 pub mod StripLengths
+pub mod HighSets

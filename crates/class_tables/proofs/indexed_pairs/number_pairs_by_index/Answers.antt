@@ -21,7 +21,7 @@ returns c =
     let distinct = c.in_ok-distinct.distinct.items in
     let n = c.deref.ensures.value in
     let m = c.in_ok-distinct.ensures in
-    let joined = c.in_ok-joined.ensures ∙ ap (map join) c.deref-2.ensures.value in
+    let joined = c.in_ok-join_masks.ensures ∙ ap (map join) c.deref-2.ensures.value in
     record {
       numbers_are = c.in_ok-indexed.ensures;
       many = ap length joined ∙ masks_many ps c.deref.result.now distinct m.numbered_are m.many m.labels join;

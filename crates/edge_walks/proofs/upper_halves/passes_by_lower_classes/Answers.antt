@@ -6,7 +6,7 @@ use Rattle.rayon.proofs.ListFacts.{IfOk-then}
 use Rattle.definitions.specs.Problems.{functions}
 use Rattle.edge_walks.specs.LowerClasses.{IsWide}
 use Rattle.edge_walks.specs.Tables.{rows_with}
-use Rattle.pair_buckets.proofs.HighSets.{double}
+use Rattle.subfunction_classes.proofs.HighSets.{double}
 use Rattle.edge_walks.proofs.IntoOne.{none_into}
 use Rattle.edge_walks.proofs.WalkTables.{wide_upper}
 use Rattle.std.proofs.lemmas.Grind.{common_steps}

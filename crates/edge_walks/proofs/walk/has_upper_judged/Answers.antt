@@ -3,7 +3,7 @@ use Rattle.std.proofs.Math.Pow.{pow_mono}
 use Rattle.std.proofs.lemmas.Nat.{one_shl, pow_pos}
 use Rattle.definitions.specs.Problems.{functions}
 use Rattle.edge_walks.proofs.FirstEdges.{none_judged}
-use Rattle.pair_buckets.proofs.HighSets.{double}
+use Rattle.subfunction_classes.proofs.HighSets.{double}
 use Rattle.edge_walks.proofs.walk.has_upper_judged.Goals as goal
 
 pub overflow_add-set : goal.overflow_add-set

@@ -2,7 +2,7 @@ use Rattle.std.proofs.Common.{◌≡◌, ℕ, zero, suc, ◌*◌, ◌^◌, ◌<�
 use Rattle.std.proofs.Math.Nat.{mul-le-mul_right}
 use Rattle.std.proofs.lemmas.Nat.{ones-le}
 use Rattle.definitions.specs.Problems.{TruthTables, functions}
-use Rattle.pair_buckets.specs.declared.numbers.Numbered.{Numbered}
+use Rattle.pair_numbering.specs.declared.numbers.MaskedNumbers.{MaskedNumbers}
 use Rattle.definitions.proofs.Bits.Ones.{ones-members}
 use Rattle.subfunction_classes.specs.Dependence.{AreMasks}
 use Rattle.subfunction_classes.specs.Table.{HoldsClasses, classes_of, set_of}
@@ -79,7 +79,7 @@ returns-else-size-le-MOST_VALUE_VARIABLES c =
     let t = classes_of p set in
     let e = c.deref-else-size-le-MOST_VALUE_VARIABLES.ensures.value in
     let f = c.if-size-le-MOST_VALUE_VARIABLES.false in
-    let held = subst (λ (u : Numbered). HoldsClasses t u.numbers.items u.masks.items) (sym c.index.ensures)
+    let held = subst (λ (u : MaskedNumbers). HoldsClasses t u.numbers.items u.masks.items) (sym c.index.ensures)
     (own_all (λ s i. HoldNumbers p s c.args.tables.now.classes.items i c.index.result.now) set
     (λ k. c.requires.path.numbers k c.index.result.now) (omega (arith, f))) in
     let less = few_masks t _ _ held in

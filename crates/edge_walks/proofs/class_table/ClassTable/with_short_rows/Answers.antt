@@ -3,7 +3,7 @@ use Rattle.std.specs.Option.{IfSome}
 use Rattle.subfunction_classes.specs.Table.{HoldsClasses}
 use Rattle.edge_walks.specs.Rows.{IsShortened}
 use Rattle.edge_walks.specs.Tables.{HoldsTable, TableOf, classes_at, table_at}
-use Rattle.pair_buckets.proofs.HighSets.{double}
+use Rattle.subfunction_classes.proofs.HighSets.{double}
 use Rattle.edge_walks.proofs.Rows.{short_finer, short_then}
 use Rattle.edge_walks.proofs.ShortenedTables.{ready, rows}
 use Rattle.edge_walks.proofs.class_table.ClassTable.with_short_rows.Goals as goal

@@ -1,4 +1,4 @@
-use Rattle.std.proofs.Common.{◌≡◌, ◌+◌, ◌<◌, ◌/◌, ◌%◌, ◌^◌, bit_or, sym, subst, arith}
+use Rattle.std.proofs.Common.{◌≡◌, ◌+◌, ◌<◌, ◌/◌, ◌%◌, ◌^◌, bit_or, sym, subst, ◌∙◌, arith}
 use Rattle.std.proofs.lemmas.Nat.{one_shl}
 use Rattle.subfunction_classes.specs.PairTables.{NumbersPairs}
 use Rattle.subfunction_classes.specs.Places.{pairs}
@@ -7,8 +7,14 @@ use Rattle.edge_walks.proofs.Full.{full_more}
 use Rattle.edge_walks.proofs.ShortenedTables.{pair_table, ready, rows_more}
 use Rattle.edge_walks.proofs.class_table.ClassTable.with_variable.Goals as goal
 
-pub numbered_pairs-requires : goal.numbered_pairs-requires
-numbered_pairs-requires c = grind (arith, pair_table, ready)
+pub of_table-pairs-requires-clause-table : goal.of_table-pairs-requires-clause-table
+of_table-pairs-requires-clause-table c = grind (arith, pair_table, ready)
+
+pub of_table-pairs-requires-clause-few : goal.of_table-pairs-requires-clause-few
+of_table-pairs-requires-clause-few c = grind (arith, pair_table, ready)
+
+pub of_table-pairs-requires-clause-variable : goal.of_table-pairs-requires-clause-variable
+of_table-pairs-requires-clause-variable c = grind (arith, pair_table, ready)
 
 pub table_of-requires : goal.table_of-requires
 table_of-requires c =
@@ -21,9 +27,12 @@ table_of-requires c =
     let free = subst (λ (z : TableOf). z.set % 2 ^ (c.args.x + 1) ≡ 0) (sym c.self.view_is) c.requires.free in
     let out = c.in_ok-numbered-in-None.numbered.numbers.items in
     let joined = c.in_ok-numbered-in-None.numbered.masks.items in
-    let made = subst (λ us. NumbersPairs us c.args.x (pairs ns (2 ^ c.args.x)) out joined) c.deref-in-None.ensures.value
-    (subst (λ us. NumbersPairs c.deref-in-None.result.now c.args.x (pairs us (2 ^ c.args.x)) out joined) c.deref.ensures.value
-    c.in_ok-numbered-in-None.ensures) in
+    let t' = c.of_table-pairs.ensures in
+    let masks = t'.masks ∙ c.deref-in-None.ensures.value in
+    let numbers = t'.numbers ∙ c.deref.ensures.value in
+    let rank = t'.rank ∙ c.from.ensures in
+    let made = subst (λ z. z) (λ i. NumbersPairs (masks i) (t'.variable i) (pairs (numbers i) (2 ^ rank i)) out joined)
+    c.in_ok-numbered-in-None.ensures in
     let s = one_shl c.args.x 16 (omega arith) in
     subst (λ k. HoldsRows (table_at c.self.inside.problem.now (bit_or c.self.inside.set k) c.args.x) out joined) (sym s)
     (rows_more t c.args.x inside below free ns ms rows out joined made)

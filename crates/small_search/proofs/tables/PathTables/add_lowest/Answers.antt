@@ -6,7 +6,7 @@ use Rattle.std.proofs.lemmas.List.{length-set, with_items_is}
 use Rattle.std.proofs.lemmas.Nat.{ones-le}
 use Rattle.definitions.specs.Orders.{members}
 use Rattle.definitions.specs.Problems.{TruthTables}
-use Rattle.pair_buckets.specs.declared.numbers.Numbered.{Numbered}
+use Rattle.pair_numbering.specs.declared.numbers.MaskedNumbers.{MaskedNumbers}
 use Rattle.subfunction_classes.specs.PairTables.{AllBelow, IsPaired, NumbersPairs}
 use Rattle.subfunction_classes.specs.Places.{pairs}
 use Rattle.subfunction_classes.specs.Table.{HoldsClasses, classes_of}
@@ -87,8 +87,8 @@ module _ (p : TruthTables) (set : ℕ) (old : PathTables) (g : IsGiven p set old
     is_below = below p set x g.is.low g.is.within _ (size - 1) are g.is.less
 
   -- more than four
-  module _ (more : 4 < size) (d : Numbered) where
-    abbrev table : Numbered
+  module _ (more : 4 < size) (d : MaskedNumbers) where
+    abbrev table : MaskedNumbers
     table = get_or old.classes.items (size - 5) d
 
     classes : HoldsClasses (classes_of p (set - 2 ^ x)) table.numbers.items table.masks.items
@@ -111,14 +111,14 @@ module _ (p : TruthTables) (set : ℕ) (old : PathTables) (g : IsGiven p set old
     step_values made classes is long few joined others = record {
       entries_are = same ∙ g.path.entries_are;
       long = ap length is ∙ long ∙ g.path.long ∙ ap (λ e. 2 * e) (sym same);
-      many = subst (λ (v : Vec Numbered Global). p.inputs ≤ 3 + length v.items) (sym classes) g.path.many;
+      many = subst (λ (v : Vec MaskedNumbers Global). p.inputs ≤ 3 + length v.items) (sym classes) g.path.many;
       values = more_all set x size g.is.low refl (λ s i. HoldValues p s old i) g.path.values (λ s i. HoldValues p s new i)
           (λ s i ne ones h l. at i ∙ others i (omega (arith, l, ones)) ne ∙ h l)
           (λ l. at size
           ∙ values_made p set x g.is.low g.is.within _ (size - 1) (are (omega (arith, few))) g.is.less (values_at old.entries made size) joined);
       numbers = λ k d. more_all set x size g.is.low refl (λ s i. HoldNumbers p s old.classes.items i d) (λ j. g.path.numbers j d)
           (λ s i. HoldNumbers p s new.classes.items i d)
-          (λ s i ne ones h. subst (λ (v : Vec Numbered Global). HoldNumbers p s v.items i d) (sym classes) h)
+          (λ s i ne ones h. subst (λ (v : Vec MaskedNumbers Global). HoldNumbers p s v.items i d) (sym classes) h)
           (λ m. absurd (omega (arith, few, m))) k;
     }
       where
@@ -126,9 +126,9 @@ module _ (p : TruthTables) (set : ℕ) (old : PathTables) (g : IsGiven p set old
         at i = ap₂ (λ e vs. values_at e vs i) same is
 
     -- and with another class table
-    step_classes : (made : List Numbered) → new.values ≡ old.values → new.classes.items ≡ made → length made ≡ length old.classes.items → 3 < size →
-        ((d : Numbered) → HoldsClasses (classes_of p set) (get_or made (size - 4) d).numbers.items (get_or made (size - 4) d).masks.items) →
-        ((j : ℕ) (d : Numbered) → j ≢ size - 4 → get_or made j d ≡ get_or old.classes.items j d) → HoldPath p set new
+    step_classes : (made : List MaskedNumbers) → new.values ≡ old.values → new.classes.items ≡ made → length made ≡ length old.classes.items → 3 < size →
+        ((d : MaskedNumbers) → HoldsClasses (classes_of p set) (get_or made (size - 4) d).numbers.items (get_or made (size - 4) d).masks.items) →
+        ((j : ℕ) (d : MaskedNumbers) → j ≢ size - 4 → get_or made j d ≡ get_or old.classes.items j d) → HoldPath p set new
     step_classes made values is long more own others = record {
       entries_are = same ∙ g.path.entries_are;
       long = ap (λ (v : Vec ℕ Global). length v.items) values ∙ g.path.long ∙ ap (λ e. 2 * e) (sym same);
@@ -138,11 +138,11 @@ module _ (p : TruthTables) (set : ℕ) (old : PathTables) (g : IsGiven p set old
           (λ l. absurd (omega (arith, l, more)));
       numbers = λ k d. more_all set x size g.is.low refl (λ s i. HoldNumbers p s old.classes.items i d) (λ j. g.path.numbers j d)
           (λ s i. HoldNumbers p s new.classes.items i d)
-          (λ s i ne ones h m. subst (λ (us : List Numbered). HoldsClasses (classes_of p s) (get_or us (i - 4) d).numbers.items
+          (λ s i ne ones h m. subst (λ (us : List MaskedNumbers). HoldsClasses (classes_of p s) (get_or us (i - 4) d).numbers.items
           (get_or us (i - 4) d).masks.items) (sym is)
-          (subst (λ (t : Numbered). HoldsClasses (classes_of p s) t.numbers.items t.masks.items)
+          (subst (λ (t : MaskedNumbers). HoldsClasses (classes_of p s) t.numbers.items t.masks.items)
           (sym (others (i - 4) d (λ e. ne (let f : i ≡ size = omega (arith, e, m, ones, more) in f)))) (h m)))
-          (subst (λ (us : List Numbered). HoldNumbers p set us size d) (sym is) (λ m. own d)) k;
+          (subst (λ (us : List MaskedNumbers). HoldNumbers p set us size d) (sym is) (λ m. own d)) k;
     }
 
 pub make_values-requires-clause-some : goal.make_values-requires-clause-some
@@ -180,7 +180,7 @@ returns-then-size-le-MOST_VALUE_VARIABLES c =
     let made = c.make_values.ensures in
     let size = count_ones set in
     step_values c.args.search.now.problem set old g
-    (record { entries = old.entries; values = with_items old.values c.make_values.new.values; classes = old.classes; seen = old.seen })
+    (record { entries = old.entries; values = with_items old.values c.make_values.new.values; classes = old.classes; memory = old.memory })
     refl c.make_values.new.values refl (with_items_is old.values c.make_values.new.values (made.long ∙ d.len)) (made.long ∙ ap length d.value)
     c.if-size-le-MOST_VALUE_VARIABLES.true
     (subst (λ (vs : List ℕ). AreJoined (values_at old.entries vs (size - 1)) (trailing_zeros w16 set) (2 ^ 2 ^ (size - 1))
@@ -257,7 +257,7 @@ make_classes-requires-clause-ready c = λ d.
     c.requires.path i.value i.few o.value o.few in
     let a = c.if-size-le-MOST_VALUE_VARIABLES.false in
     let b = c.if-size.false in
-    subst (λ (us : List Numbered). IsReady (get_or us (count_ones c.args.set - 5) d) (trailing_zeros w16 c.args.set)) (sym c.deref_mut-else-size.ensures.value)
+    subst (λ (us : List MaskedNumbers). IsReady (get_or us (count_ones c.args.set - 5) d) (trailing_zeros w16 c.args.set)) (sym c.deref_mut-else-size.ensures.value)
     (is_ready c.args.search.now.problem c.args.set c.args.self.now g (omega (arith, a, b)) d)
 
 pub returns-in_ok-number_values : goal.returns-in_ok-number_values
@@ -290,9 +290,9 @@ returns-in_ok-number_values c =
     let some : 0 < length old.classes.items = omega (arith, many, f, t) in
     let zero' : count_ones set' - 4 ≡ 0 = omega (arith, t) in
     step_classes p set' old g
-    (record { entries = old.entries; values = old.values; classes = with_item old.classes 0 to; seen = c.number_values.new.seen }) refl
+    (record { entries = old.entries; values = old.values; classes = with_item old.classes 0 to; memory = c.number_values.new.memory }) refl
     (set old.classes.items 0 to) refl refl (length-set old.classes.items 0 to) (omega (arith, t))
-    (λ d. subst (λ (u : Numbered). HoldsClasses (classes_of p set') u.numbers.items u.masks.items)
+    (λ d. subst (λ (u : MaskedNumbers). HoldsClasses (classes_of p set') u.numbers.items u.masks.items)
     (sym (ap (λ k. get_or (set old.classes.items 0 to) k d) zero' ∙ get_or-set_same old.classes.items 0 to d some)) h)
     (λ j d ne. get_or-set_other old.classes.items 0 j to d (λ z. ne (z ∙ sym zero')))
 
@@ -312,10 +312,10 @@ returns-in_ok-make_classes c =
     let more : 4 < count_ones set' = omega (arith, a, b) in
     let d' = c.deref_mut-else-size.ensures in
     let made = c.make_classes.new.classes in
-    let from = subst (λ (us : List Numbered). IsNumberedFrom us made (count_ones set' - 5) x) d'.value c.in_ok-make_classes.ensures in
+    let from = subst (λ (us : List MaskedNumbers). IsNumberedFrom us made (count_ones set' - 5) x) d'.value c.in_ok-make_classes.ensures in
     let one : count_ones set' - 5 + 1 ≡ count_ones set' - 4 = omega (arith, more) in
     step_classes p set' old g
-    (record { entries = old.entries; values = old.values; classes = with_items old.classes made; seen = c.make_classes.new.seen }) refl
+    (record { entries = old.entries; values = old.values; classes = with_items old.classes made; memory = record { pairs = c.make_classes.new.memory; values = old.memory.values } }) refl
     made refl (with_items_is old.classes made (from.long ∙ sym (ap length d'.value) ∙ d'.len)) from.long (omega (arith, more))
     (λ d. let u = get_or old.classes.items (count_ones set' - 5) d in
     classes_made p set' x n.low n.within u.numbers.items u.masks.items (classes p set' old g more d)

@@ -2,7 +2,7 @@ use Rattle.std.proofs.Common.{◌≡◌, ◌-◌, ◌*◌, ◌%◌, ◌<◌, ◌
 use Rattle.std.proofs.Math.Nat.{mod-eq_of_lt}
 use Rattle.std.proofs.Math.Pow.{pow_mono}
 use Rattle.std.proofs.lemmas.Nat.{pow_pos}
-use Rattle.pair_buckets.proofs.HighSets.{high_room, multiple, place_below}
+use Rattle.subfunction_classes.proofs.HighSets.{high_room, multiple, place_below}
 use Rattle.edge_walks.proofs.parallel.fn.first_by_tasks.map.Goals as goal
 
 -- a part, as a mask

@@ -3,24 +3,24 @@ use Rattle.subfunction_classes.specs.Dependence.{joined_mask}
 use Rattle.subfunction_classes.specs.Places as places
 use Rattle.pair_numbering.specs.Numbers.{ArePairsBelow}
 use Rattle.subfunction_classes.proofs.DistinctPairs.{met_classes, masks_many, masks_told}
-use Rattle.pair_numbering.proofs.numbers.number_with_masks.Goals as goal
+use Rattle.pair_numbering.proofs.memory.PairMemory.number_with_masks.Goals as goal
 
 pub join_masks-requires-clause-classes : goal.join_masks-requires-clause-classes
 join_masks-requires-clause-classes c =
-    let n = c.in_ok-numbered-2.ensures in
+    let n = c.in_ok-number.ensures in
     subst (λ us. ArePairsBelow us (length c.args.pairs.now.masks.now)) (sym c.deref.ensures.value)
     (met_classes c.args.pairs.now.entries.numbers c.args.pairs.now.entries.rank (length c.args.pairs.now.masks.now)
     c.rank.ensures.table.paired.whole c.rank.ensures.table.below
-    c.in_ok-numbered-2.numbered.numbers.items c.in_ok-numbered-2.numbered.pairs.items n.numbered_are n.many n.labels)
+    c.number.new.numbers.items c.number.new.self.pairs.items n.numbered_are n.many n.labels)
 
 pub returns : goal.returns
 returns c =
     let ps = places.pairs c.args.pairs.now.entries.numbers (2 ^ c.args.pairs.now.entries.rank) in
     let join = joined_mask c.args.pairs.now.masks.now c.args.pairs.now.x in
-    let numbers = c.in_ok-numbered-2.numbered.numbers.items in
-    let pairs = c.in_ok-numbered-2.numbered.pairs.items in
-    let n = c.in_ok-numbered-2.ensures in
-    let joined = c.in_ok-joined.ensures ∙ ap (map join) c.deref.ensures.value in
+    let numbers = c.number.new.numbers.items in
+    let pairs = c.number.new.self.pairs.items in
+    let n = c.in_ok-number.ensures in
+    let joined = c.in_ok-join_masks.ensures ∙ ap (map join) c.deref.ensures.value in
     record {
       numbers_are = n.numbered_are;
       many = ap length joined ∙ masks_many ps numbers pairs n.numbered_are n.many n.labels join;

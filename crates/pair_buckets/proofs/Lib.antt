@@ -1,2 +1,0 @@
-pub mod ChainSteps
-pub mod HighSets

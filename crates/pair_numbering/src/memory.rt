@@ -1,0 +1,93 @@
+//! Numbers of pairs by first occurrence, and their masks, in memory that is used again: by cells,
+//! slots or chains, whichever is fastest.
+
+ghost use Rattle.std.specs.Prelude.{◌≡◌, ℕ, ◌*◌, ◌^◌, ◌<◌, ◌≤◌, length, OnOk};
+ghost use Rattle.subfunction_classes.specs.PairTables.{IsPairTable};
+ghost use Rattle.pair_numbering.specs.Numbers.{ArePairsNumbered};
+ghost use Rattle.pair_numbering.specs.MaskedNumbers.{NumbersMasked};
+
+use crate::cells::number_pairs_by_cells;
+use crate::chains::{find_first_pairs, number_firsts};
+use crate::entries::EntryPairs;
+use crate::masks::{MaskedPairs, join_masks};
+use crate::numbers::MaskedNumbers;
+use crate::slots::number_pairs_by_slots;
+use std::alloc::{AllocError, Global};
+
+/// Pairs are numbered by cells if there are at most this many cells for each pair.
+const MOST_CELLS_PER_PAIR: usize = 16;
+
+/// Working memory in which pairs are numbered, and the distinct pairs that `number` found last. What
+/// it holds before a numbering doesn't matter.
+#[derive(Drop)]
+pub struct PairMemory {
+    /// `pairs[k]` is the pair with the number k.
+    pub pairs: Vec<(u32, u32)>,
+    /// How many pairs have each class as their lower class (`CountedPairs`).
+    pub(crate) counts: Vec<u8>,
+    /// Slots of a hash table, each with the number of a pair (`slots.rt`).
+    pub(crate) slots: Vec<u16>,
+    /// A cell for each possible pair (`cells.rt`).
+    pub(crate) cells: Vec<u16>,
+}
+
+impl PairMemory {
+    /// Memory that is empty: a numbering takes what it needs.
+    pub fn new(alloc: Global) -> PairMemory {
+        PairMemory {
+            pairs: Vec::new(alloc),
+            counts: Vec::new(alloc),
+            slots: Vec::new(alloc),
+            cells: Vec::new(alloc),
+        }
+    }
+
+    /// Numbers the pairs by first occurrence: overwrites `numbers` with the number of each pair, and
+    /// `self.pairs` with the pair of each number. Requires all classes to be below `classes`, which
+    /// is at most 2^20. If memory is refused, the two have no meaning.
+    pub fn number(
+        &mut self,
+        alloc: Global,
+        entries: &EntryPairs<'_>,
+        classes: usize,
+        numbers: &mut Vec<u32>,
+    ) -> Result<(), AllocError>
+        requires table { IsPairTable entries.now.numbers entries.now.rank classes }
+        requires few { classes ≤ 2 ^ 20 }
+        ensures { OnOk result
+            (ArePairsNumbered entries.now.numbers entries.now.rank numbers.new.items
+            self.new.pairs.items) }
+    {
+        if number_pairs_by_slots(entries, classes, self, numbers)? {
+            return Ok(());
+        }
+        let first = find_first_pairs(alloc, entries, classes)?;
+        let found = number_firsts(alloc, entries, &first)?;
+        *numbers = found.numbers;
+        self.pairs = found.pairs;
+        Ok(())
+    }
+
+    /// Numbers the pairs by first occurrence: overwrites `to` with the number of each pair, and with
+    /// the mask of the function whose cofactors are the pair of each number. If memory is refused,
+    /// `to` has no meaning.
+    pub fn number_with_masks(
+        &mut self,
+        alloc: Global,
+        pairs: &MaskedPairs<'_>,
+        to: &mut MaskedNumbers,
+    ) -> Result<(), AllocError>
+        ensures { OnOk result (NumbersMasked pairs.now to.new.numbers.items to.new.masks.items) }
+    {
+        prove!(pairs.rank() < 16);
+        let classes = pairs.masks.len();
+        if classes * classes <= MOST_CELLS_PER_PAIR * pairs.entries.len() {
+            if number_pairs_by_cells(pairs, &mut self.cells, to)? {
+                return Ok(());
+            }
+        }
+        self.number(alloc, &pairs.entries, classes, &mut to.numbers)?;
+        join_masks(&self.pairs, pairs.x, pairs.masks, &mut to.masks)?;
+        Ok(())
+    }
+}
