@@ -1,8 +1,8 @@
 #!/usr/bin/env python3
 """gate_cost.py [--anew]      runs the gate in this checkout and says what it took of processor time; with --anew nothing that an
                          earlier run kept is taken
-gate_cost.py --beside COMMIT [CRATE..]      runs the whole gate in clean clones of HEAD and of the commit at once, each on half of
-                         the cores, and says what each took and how the two compare; some kits can run it for single crates
+gate_cost.py --beside COMMIT      runs the gate in clean clones of HEAD and of the commit at once, each on half of the cores, and
+                         says what each took, all together and crate by crate
 gate_cost.py --unit      takes the unit alone
 
 The unit is what one fixed proof takes on the same machine in the same hour with nothing beside it: that of the kit's example
@@ -144,7 +144,14 @@ class Gate:
         return f"{self.passed / 60:.0f} min, {self.seconds:.0f} s of processor time: {parts}; status {self.status}"
 
 
-def beside(commit: str, words: list[str]) -> None:
+def compare(ours: dict[str, Seconds], theirs: dict[str, Seconds]) -> None:
+    """Prints what each crate takes in two gates, those first that grew most."""
+    total = {crate: (sum(ours.get(crate, {}).values()), sum(theirs.get(crate, {}).values())) for crate in {*ours, *theirs}}
+    for crate, (own, other) in sorted(total.items(), key=lambda it: it[1][1] - it[1][0]):
+        print(f"  {crate}: {own:.0f} s, {other:.0f} s")
+
+
+def beside(commit: str) -> None:
     """Runs the gate of HEAD and that of a commit at once, each on one half of the cores."""
     cores = sorted(os.sched_getaffinity(0))
     half = len(cores) // 2
@@ -155,10 +162,11 @@ def beside(commit: str, words: list[str]) -> None:
             told = subprocess.run(["git", "rev-parse", name], cwd=TOP, check=True, capture_output=True, text=True)
             subprocess.run(["git", "clone", "-q", TOP, top], check=True)
             subprocess.run(["git", "checkout", "-q", told.stdout.strip()], cwd=top, check=True)
-            runs.append(pool.submit(Gate, top, ["--anew", *words], own))
+            runs.append(pool.submit(Gate, top, ["--anew"], own))
         ours, theirs = (it.result() for it in runs)
     print(f"HEAD: {ours}\n{commit}: {theirs}")
-    print(f"HEAD takes {ours.seconds / theirs.seconds:.2f} of the processor time, {ours.passed / theirs.passed:.2f} of the time")
+    print(f"HEAD takes {ours.seconds / theirs.seconds:.3f} of the processor time, {ours.passed / theirs.passed:.2f} of the time")
+    compare(ours.found, theirs.found)
     sys.exit(ours.status)
 
 
@@ -176,8 +184,8 @@ def write_costs(found: dict[str, Seconds]) -> None:
 
 
 def main(words: list[str]) -> None:
-    if words[:1] == ["--beside"] and len(words) > 1:
-        return beside(words[1], words[2:])
+    if words[:1] == ["--beside"] and len(words) == 2:
+        return beside(words[1])
     first = unit()
     if words == ["--unit"]:
         print(f"one unit: {first:.1f} s of processor time")

@@ -8,7 +8,9 @@ ghost use Rattle.pair_numbering.specs.MaskedNumbers.{NumbersMasked};
 ghost use Rattle.pair_numbering.specs.Numbers.{ArePairsNumbered};
 
 use indexmap::IndexSet;
-use pair_numbering::{EntryPairs, MaskedNumbers, MaskedPairs, join_masks, number_with_masks};
+use pair_numbering::{
+    EntryPairs, MaskedNumbers, MaskedPairs, PairMemory, join_masks, number_with_masks,
+};
 use std::alloc::{AllocError, Global};
 
 /// The number, by first occurrence, of each pair in `entries`, found with an `IndexSet`. A pair has
@@ -81,6 +83,6 @@ pub(crate) fn number_by(
     if indexed {
         number_pairs_by_index(alloc, pairs)
     } else {
-        number_with_masks(alloc, pairs)
+        number_with_masks(&mut PairMemory::new(alloc), pairs)
     }
 }

@@ -21,14 +21,14 @@ use Rattle.subfunction_classes.specs.Places.{low_place, pairs}
 use Rattle.compaction.specs.Rows.{width_wanted}
 use Rattle.pair_numbering.specs.Keys.{AreUsed, TellsPairs}
 use Rattle.subfunction_classes.specs.Strips.{unrolled}
-use Rattle.value_strips.specs.ValueStrips.{AreStrips}
+use Rattle.compaction.specs.ValueStrips.{AreStrips}
 use Rattle.compaction.specs.Strips.{AreDistinct, HoldsStrips, HoldsStripTable, masks_in_use, HoldsKeys}
 use Rattle.subfunction_classes.specs.Table.{ClassesOf, with_variable, functions_of, set_of, free_below}
 use Rattle.subfunction_classes.proofs.CountedWidths.{length_filter_map}
 use Rattle.subfunction_classes.proofs.Index.{length-pairs, pair_listed, pair_within}
 use Rattle.compaction.proofs.KeyTables.{keys_ready, keys_by_names}
 use Rattle.compaction.proofs.StripTables.{parts_of}
-use Rattle.value_strips.proofs.UnrolledTables.{same_by_places, length_unrolled, unrolled_at}
+use Rattle.compaction.proofs.UnrolledTables.{same_by_places, length_unrolled, unrolled_at}
 use Rattle.compaction.proofs.UsedNumbers.{in_use_same, width_by_use}
 
 -- the same value so many times

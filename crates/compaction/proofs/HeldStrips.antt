@@ -14,7 +14,7 @@ use Rattle.definitions.proofs.Lists.Orders.{has_variables}
 use Rattle.subfunction_classes.specs.PairTables.{IsPairTable}
 use Rattle.subfunction_classes.specs.Places.{pairs}
 use Rattle.subfunction_classes.specs.Strips.{unrolled}
-use Rattle.value_strips.specs.ValueStrips.{AreStrips, HoldsValues}
+use Rattle.compaction.specs.ValueStrips.{AreStrips, HoldsValues}
 use Rattle.compaction.specs.Strips.{GrowsStrips, HoldsStrips, IsStripTable, HoldsKeys}
 use Rattle.pair_numbering.specs.Keys.{TellsPairs}
 use Rattle.subfunction_classes.specs.Table.{ClassesOf, classes_of, with_variable, set_of, free_below}
@@ -24,7 +24,7 @@ use Rattle.compaction.proofs.KeyTables.{keys_ready, free_zero, value_keys, keys_
 use Rattle.pair_numbering.proofs.Names.{names_below, length_names}
 use Rattle.compaction.proofs.StripTables.{parts_of, below_product, low_strips, low_tells}
 use Rattle.subfunction_classes.proofs.Index.{length-pairs}
-use Rattle.value_strips.proofs.UnrolledTables.{named_of, length_unrolled, unrolled_at}
+use Rattle.compaction.proofs.UnrolledTables.{named_of, length_unrolled, unrolled_at}
 
 -- one step of the count
 step_of_bit : (set y : ℕ) → free_below set (suc y) ≡ free_below set y + cond (not (eqb (bit_at set y) 1)) 1 0

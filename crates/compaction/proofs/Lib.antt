@@ -15,3 +15,6 @@ pub mod AllDistinct
 pub mod FirstSets
 pub mod OrderedStrips
 pub mod ImageRows
+pub mod UnrolledTables
+pub mod StripNumbers
+pub mod NamedStrips

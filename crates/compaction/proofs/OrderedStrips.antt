@@ -4,10 +4,10 @@
 use Rattle.std.proofs.Common.{◌≡◌, ℕ, ◌*◌, ◌/◌, ◌<◌, List, length, get_or, sym, ap, ◌∙◌, subst, arith}
 use Rattle.subfunction_classes.specs.Places.{pairs}
 use Rattle.subfunction_classes.specs.Strips.{unrolled}
-use Rattle.value_strips.specs.ValueStrips.{AreStrips}
+use Rattle.compaction.specs.ValueStrips.{AreStrips}
 use Rattle.pair_numbering.specs.Keys.{TellsPairs}
 use Rattle.compaction.proofs.AllDistinct.{own_count}
-use Rattle.value_strips.proofs.StripNumbers.{whole_are, whole_values}
+use Rattle.compaction.proofs.StripNumbers.{whole_are, whole_values}
 use Rattle.subfunction_classes.proofs.Index.{length-pairs}
 use Rattle.pair_numbering.proofs.Names.{length_names}
 

@@ -10,7 +10,7 @@ use Rattle.pair_numbering.specs.Chains.{lower_at, upper_at}
 use Rattle.pair_numbering.specs.Numbers.{ArePairsNumbered}
 use Rattle.subfunction_classes.specs.Places as places
 use Rattle.subfunction_classes.specs.Strips.{AreNamed, names_of, unrolled}
-use Rattle.value_strips.specs.ValueStrips.{AreStrips}
+use Rattle.compaction.specs.ValueStrips.{AreStrips}
 use Rattle.subfunction_classes.proofs.DistinctPairs.{met_classes, number_below, pair_numbered}
 use Rattle.subfunction_classes.proofs.Index.{length-pairs, pair_listed}
 use Rattle.subfunction_classes.proofs.StripLengths.{length_named, length_names_of, name_high, name_low, named_at}

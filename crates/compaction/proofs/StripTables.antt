@@ -12,7 +12,7 @@ use Rattle.pair_numbering.specs.Chains.{lower_at, upper_at}
 use Rattle.subfunction_classes.specs.Numbering.{rank, ranks}
 use Rattle.subfunction_classes.specs.Places.{low_place, pair_at, pairs}
 use Rattle.subfunction_classes.specs.Strips.{AreNamed, unrolled}
-use Rattle.value_strips.specs.ValueStrips.{AreStrips}
+use Rattle.compaction.specs.ValueStrips.{AreStrips}
 use Rattle.pair_numbering.specs.Keys.{TellsPairs}
 use Rattle.subfunction_classes.proofs.Index.{length-pairs, pair_listed, pair_within}
 use Rattle.subfunction_classes.proofs.JoinedMasks.{number_at, length-ranks}
@@ -21,7 +21,7 @@ use Rattle.subfunction_classes.proofs.Lists.{place_of}
 use Rattle.definitions.proofs.Precedence.Masks.{among_at}
 use Rattle.subfunction_classes.proofs.RankLaws.{rank_below, rank_reached}
 use Rattle.subfunction_classes.proofs.StripLengths.{length_named, named_at}
-use Rattle.value_strips.proofs.UnrolledTables.{named_of, same_by_places, length_unrolled, unrolled_at}
+use Rattle.compaction.proofs.UnrolledTables.{named_of, same_by_places, length_unrolled, unrolled_at}
 
 -- ---- places
 

@@ -28,7 +28,7 @@ use Rattle.subfunction_classes.specs.Dependence.{AreMasks, dependence}
 use Rattle.subfunction_classes.specs.Numbering.{rank, ranks}
 use Rattle.compaction.specs.Rows.{width_wanted}
 use Rattle.subfunction_classes.specs.Strips.{unrolled}
-use Rattle.value_strips.specs.ValueStrips.{AreStrips}
+use Rattle.compaction.specs.ValueStrips.{AreStrips}
 use Rattle.compaction.specs.Strips.{HoldsStrips, masks_in_use}
 use Rattle.pair_numbering.specs.Keys.{AreUsed}
 use Rattle.subfunction_classes.specs.Table.{ClassesOf, functions_of, set_of, free_below}
@@ -38,7 +38,7 @@ use Rattle.definitions.proofs.Lists.Maps.{map_same}
 use Rattle.subfunction_classes.proofs.Lists.{place_of}
 use Rattle.definitions.proofs.Precedence.Masks.{among_at}
 use Rattle.compaction.proofs.StripTables.{parts_of, below_product}
-use Rattle.value_strips.proofs.UnrolledTables.{length_unrolled, unrolled_at}
+use Rattle.compaction.proofs.UnrolledTables.{length_unrolled, unrolled_at}
 use Rattle.subfunction_classes.proofs.RankLaws.{rank_below, rank_reached}
 use mathlib.Core.List.{map-map}
 use Rattle.definitions.proofs.Lists.Ranges.{range_append, filter_at_most}

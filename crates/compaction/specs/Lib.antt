@@ -6,3 +6,5 @@ pub mod Rows
 pub mod Strips
 pub mod Walks
 pub mod Preparations
+pub mod ValueStrips
+pub mod NamedStrips

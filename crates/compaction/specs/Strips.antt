@@ -23,7 +23,7 @@ use Rattle.subfunction_classes.specs.Dependence.{dependence}
 use Rattle.subfunction_classes.specs.Table.{ClassesOf, classes_of, functions_of, set_of, free_below}
 use Rattle.pair_numbering.specs.Keys.{AreUsed, TellsPairs}
 use Rattle.subfunction_classes.specs.Strips.{unrolled}
-use Rattle.value_strips.specs.ValueStrips.{AreStrips}
+use Rattle.compaction.specs.ValueStrips.{AreStrips}
 
 -- how many variables run inside a strip of the empty set
 abbrev pub low_variables : TruthTables → ℕ

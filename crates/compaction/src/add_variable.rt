@@ -8,7 +8,7 @@ ghost use Rattle.compaction.specs.Strips.{GrowsStrips};
 
 use crate::names::{NamePairs, number_names};
 use order_model::{Mask, VarIx};
-use pair_numbering::{MaskedPairs, PairKeys, are_in_order, label_pairs};
+use pair_numbering::{MaskedPairs, PairKeys, PairMemory, are_in_order, label_pairs};
 use std::alloc::{AllocError, Global};
 use std::marker::Model;
 
@@ -96,9 +96,9 @@ fn first_numbers(alloc: Global, count: usize) -> Result<Vec<u32>, AllocError>
 /// and so on in `table.outer`. Returns the strip names of the larger set's class table, which are
 /// again 0, 1, 2 and so on, and its class numbers with their masks. Requires that the set lacks
 /// `x`, that `table.rank` is the number of high variables below `x` outside the set, and that `x`
-/// is below 16.
+/// is below 16. `memory` is working memory.
 fn add_in_order(
-    alloc: Global,
+    memory: &mut PairMemory,
     table: &StripTable<'_>,
     x: VarIx,
 ) -> Result<(Vec<u32>, PairKeys), AllocError>
@@ -110,8 +110,8 @@ fn add_in_order(
         (λ r. IsTrue r.1.all_used → AreUsed r.1.numbers.items r.1.masks.items) }
 {
     let pairs = MaskedPairs::of_table(table.numbers, table.bits + table.rank, x, table.masks);
-    let labels = label_pairs(alloc, &pairs)?;
-    let outer = first_numbers(alloc, table.outer.len() / 2)?;
+    let labels = label_pairs(memory, &pairs)?;
+    let outer = first_numbers(memory.alloc, table.outer.len() / 2)?;
     Ok((outer, labels))
 }
 
@@ -120,9 +120,9 @@ fn add_in_order(
 /// number, by first occurrence, of a pair of strips that differ in `x` alone. `known` may have
 /// these numbers; it is ignored unless it was made for the same names and rank. Requires that the
 /// set lacks `x`, that `table.rank` is the number of high variables below `x` outside the set, and
-/// that `x` is below 16.
+/// that `x` is below 16. `memory` is working memory.
 fn add_by_pairs(
-    alloc: Global,
+    memory: &mut PairMemory,
     table: &StripTable<'_>,
     x: VarIx,
     known: Option<&NamePairs>,
@@ -134,9 +134,9 @@ fn add_by_pairs(
         (λ r. IsTrue r.1.all_used → AreUsed r.1.numbers.items r.1.masks.items) }
 {
     let strips = table.numbers.len() >> table.bits;
-    let runs = number_names(alloc, table.outer, table.rank, strips, known)?;
+    let runs = number_names(memory.alloc, table.outer, table.rank, strips, known)?;
     let pairs = MaskedPairs::of_strips(&runs.pairs, table.numbers, table.bits, x, table.masks);
-    let labels = label_pairs(alloc, &pairs)?;
+    let labels = label_pairs(memory, &pairs)?;
     Ok((runs.numbers, labels))
 }
 
@@ -144,9 +144,9 @@ fn add_by_pairs(
 /// the larger set's class table. `known` may have the numbers of the pairs of strips that differ in
 /// `x` alone; it is ignored unless it was made for the same names and rank. Requires that the set
 /// lacks `x`, that `table.rank` is the number of high variables below `x` outside the set, and that
-/// `x` is below 16.
+/// `x` is below 16. `memory` is working memory.
 pub(crate) fn add_above(
-    alloc: Global,
+    memory: &mut PairMemory,
     table: &StripTable<'_>,
     x: VarIx,
     known: Option<&NamePairs>,
@@ -156,9 +156,9 @@ pub(crate) fn add_above(
         GrowsStrips table.now x g.outer.items g.numbers.items g.masks.items) }
 {
     let (outer, labels) = if are_in_order(table.outer) {
-        add_in_order(alloc, table, x)?
+        add_in_order(memory, table, x)?
     } else {
-        add_by_pairs(alloc, table, x, known)?
+        add_by_pairs(memory, table, x, known)?
     };
     Ok(StripParts {
         outer,

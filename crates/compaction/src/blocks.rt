@@ -11,6 +11,7 @@ use crate::request::WidthRequest;
 use crate::shared_tables::SharedTables;
 use crate::tally::Tally;
 use order_model::{Mask, Problem, WidthRow, contains};
+use pair_numbering::PairMemory;
 use std::alloc::{AllocError, Global};
 use std::marker::Model;
 use subset_layers::Block;
@@ -163,7 +164,7 @@ impl<'a> SharedTables<'a> {
         prove!(self.problem().inputs() <= 16);
         let mut request = WidthRequest::none(alloc, block.inputs(), block.low())?;
         request.add_block(block, needed);
-        let (byte, compactions) = walked_rows(alloc, self, request)?;
+        let (byte, compactions) = walked_rows(&mut PairMemory::new(alloc), self, request)?;
         let rows = self.rows_of_block(alloc, &byte, block, needed)?;
         tally.add_wanted(needed);
         Ok(BlockWidths { rows, compactions })

@@ -9,6 +9,7 @@ use crate::request::WidthRequest;
 use crate::requests::Requests;
 use crate::shared_tables::SharedTables;
 use order_model::{Problem, Workers};
+use pair_numbering::PairMemory;
 use std::alloc::{AllocError, Global};
 use std::sync::atomic::{AtomicU64, Ordering};
 use std::thread;
@@ -62,13 +63,18 @@ impl Turns {
 
 impl<'a> SharedTables<'a> {
     /// Computes the widths that `request` needs, as a row for each set with the low byte of
-    /// `request`. Requires that `request` has the problem's number of variables.
-    fn rows_of(&self, alloc: Global, request: &WidthRequest) -> Result<ByteRows, AllocError>
+    /// `request`. Requires that `request` has the problem's number of variables. `memory` is
+    /// working memory.
+    fn rows_of(
+        &self,
+        memory: &mut PairMemory,
+        request: &WidthRequest,
+    ) -> Result<ByteRows, AllocError>
         requires { request.now.inputs ≡ self.now.inputs }
         ensures { IfOk result (HoldsRows self.now) }
     {
-        let request = request.try_clone(alloc)?;
-        let (byte, _) = walked_rows(alloc, self, request)?;
+        let request = request.try_clone(memory.alloc)?;
+        let (byte, _) = walked_rows(memory, self, request)?;
         Ok(byte)
     }
 
@@ -87,6 +93,7 @@ impl<'a> SharedTables<'a> {
     {
         let mut found = WidthsAhead::up_to(alloc, self.problem(), end);
         let inputs = self.problem().inputs();
+        let mut memory = PairMemory::new(alloc);
         for _turn in 0..256u32 {
             let Some(low) = turns.next() else {
                 break;
@@ -94,7 +101,7 @@ impl<'a> SharedTables<'a> {
             if let Some(request) = requests.of_byte(low)
                 && request.inputs == inputs
             {
-                let byte = self.rows_of(alloc, request)?;
+                let byte = self.rows_of(&mut memory, request)?;
                 found.keep(byte)?;
             }
         }

@@ -13,6 +13,7 @@ use crate::request::WidthRequest;
 use crate::shared_tables::SharedTables;
 use crate::strips::{Strips, low_variables};
 use order_model::{Mask, Problem, VarIx, WidthRow, contains};
+use pair_numbering::PairMemory;
 use std::alloc::{AllocError, Global};
 use std::marker::Model;
 
@@ -117,9 +118,10 @@ fn fill_row(
 /// its high byte h must be in `branch.wanted`. Other rows stay. `names` has pairs of strip names,
 /// numbered beforehand. Returns how many class tables were compacted. Requires that `branch`
 /// decides the members and low variables, `request` has the problem's number of variables, and
-/// `rows` is as long as `request.needed`. If memory is refused, some rows may be written.
+/// `rows` is as long as `request.needed`. If memory is refused, some rows may be written. `memory`
+/// is working memory.
 fn walk(
-    alloc: Global,
+    memory: &mut PairMemory,
     table: &Strips<'_>,
     names: &AllNamePairs,
     branch: &Branch,
@@ -138,7 +140,7 @@ fn walk(
         return Ok(0);
     }
     let Some(y) = branch.next_variable(request.inputs) else {
-        fill_row(alloc, table, request, rows)?;
+        fill_row(memory.alloc, table, request, rows)?;
         return Ok(0);
     };
     let decided = with_member(branch.decided, y);
@@ -146,7 +148,7 @@ fn walk(
         decided,
         wanted: branch.wanted.without(y % 8),
     };
-    let before = walk(alloc, table, names, &without, request, rows)?;
+    let before = walk(memory, table, names, &without, request, rows)?;
     let with = Branch {
         decided,
         wanted: branch.wanted.with(y % 8),
@@ -154,8 +156,8 @@ fn walk(
     if with.wanted.is_empty() {
         return Ok(before);
     }
-    let next = table.add_high(alloc, y, names.at(table.set(), y))?;
-    let after = walk(alloc, &next, names, &with, request, rows)?;
+    let next = table.add_high(memory, y, names.at(table.set(), y))?;
+    let after = walk(memory, &next, names, &with, request, rows)?;
     Ok(before + after + 1)
 }
 
@@ -171,9 +173,9 @@ fn low_mask(problem: &Problem) -> Mask
 /// `table`, the class table of the set whose mask is this low byte. `shared` has pairs of strip
 /// names, numbered beforehand. Returns how many class tables were compacted. Requires that
 /// `request` has the problem's number of variables, and that `rows` is as long as `request.needed`.
-/// If memory is refused, some rows may be written.
+/// If memory is refused, some rows may be written. `memory` is working memory.
 fn walk_from(
-    alloc: Global,
+    memory: &mut PairMemory,
     shared: &SharedTables<'_>,
     table: &Strips<'_>,
     request: &WidthRequest,
@@ -190,15 +192,16 @@ fn walk_from(
         decided: low_mask(shared.problem()),
         wanted: HighBytes::wanted(&request.needed),
     };
-    let count = walk(alloc, table, shared.names(), &branch, request, rows)?;
+    let count = walk(memory, table, shared.names(), &branch, request, rows)?;
     Ok(count)
 }
 
 /// The class table of `low`, a set of low variables. It is made by adding variables to `first`, the
 /// table of the members of `low` below `from`. None if all members of `low` are below `from`:
-/// `first` is then its table. Requires `from` to be at most the number of low variables.
+/// `first` is then its table. Requires `from` to be at most the number of low variables. `memory`
+/// is working memory.
 fn with_members<'a>(
-    alloc: Global,
+    memory: &mut PairMemory,
     first: &Strips<'a>,
     low: Mask,
     from: u8,
@@ -214,7 +217,7 @@ fn with_members<'a>(
     for y in from..first.low_variables() {
         if contains(low, y) {
             let table = made.as_ref().unwrap_or(&*first);
-            let more = table.add_low(alloc, y)?;
+            let more = table.add_low(memory, y)?;
             made = Some(more);
         }
     }
@@ -226,9 +229,9 @@ fn with_members<'a>(
 /// table in `shared`, and first adds the low variables that it lacks. Returns how many class tables
 /// were then made by adding high variables. Requires that `request` has the problem's number of
 /// variables, and that `rows` is as long as `request.needed`. If memory is refused, some rows may
-/// be written.
+/// be written. `memory` is working memory.
 fn fill_rows(
-    alloc: Global,
+    memory: &mut PairMemory,
     shared: &SharedTables<'_>,
     request: &WidthRequest,
     rows: &mut [WidthRow],
@@ -241,9 +244,9 @@ fn fill_rows(
 {
     let low = Mask::from(request.low);
     let (first, known) = shared.first_table(low);
-    let made = with_members(alloc, first, low, known)?;
+    let made = with_members(memory, first, low, known)?;
     let table = made.as_ref().unwrap_or(&*first);
-    walk_from(alloc, shared, table, request, rows)
+    walk_from(memory, shared, table, request, rows)
 }
 
 /// The rows of the sets with one low byte, that of `request`: for the set with the high byte h,
@@ -273,9 +276,9 @@ impl Model for ByteRows {
 /// The rows that `request` needs, found by a walk from a table in `shared`, and how many class
 /// tables were compacted for them. Each variable in the request's low byte counts as one, even if
 /// its table was made beforehand. If no width is needed no table is made, and the count is 0.
-/// Requires that `request` has the problem's number of variables.
+/// Requires that `request` has the problem's number of variables. `memory` is working memory.
 pub(crate) fn walked_rows(
-    alloc: Global,
+    memory: &mut PairMemory,
     shared: &SharedTables<'_>,
     request: WidthRequest,
 ) -> Result<(ByteRows, u32), AllocError>
@@ -286,11 +289,11 @@ pub(crate) fn walked_rows(
     ensures compactions { IfOk result (λ r. r.1 ≤ most_compactions) }
 {
     prove!(shared.problem().inputs() <= 16);
-    let mut rows = vec![in alloc; [0; 16]; request.needed.len()]?;
+    let mut rows = vec![in memory.alloc; [0; 16]; request.needed.len()]?;
     if HighBytes::wanted(&request.needed).is_empty() {
         return Ok((ByteRows { request, rows }, 0));
     }
-    let walked = fill_rows(alloc, shared, &request, &mut rows)?;
+    let walked = fill_rows(memory, shared, &request, &mut rows)?;
     let compactions = request.low.count_ones() + walked;
     Ok((ByteRows { request, rows }, compactions))
 }

@@ -18,6 +18,7 @@ mod shared_tables;
 mod source;
 mod strips;
 mod tally;
+mod values;
 
 pub use blocks::{BlockWidths, block_widths};
 pub use low_choice::renaming_of;
@@ -26,3 +27,4 @@ pub use requests::Requests;
 pub use shared_tables::SharedTables;
 pub use source::WidthSource;
 pub use tally::Tally;
+pub use values::{ValueStrips, value_strips};

@@ -9,6 +9,7 @@ ghost use Rattle.compaction.specs.Joining.{AreJoined};
 use crate::names::AllNamePairs;
 use crate::strips::{Strips, low_variables};
 use order_model::{Mask, Problem, VarIx, Workers};
+use pair_numbering::PairMemory;
 use std::alloc::{AllocError, Global};
 use std::marker::Model;
 use std::thread;
@@ -58,9 +59,10 @@ fn with_low<'a>(alloc: Global, tables: &[Strips<'a>], x: VarIx) -> Made<'a>
     requires { All (CanTakeLow x) tables.now }
     ensures { IfOk result (λ v. v.items ≡ map (λ t. with_variable t x) tables.now) }
 {
+    let mut memory = PairMemory::new(alloc);
     let mut larger = Vec::with_capacity(alloc, tables.len())?;
     for table in tables {
-        larger.push(table.add_low(alloc, x)?)?;
+        larger.push(table.add_low(&mut memory, x)?)?;
     }
     Ok(larger)
 }

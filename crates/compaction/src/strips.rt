@@ -10,12 +10,12 @@ ghost use Rattle.compaction.specs.Strips.{masks_in_use, low_variables as low_of}
 
 use crate::add_variable::{StripParts, StripTable, add_above};
 use crate::names::NamePairs;
+use crate::values::{ValueStrips, value_strips};
 use order_model::{Mask, Problem, VarIx, WidthRow, contains};
-use pair_numbering::{MaskedPairs, are_in_order, label_pairs};
+use pair_numbering::{MaskedPairs, PairMemory, are_in_order, label_pairs};
 use std::alloc::{AllocError, Global};
 use std::marker::Model;
 use subfunction_classes::{count_with, rank_of};
-use value_strips::{ValueStrips, value_strips};
 
 /// The class table of a set in strips. A strip has a class number for each assignment of the low
 /// variables outside the set. If all subfunctions are distinct, numbered in order, and depend on
@@ -239,27 +239,31 @@ impl<'a> Strips<'a> {
     }
 
     /// The class table of this table's set with the low variable `x` added. Requires that the set
-    /// lacks `x`.
-    pub(crate) fn add_low(&self, alloc: Global, x: VarIx) -> Result<Strips<'a>, AllocError>
+    /// lacks `x`. `memory` is working memory.
+    pub(crate) fn add_low(
+        &self,
+        memory: &mut PairMemory,
+        x: VarIx,
+    ) -> Result<Strips<'a>, AllocError>
         requires low { x < low_variables self.now.problem }
         requires new { IsFalse (has (set_of self.now) x) }
         ensures { IfOk result (λ c. c ≡ with_variable self.now x) }
     {
         let set = self.set | (1 << x);
         match self.distinct {
-            Some(count) => Ok(Strips::of_count(alloc, self.problem, set, count / 2)),
+            Some(count) => Ok(Strips::of_count(memory.alloc, self.problem, set, count / 2)),
             None => {
                 let rank = rank_of(self.set, x);
                 let pairs = MaskedPairs::of_table(&self.numbers, rank, x, &self.masks);
-                let labels = label_pairs(alloc, &pairs)?;
-                let outer = self.outer.to_vec(alloc)?;
+                let labels = label_pairs(memory, &pairs)?;
+                let outer = self.outer.to_vec(memory.alloc)?;
                 let parts = StripParts {
                     outer,
                     numbers: labels.numbers,
                     masks: labels.masks,
                     all_used: labels.all_used,
                 };
-                Ok(Strips::of_parts(alloc, self.problem, set, parts))
+                Ok(Strips::of_parts(memory.alloc, self.problem, set, parts))
             }
         }
     }
@@ -267,10 +271,11 @@ impl<'a> Strips<'a> {
     /// The class table of this table's set with the high variable `x` added. `known` may have the
     /// numbers of this table's pairs of strips that differ in `x` alone; it is ignored unless it
     /// was made for the same strip names and as many high variables below `x` outside the set.
-    /// Requires that `x` is a variable of the problem and not in the set.
+    /// Requires that `x` is a variable of the problem and not in the set. `memory` is working
+    /// memory.
     pub(crate) fn add_high(
         &self,
-        alloc: Global,
+        memory: &mut PairMemory,
         x: VarIx,
         known: Option<&NamePairs>,
     ) -> Result<Strips<'a>, AllocError>
@@ -282,7 +287,7 @@ impl<'a> Strips<'a> {
         prove!(self.problem.inputs() <= 16);
         let set = self.set | (1 << x);
         match self.distinct {
-            Some(count) => Ok(Strips::of_count(alloc, self.problem, set, count / 2)),
+            Some(count) => Ok(Strips::of_count(memory.alloc, self.problem, set, count / 2)),
             None => {
                 let bits = rank_of(self.set, low_variables(self.problem));
                 let rank = rank_of(self.set, x) - bits;
@@ -293,8 +298,8 @@ impl<'a> Strips<'a> {
                     bits,
                     masks: &self.masks,
                 };
-                let grown = add_above(alloc, &table, x, known)?;
-                Ok(Strips::of_parts(alloc, self.problem, set, grown))
+                let grown = add_above(memory, &table, x, known)?;
+                Ok(Strips::of_parts(memory.alloc, self.problem, set, grown))
             }
         }
     }

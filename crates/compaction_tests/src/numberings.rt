@@ -1,6 +1,6 @@
 //! Pairs of a table's entries, numbered by first occurrence and by keys.
 
-use pair_numbering::{EntryPairs, MaskedPairs, PairKeys, label_pairs, number_entries};
+use pair_numbering::{EntryPairs, MaskedPairs, PairKeys, PairMemory, label_pairs, number_entries};
 use std::alloc::Global;
 use std::process::Abort;
 
@@ -22,13 +22,14 @@ fn have_keys(keys: PairKeys, numbers: &[u32], masks: &[u16]) -> bool {
 /// Whether pairs of strips have their keys and masks.
 fn labels_strip_pairs(rt: &impl Abort, alloc: Global) -> bool {
     let names = [(0, 1), (1, 1)];
+    let mut memory = PairMemory::new(alloc);
     let four = label_pairs(
-        alloc,
+        &mut memory,
         &MaskedPairs::of_strips(&names, &[0, 1, 2, 0], 1, 3, &[1, 2, 4]),
     );
     let is_four = have_keys(four.expect(rt, "memory"), &[0, 1, 2, 3], &[13, 11, 4, 1]);
     let two = label_pairs(
-        alloc,
+        &mut memory,
         &MaskedPairs::of_strips(&names, &[0, 1, 1, 0], 1, 3, &[1, 2]),
     );
     let is_two = have_keys(two.expect(rt, "memory"), &[2, 1, 3, 0], &[1, 11, 11, 2]);

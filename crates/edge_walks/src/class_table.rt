@@ -12,7 +12,7 @@ ghost use Rattle.edge_walks.specs.Tables.{HoldsRows, classes_at, rows_at, rows_w
 use crate::lower_classes::are_wide;
 use crate::repeats::without_repeats;
 use order_model::{Mask, Problem, VarIx, contains};
-use pair_numbering::{MaskedNumbers, MaskedPairs, are_in_order, number_with_masks};
+use pair_numbering::{MaskedNumbers, MaskedPairs, PairMemory, are_in_order, number_with_masks};
 use std::alloc::{AllocError, Global};
 use std::marker::Model;
 use subfunction_classes::{count_with, no_dependence, value_numbers};
@@ -194,7 +194,7 @@ impl<'a> ClassTable<'a> {
             }),
             None => {
                 let pairs = MaskedPairs::of_table(&self.numbers, u32::from(x), x, &self.masks);
-                let numbered = number_with_masks(alloc, &pairs)?;
+                let numbered = number_with_masks(&mut PairMemory::new(alloc), &pairs)?;
                 Ok(table_of(alloc, self.problem, set, x, numbered))
             }
         }

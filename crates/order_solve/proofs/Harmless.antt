@@ -8,8 +8,8 @@ use Rattle.definitions.specs.Pairs.{Pair}
 use Rattle.definitions.specs.Problems.{TruthTables, functions}
 use Rattle.layer_core.specs.Instances.{InstanceOf}
 use Rattle.order_model.specs.declared.sized_orders.SizedOrder.{SizedOrder}
-use Rattle.symmetric_pairs.specs.SymmetricPairs.{IsHarmless}
-use Rattle.symmetric_pairs.proofs.FirstSorted.{fewest_harmless, first_harmless, harmless_same}
+use Rattle.symmetries.specs.SymmetricPairs.{IsHarmless}
+use Rattle.symmetries.proofs.FirstSorted.{fewest_harmless, first_harmless, harmless_same}
 use Rattle.solutions.specs.Solutions.{IsOptimumFor}
 
 -- what is asked for may be kept

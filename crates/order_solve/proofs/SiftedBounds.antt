@@ -7,7 +7,7 @@ use Rattle.definitions.specs.Orders.{IsOrder}
 use Rattle.definitions.specs.Pairs.{Keeps}
 use Rattle.definitions.specs.Problems.{TruthTables, functions}
 use Rattle.definitions.proofs.Widths.SizeBounds.{size_bound}
-use Rattle.symmetric_pairs.specs.SymmetricPairs.{IsHarmless}
+use Rattle.symmetries.specs.SymmetricPairs.{IsHarmless}
 use Rattle.sifting.specs.Managed.{SiftedOrder, IsSiftedOrder}
 use Rattle.layer_core.specs.Instances.{InstanceOf}
 use Rattle.layer_core.proofs.Layouts.{length-map_lem}

@@ -4,7 +4,7 @@
 use Rattle.std.specs.Prelude.{◌≡◌, List}
 use Rattle.definitions.specs.Pairs.{Pair}
 use Rattle.definitions.specs.Problems.{TruthTables, functions}
-use Rattle.symmetric_pairs.specs.SymmetricPairs.{IsHarmless}
+use Rattle.symmetries.specs.SymmetricPairs.{IsHarmless}
 
 -- the functions, and the pairs that the search keeps
 pub record StartOf : Type 0 where

@@ -3,7 +3,7 @@
 ghost use Rattle.std.specs.Prelude.{◌≡◌, IfOk};
 ghost use Rattle.definitions.specs.Problems.{functions};
 ghost use Rattle.order_solve.specs.SearchStarts.{IsStartFor};
-ghost use Rattle.symmetric_pairs.specs.SymmetricPairs.{IsHarmless};
+ghost use Rattle.symmetries.specs.SymmetricPairs.{IsHarmless};
 
 use crate::guesses::layers_to_prepare;
 use compaction::Preparation;
@@ -11,7 +11,7 @@ use order_model::{Limit, LowerBound, Pairs, Problem, Workers};
 use std::alloc::{AllocError, Global};
 use std::marker::Model;
 use std::thread::Threads;
-use symmetric_pairs::pairs_to_keep;
+use symmetries::pairs_to_keep;
 use symmetries::Renaming;
 
 /// What a search begins with: the pairs that a search for the order alone keeps, the tables that

@@ -6,7 +6,7 @@ ghost use Rattle.definitions.specs.Problems.{functions};
 ghost use Rattle.definitions.specs.declared.limits.LowerBound.TheVariants.{Variables};
 ghost use Rattle.definitions.specs.Cells.{widths_taken};
 ghost use Rattle.order_solve.specs.SearchStarts.{IsStartFor};
-ghost use Rattle.symmetric_pairs.specs.SymmetricPairs.{IsHarmless};
+ghost use Rattle.symmetries.specs.SymmetricPairs.{IsHarmless};
 ghost use Rattle.solutions.specs.Bounded.{IsBounded};
 ghost use Rattle.solutions.specs.Solutions.{IsOptimumFor, IsSolution};
 
@@ -19,7 +19,7 @@ use sifting::Sifted;
 use solutions::{AllCells, Solution, optimum_of, solution_of};
 use std::alloc::{AllocError, Global};
 use std::thread::Threads;
-use symmetric_pairs::pairs_to_keep;
+use symmetries::pairs_to_keep;
 
 /// The problem instance of a search among the orders that keep `pairs`, with the size of the sifted
 /// order as its bound. `sifted` and `pairs` have to be for `problem`. Requires that each order that

@@ -99,10 +99,10 @@ fn number_blocks(
     Some(count)
 }
 
-/// Numbers the pairs by first occurrence: overwrites `to` with the number of each pair, and with the
-/// mask of the function whose cofactors are the pair of each number. `cells` becomes working memory
-/// of n * n entries for n classes. False if there may be more than `MOST_NUMBERS` numbers: then, and
-/// if memory is refused, `to` has no meaning.
+/// Numbers the pairs by first occurrence: overwrites `to` with the number of each pair, and with
+/// the mask of the function whose cofactors are the pair of each number. `cells` becomes working
+/// memory of n * n entries for n classes. False if there may be more than `MOST_NUMBERS` numbers:
+/// then, and if memory is refused, `to` has no meaning.
 pub(crate) fn number_pairs_by_cells(
     pairs: &MaskedPairs<'_>,
     cells: &mut Vec<u16>,

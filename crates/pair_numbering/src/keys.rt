@@ -10,6 +10,7 @@ ghost use Rattle.subfunction_classes.specs.PairTables.{AllBelow, IsPaired};
 
 use crate::entries::{BlockHalves, EntryPairs};
 use crate::masks::MaskedPairs;
+use crate::memory::PairMemory;
 use crate::numbers::number_with_masks;
 use definitions::{Mask, VarIx};
 use std::alloc::{AllocError, Global};
@@ -96,8 +97,8 @@ fn join_key_masks(alloc: Global, masks: &[Mask], x: VarIx) -> Result<Vec<Mask>, 
 /// of the function whose cofactors are the pair. If there are at most `MOST_JOINED` classes, and no
 /// more pairs of classes than table entries, the number is low + classes * high: low is the class
 /// where the variable is 0, and high that where it is 1. Else pairs are numbered by first
-/// occurrence.
-pub fn label_pairs(alloc: Global, pairs: &MaskedPairs<'_>) -> Result<PairKeys, AllocError>
+/// occurrence. What `memory` has before doesn't matter.
+pub fn label_pairs(memory: &mut PairMemory, pairs: &MaskedPairs<'_>) -> Result<PairKeys, AllocError>
     ensures tells { IfOk result
         (λ v. TellsPairs pairs.now.masks.now pairs.now.x
         (places.pairs pairs.now.entries.numbers (2 ^ pairs.now.entries.rank)) v.numbers.items
@@ -107,15 +108,15 @@ pub fn label_pairs(alloc: Global, pairs: &MaskedPairs<'_>) -> Result<PairKeys, A
     prove!(pairs.rank() < 16);
     let base = pairs.masks.len();
     if base <= MOST_JOINED && base * base <= 2 * pairs.entries.len() {
-        let keys = join_keys(alloc, &pairs.entries, base as u32)?;
-        let joined = join_key_masks(alloc, pairs.masks, pairs.x)?;
+        let keys = join_keys(memory.alloc, &pairs.entries, base as u32)?;
+        let joined = join_key_masks(memory.alloc, pairs.masks, pairs.x)?;
         return Ok(PairKeys {
             numbers: keys,
             masks: joined,
             all_used: false,
         });
     }
-    let numbered = number_with_masks(alloc, pairs)?;
+    let numbered = number_with_masks(memory, pairs)?;
     Ok(PairKeys {
         numbers: numbered.numbers,
         masks: numbered.masks,

@@ -43,8 +43,8 @@ fn count_block(entries: &EntryPairs<'_>, block: usize, counts: &mut [u8])
 
 /// Overwrites `counts`: entry c, for each c below `classes`, is how many pairs have the lower class
 /// c: 0, 1, or 2 for two or more. If there are no more classes than pairs, nothing is counted and
-/// all entries are 0. Requires all classes to be below `classes`. If memory is refused, `counts` has
-/// no meaning.
+/// all entries are 0. Requires all classes to be below `classes`. If memory is refused, `counts`
+/// has no meaning.
 pub(crate) fn count_lowers(
     entries: &EntryPairs<'_>,
     classes: usize,

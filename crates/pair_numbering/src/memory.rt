@@ -17,10 +17,12 @@ use std::alloc::{AllocError, Global};
 /// Pairs are numbered by cells if there are at most this many cells for each pair.
 const MOST_CELLS_PER_PAIR: usize = 16;
 
-/// Working memory in which pairs are numbered, and the distinct pairs that `number` found last. What
-/// it holds before a numbering doesn't matter.
+/// Working memory in which pairs are numbered, and the distinct pairs that `number` found last.
+/// What it holds before a numbering doesn't matter.
 #[derive(Drop)]
 pub struct PairMemory {
+    /// The allocator of this memory.
+    pub alloc: Global,
     /// `pairs[k]` is the pair with the number k.
     pub pairs: Vec<(u32, u32)>,
     /// How many pairs have each class as their lower class (`CountedPairs`).
@@ -35,6 +37,7 @@ impl PairMemory {
     /// Memory that is empty: a numbering takes what it needs.
     pub fn new(alloc: Global) -> PairMemory {
         PairMemory {
+            alloc,
             pairs: Vec::new(alloc),
             counts: Vec::new(alloc),
             slots: Vec::new(alloc),
@@ -42,12 +45,11 @@ impl PairMemory {
         }
     }
 
-    /// Numbers the pairs by first occurrence: overwrites `numbers` with the number of each pair, and
-    /// `self.pairs` with the pair of each number. Requires all classes to be below `classes`, which
-    /// is at most 2^20. If memory is refused, the two have no meaning.
+    /// Numbers the pairs by first occurrence: overwrites `numbers` with the number of each pair,
+    /// and `self.pairs` with the pair of each number. Requires all classes to be below `classes`,
+    /// which is at most 2^20. If memory is refused, the two have no meaning.
     pub fn number(
         &mut self,
-        alloc: Global,
         entries: &EntryPairs<'_>,
         classes: usize,
         numbers: &mut Vec<u32>,
@@ -61,19 +63,18 @@ impl PairMemory {
         if number_pairs_by_slots(entries, classes, self, numbers)? {
             return Ok(());
         }
-        let first = find_first_pairs(alloc, entries, classes)?;
-        let found = number_firsts(alloc, entries, &first)?;
+        let first = find_first_pairs(self.alloc, entries, classes)?;
+        let found = number_firsts(self.alloc, entries, &first)?;
         *numbers = found.numbers;
         self.pairs = found.pairs;
         Ok(())
     }
 
-    /// Numbers the pairs by first occurrence: overwrites `to` with the number of each pair, and with
-    /// the mask of the function whose cofactors are the pair of each number. If memory is refused,
-    /// `to` has no meaning.
-    pub fn number_with_masks(
+    /// Numbers the pairs by first occurrence: overwrites `to` with the number of each pair, and
+    /// with the mask of the function whose cofactors are the pair of each number. If memory is
+    /// refused, `to` has no meaning.
+    pub fn write_numbers(
         &mut self,
-        alloc: Global,
         pairs: &MaskedPairs<'_>,
         to: &mut MaskedNumbers,
     ) -> Result<(), AllocError>
@@ -86,7 +87,7 @@ impl PairMemory {
                 return Ok(());
             }
         }
-        self.number(alloc, &pairs.entries, classes, &mut to.numbers)?;
+        self.number(&pairs.entries, classes, &mut to.numbers)?;
         join_masks(&self.pairs, pairs.x, pairs.masks, &mut to.masks)?;
         Ok(())
     }

@@ -12,8 +12,8 @@ use definitions::Mask;
 use std::alloc::{AllocError, Global};
 
 /// `numbers[j]` is the number of pair j, and `masks[k]` the mask of number k: the variables that
-/// the functions of its pair depend on. If the pairs are those of a set's class table, these are the
-/// class table of the set with one more variable.
+/// the functions of its pair depend on. If the pairs are those of a set's class table, these are
+/// the class table of the set with one more variable.
 #[derive(Drop)]
 pub struct MaskedNumbers {
     pub numbers: Vec<u32>,
@@ -52,21 +52,21 @@ pub fn number_entries(
 {
     let mut memory = PairMemory::new(alloc);
     let mut numbers = Vec::new(alloc);
-    memory.number(alloc, entries, classes, &mut numbers)?;
+    memory.number(entries, classes, &mut numbers)?;
     let PairMemory { pairs, .. } = memory;
     Ok(NumberedPairs { numbers, pairs })
 }
 
 /// Numbers the pairs by first occurrence: the number of each pair, and for each number the mask of
-/// the function whose cofactors are the pair.
+/// the function whose cofactors are the pair. What `memory` has before doesn't matter.
 pub fn number_with_masks(
-    alloc: Global,
+    memory: &mut PairMemory,
     pairs: &MaskedPairs<'_>,
 ) -> Result<MaskedNumbers, AllocError>
     ensures { IfOk result (λ v. NumbersMasked pairs.now v.numbers.items v.masks.items) }
 {
-    let mut to = MaskedNumbers::with_room(alloc, 0)?;
-    PairMemory::new(alloc).number_with_masks(alloc, pairs, &mut to)?;
+    let mut to = MaskedNumbers::with_room(memory.alloc, 0)?;
+    memory.write_numbers(pairs, &mut to)?;
     Ok(to)
 }
 

@@ -135,8 +135,8 @@ const MOST_PAIRS: usize = 1 << 15;
 
 /// Numbers the pairs by first occurrence, in a hash table: overwrites `numbers` with the number of
 /// each pair, and `memory.pairs` with the pair of each number. False if there are more than
-/// `MOST_PAIRS` pairs, or if other pairs hold all `TRIES` slots that are tried for a pair: then, and
-/// if memory is refused, the two have no meaning. Requires all classes to be below `classes`.
+/// `MOST_PAIRS` pairs, or if other pairs hold all `TRIES` slots that are tried for a pair: then,
+/// and if memory is refused, the two have no meaning. Requires all classes to be below `classes`.
 pub(crate) fn number_pairs_by_slots(
     entries: &EntryPairs<'_>,
     classes: usize,

@@ -12,7 +12,7 @@ ghost use Rattle.small_search.specs.Values.{mask_at, mask_over, places};
 
 use order_model::{Mask, VarIx};
 use pair_numbering::{EntryPairs, MaskedNumbers, PairMemory};
-use std::alloc::{AllocError, Global};
+use std::alloc::AllocError;
 
 /// Working memory in which class tables are made. What it holds before doesn't matter.
 #[derive(Drop)]
@@ -154,7 +154,6 @@ fn widen(values: &[u8], wide: &mut Vec<u32>) -> Result<(), AllocError>
 /// subfunctions over the set without x: outputs in order, and of each the assignments rising. What
 /// `memory` has before doesn't matter. If memory is refused, `to` has no meaning.
 pub(crate) fn number_values(
-    alloc: Global,
     values: &[u8],
     x: VarIx,
     set: Mask,
@@ -170,9 +169,7 @@ pub(crate) fn number_values(
 {
     widen(values, &mut memory.values)?;
     let entries = EntryPairs::of_table(&memory.values, u32::from(x));
-    memory
-        .pairs
-        .number(alloc, &entries, 256, &mut to.numbers)?;
+    memory.pairs.number(&entries, 256, &mut to.numbers)?;
     write_masks(&memory.pairs.pairs, &variables_of(set), &mut to.masks)?;
     Ok(())
 }

@@ -100,7 +100,6 @@ fn subfunctions_in<'a>(
 /// this requires that there are no pairs to keep.
 #[inline(always)]
 fn next_cell(
-    alloc: Global,
     search: &SmallSearch<'_>,
     tables: &mut PathTables,
     cells: &[Cell],
@@ -116,7 +115,7 @@ fn next_cell(
     ensures cell { IfOk result (λ c. pair_of c ≡ cell_for search.now set) }
     ensures few { IfOk result (λ c. IsFew search.now set c.cost) }
 {
-    tables.add_lowest(alloc, search, set)?;
+    tables.add_lowest(search, set)?;
     let lawful = all_lawful || search.lawful(set);
     let subfunctions = subfunctions_in(search, tables, set);
     Ok(cell_of_set(search, cells, &subfunctions, set, lawful))
@@ -143,7 +142,7 @@ fn find_cells(
         variable: 0,
     })?;
     for number in 1..sets {
-        let cell = next_cell(alloc, search, tables, cells, number as Mask, all_lawful)?;
+        let cell = next_cell(search, tables, cells, number as Mask, all_lawful)?;
         cells.push(cell)?;
     }
     Ok(())

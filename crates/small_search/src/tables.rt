@@ -96,7 +96,6 @@ fn make_values(values: &mut [u8], entries: usize, x: VarIx, size: u32)
 /// meaning.
 #[inline(always)]
 fn add_below(
-    alloc: Global,
     from: &MaskedNumbers,
     x: VarIx,
     memory: &mut PairMemory,
@@ -106,7 +105,7 @@ fn add_below(
     ensures { OnOk result (IsNumbered from.now to.new x) }
 {
     let pairs = MaskedPairs::of_table(&from.numbers, u32::from(x), x, &from.masks);
-    memory.number_with_masks(alloc, &pairs, to)?;
+    memory.write_numbers(&pairs, to)?;
     Ok(())
 }
 
@@ -116,7 +115,6 @@ fn add_below(
 /// `classes[size - 4]` has no meaning.
 #[inline(always)]
 fn make_classes(
-    alloc: Global,
     classes: &mut [MaskedNumbers],
     size: u32,
     x: VarIx,
@@ -130,7 +128,7 @@ fn make_classes(
 {
     let (smaller, others) = classes.split_at_mut(size as usize - 4);
     let smaller = &*smaller;
-    add_below(alloc, &smaller[size as usize - 5], x, memory, &mut others[0])
+    add_below(&smaller[size as usize - 5], x, memory, &mut others[0])
 }
 
 /// Appends empty class tables to `classes`, each with room for `room` pairs, until it has at least
@@ -198,7 +196,6 @@ impl PathTables {
     #[inline(always)]
     pub(crate) fn add_lowest(
         &mut self,
-        alloc: Global,
         search: &SmallSearch<'_>,
         set: Mask,
     ) -> Result<(), AllocError>
@@ -215,9 +212,9 @@ impl PathTables {
             make_values(&mut self.values, self.entries, x, size);
         } else if size == MOST_VALUE_VARIABLES + 1 {
             let values = values_over(&self.values, self.entries, MOST_VALUE_VARIABLES);
-            number_values(alloc, values, x, set, &mut self.memory, &mut self.classes[0])?;
+            number_values(values, x, set, &mut self.memory, &mut self.classes[0])?;
         } else {
-            make_classes(alloc, &mut self.classes, size, x, &mut self.memory.pairs)?;
+            make_classes(&mut self.classes, size, x, &mut self.memory.pairs)?;
         }
         Ok(())
     }

@@ -4,3 +4,8 @@ pub mod ImageTables
 pub mod PointValues
 pub mod RenamedValues
 pub mod ImageWidths
+pub mod PairExchanges
+pub mod SortedOrders
+pub mod FirstSorted
+pub mod SymmetricPoints
+pub mod SymmetricWords

@@ -17,6 +17,11 @@ mod orbits;
 // Problems with exchanged variables.
 mod renaming;
 
+// Pairs of variables in which all functions are symmetric.
+mod pairs;
+mod words;
+
 pub use exchanges::{Exchange, exchanges_of};
 pub use orbits::{Image, Orbits};
+pub use pairs::pairs_to_keep;
 pub use renaming::Renaming;

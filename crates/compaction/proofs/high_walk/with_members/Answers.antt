@@ -14,7 +14,7 @@ pub loop-y-init : goal.loop-y-init
 loop-y-init c = c.requires.first
 
 -- the table that x is added to
-table_is : (c : goal.After-unwrap_or-table) → c.unwrap_or-table.result.now ≡ classes_of c.args.first.now.problem (c.args.low % 2 ^ c.loop-y.y)
+table_is : (c : goal.After-add_low-arg-1) → c.unwrap_or-table.result.now ≡ classes_of c.args.first.now.problem (c.args.low % 2 ^ c.loop-y.y)
 table_is c = latest_of c.loop-y.made c.as_ref.result _ c.unwrap_or-table.result c.as_ref.ensures.value c.unwrap_or-table.ensures ∙ c.loop-y.invariant
 
 pub add_low-requires-clause-low : goal.add_low-requires-clause-low

@@ -2,7 +2,7 @@ use Rattle.std.proofs.Common.{List, ap, subst}
 use Rattle.definitions.specs.KeptPairs.{KeptPairs}
 use Rattle.definitions.specs.Pairs.{Pair}
 use Rattle.definitions.specs.Problems.{functions}
-use Rattle.symmetric_pairs.specs.SymmetricPairs.{IsHarmless}
+use Rattle.symmetries.specs.SymmetricPairs.{IsHarmless}
 use Rattle.order_solve.proofs.Harmless.{found_harmless}
 use Rattle.order_solve.proofs.solver.find_optimum_alone.Goals as goal
 

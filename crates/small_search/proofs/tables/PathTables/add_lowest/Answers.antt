@@ -290,7 +290,8 @@ returns-in_ok-number_values c =
     let some : 0 < length old.classes.items = omega (arith, many, f, t) in
     let zero' : count_ones set' - 4 ≡ 0 = omega (arith, t) in
     step_classes p set' old g
-    (record { entries = old.entries; values = old.values; classes = with_item old.classes 0 to; memory = c.number_values.new.memory }) refl
+    (record { entries = old.entries; values = old.values; classes = with_item old.classes 0 to; memory = c.number_values.new.memory })
+    refl
     (set old.classes.items 0 to) refl refl (length-set old.classes.items 0 to) (omega (arith, t))
     (λ d. subst (λ (u : MaskedNumbers). HoldsClasses (classes_of p set') u.numbers.items u.masks.items)
     (sym (ap (λ k. get_or (set old.classes.items 0 to) k d) zero' ∙ get_or-set_same old.classes.items 0 to d some)) h)
@@ -315,7 +316,12 @@ returns-in_ok-make_classes c =
     let from = subst (λ (us : List MaskedNumbers). IsNumberedFrom us made (count_ones set' - 5) x) d'.value c.in_ok-make_classes.ensures in
     let one : count_ones set' - 5 + 1 ≡ count_ones set' - 4 = omega (arith, more) in
     step_classes p set' old g
-    (record { entries = old.entries; values = old.values; classes = with_items old.classes made; memory = record { pairs = c.make_classes.new.memory; values = old.memory.values } }) refl
+    (record {
+      entries = old.entries;
+      values = old.values;
+      classes = with_items old.classes made;
+      memory = record { pairs = c.make_classes.new.memory; values = old.memory.values };
+    }) refl
     made refl (with_items_is old.classes made (from.long ∙ sym (ap length d'.value) ∙ d'.len)) from.long (omega (arith, more))
     (λ d. let u = get_or old.classes.items (count_ones set' - 5) d in
     classes_made p set' x n.low n.within u.numbers.items u.masks.items (classes p set' old g more d)

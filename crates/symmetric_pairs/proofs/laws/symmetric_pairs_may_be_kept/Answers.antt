@@ -1,6 +1,0 @@
-use Rattle.std.proofs.Common.{[]}
-use Rattle.symmetric_pairs.proofs.FirstSorted.{first_harmless, harmless_symmetric}
-use Rattle.symmetric_pairs.proofs.laws.symmetric_pairs_may_be_kept.Goals as goal
-
-pub returns : goal.returns
-returns c n F P order pairs first = first_harmless n F [] P order (harmless_symmetric n F P pairs) first

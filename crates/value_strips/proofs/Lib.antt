@@ -1,3 +1,0 @@
-pub mod UnrolledTables
-pub mod StripNumbers
-pub mod NamedStrips

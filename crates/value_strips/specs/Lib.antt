@@ -1,2 +1,0 @@
-pub mod ValueStrips
-pub mod NamedStrips
