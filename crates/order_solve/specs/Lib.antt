@@ -1,4 +1,2 @@
-pub mod LayerContexts
 pub mod LayerSteps
-pub mod Gains
 pub mod SearchStarts

@@ -2,43 +2,16 @@
 //! another.
 
 ghost use Rattle.std.specs.Prelude.{◌≡◌, ◌+◌, length, IfOk, OnOk};
-ghost use Rattle.subset_layers.specs.Layers.{masks_of};
-ghost use Rattle.layer_core.specs.LayerCosts.{AreAllLayers, AreCells, AreDone, IsLayerFor};
+ghost use Rattle.layer_core.specs.LayerCosts.{AreAllLayers, AreDone, IsLayerFor};
 ghost use Rattle.order_solve.specs.LayerSteps.{HasLayers};
 
-use crate::cells::cells_of_block;
-use crate::context::LayerContext;
 use crate::layers::first_layer;
 use crate::look_ahead::look_ahead;
-use compaction::{Preparation, Tally, WidthSource, renaming_of};
-use layer_core::{Instance, place_cells};
+use compaction::{Preparation, WidthSource, renaming_of};
+use layer_core::Instance;
+use layer_work::{LayerContext, cells_alone};
 use std::alloc::{AllocError, Global};
-use subset_layers::{Cell, Costs, Layer};
-
-/// Computes the cells of the sets of the layer of `context`, in the layer's order, on the calling
-/// thread.
-pub(crate) fn cells_alone(
-    alloc: Global,
-    context: &LayerContext<'_>,
-) -> Result<Vec<Cell>, AllocError>
-    ensures { IfOk result (λ v.
-        AreCells context.entry.now.instance (masks_of context.entry.now.layer) v.items) }
-{
-    prove!(context.instance.inputs() <= 16);
-    let layer = context.layer;
-    let none = Cell {
-        cost: 0,
-        variable: 0,
-    };
-    let mut cells = vec![in alloc; none; layer.len()]?;
-    for place in 0..layer.blocks() {
-        let block = layer.block(place);
-        let mut tally = Tally::new();
-        let own = cells_of_block(alloc, &block, context, &mut tally)?;
-        place_cells(layer, &block, &own, &mut cells);
-    }
-    Ok(cells)
-}
+use subset_layers::{Costs, Layer};
 
 /// Computes the layer that comes after those in `done`, with its cells, on the calling thread.
 /// `done[k]` has the costs of the sets of k variables, from k = 0 on; the layer of all variables

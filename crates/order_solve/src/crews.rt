@@ -5,11 +5,9 @@ ghost use Rattle.std.specs.Thread.{IsSync};
 ghost use Rattle.subset_layers.specs.Layers.{masks_of};
 ghost use Rattle.layer_core.specs.LayerCosts.{AreCells};
 
-use crate::alone::cells_alone;
-use crate::context::LayerContext;
 use crate::guesses::busy_workers;
-use crate::worker::{WorkerResult, work_layer};
 use layer_board::{Board, BoardSeat, CloseError};
+use layer_work::{LayerContext, WorkerResult, cells_alone, work_layer};
 use order_model::{Crew, Gate};
 use std::alloc::{AllocError, Global};
 use std::thread;
@@ -105,13 +103,13 @@ pub(crate) fn cells_of_layer<R: Threads + Sync, G: Gate>(
     ensures { IfOk result (λ v.
         AreCells context.entry.now.instance (masks_of context.entry.now.layer) v.items) }
 {
-    let instance = context.instance;
+    let instance = context.instance();
     let (board, seats) = Board::new(
         alloc,
         instance.problem(),
         instance.limit(),
-        context.layer,
-        busy_workers(instance, context.layer, crew.workers),
+        context.layer(),
+        busy_workers(instance, context.layer(), crew.workers),
         instance.pairs(),
     )?;
     let seat = post_by_workers(crew, alloc, &board, seats, context)?;

@@ -4,11 +4,11 @@ ghost use Rattle.std.specs.Prelude.{◌≡◌, ◌+◌, IfOk, OnOk, length};
 ghost use Rattle.layer_core.specs.LayerCosts.{AreAllLayers, AreDone, AreLayersFor, IsLayerFor};
 ghost use Rattle.order_solve.specs.LayerSteps.{HasLayers};
 
-use crate::context::LayerContext;
 use crate::crews::cells_of_layer;
 use crate::look_ahead::look_ahead;
 use compaction::{Preparation, WidthSource};
 use layer_core::Instance;
+use layer_work::LayerContext;
 use order_model::{Crew, Gate};
 use std::alloc::{AllocError, Global};
 use std::thread::Threads;

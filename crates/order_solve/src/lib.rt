@@ -11,16 +11,10 @@ mod look_ahead;
 mod preparation;
 mod solver;
 
-// A worker's part of a layer: what it is lent, and the cells of its blocks.
-mod cells;
-mod context;
-mod worker;
-
 pub use compaction::{Preparation, WidthSource, renaming_of};
-pub use context::LayerContext;
 pub use layer_core::Instance;
+pub use layer_work::{LayerContext, WorkerResult, work_layer};
 pub use preparation::{SearchStart, prepare};
 pub use solutions::Solution;
 pub use solver::{count_widths, find_optimum, find_optimum_alone, solve, solve_alone};
 pub use symmetries::Renaming;
-pub use worker::{WorkerResult, work_layer};

@@ -5,10 +5,10 @@ ghost use Rattle.std.specs.Prelude.{◌≡◌};
 ghost use Rattle.subset_layers.specs.Layers.{layer_of};
 ghost use Rattle.layer_core.specs.LayerCosts.{AreDone};
 
-use crate::context::LayerContext;
 use crate::guesses::likely_end;
 use compaction::{Preparation, Requests, WidthSource};
 use layer_core::{Instance, needs_of_block};
+use layer_work::LayerContext;
 use std::alloc::{AllocError, Global};
 use subset_layers::{Block, Costs, Layer};
 
@@ -27,8 +27,8 @@ fn is_found(context: &LayerContext<'_>, prepared: &Preparation<'_>, block: &Bloc
     requires prepared { prepared.now.problem ≡ context.now.instance.problem }
     requires layer { layer_of block.now ≡ context.now.layer }
 {
-    let instance = context.instance;
-    let source = context.source;
+    let instance = context.instance();
+    let source = context.source();
     for set in block.masks() {
         if instance.lawful(*set) && !source.is_found(prepared.image_of(*set).set) {
             return false;
@@ -51,8 +51,9 @@ fn add_needs(
     requires prepared { prepared.now.problem ≡ context.now.instance.problem }
     requires layer { layer_of block.now ≡ context.now.layer }
 {
-    let needs = needs_of_block(alloc, context.instance, context.before, block)?;
-    let source = context.source;
+    let instance = context.instance();
+    let needs = needs_of_block(alloc, instance, context.costs_before(), block)?;
+    let source = context.source();
     for (i, set) in block.masks().iter().enumerate() {
         let image = prepared.image_of(*set);
         if needs[i] != 0 && !source.is_found(image.set) {

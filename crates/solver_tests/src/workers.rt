@@ -5,7 +5,7 @@ ghost use Rattle.subset_layers.specs.Layers.{masks_of, layer_with};
 ghost use Rattle.layer_core.specs.Pairing.{pair_of};
 ghost use Rattle.layer_core.specs.Instances.{cell_for};
 ghost use Rattle.layer_core.specs.LayerCosts.{IsLayerFor};
-ghost use Rattle.order_solve.specs.LayerContexts.{IsContext, context_with};
+ghost use Rattle.layer_work.specs.LayerContexts.{IsContext, context_with};
 
 use crate::boards::{error_of_closing, is_stranger, lone_board};
 use crate::searches::tables_of;

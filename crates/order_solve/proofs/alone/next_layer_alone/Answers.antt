@@ -2,7 +2,7 @@ use Rattle.std.proofs.Common.{map, length, ap, ◌∙◌, arith}
 use Rattle.std.proofs.lemmas.Option.{slice_get_read}
 use Rattle.subset_layers.specs.Layers.{layer_with, masks_of}
 use Rattle.layer_core.specs.Instances.{cell_for}
-use Rattle.order_solve.specs.LayerContexts.{ContextOf}
+use Rattle.layer_work.specs.LayerContexts.{ContextOf}
 use Rattle.layer_core.proofs.CellPlaces.{layer_is}
 use Rattle.order_solve.proofs.alone.next_layer_alone.Goals as goal
 

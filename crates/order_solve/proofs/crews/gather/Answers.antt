@@ -2,7 +2,7 @@ use Rattle.std.proofs.Common.{◌≡◌, Result, IfOk, IfSome, subst}
 use Rattle.std.proofs.lemmas.List.Elements.{All-pop}
 use Rattle.std.specs.declared.alloc.AllocError.{AllocError}
 use Rattle.layer_board.specs.Views.{BoardId}
-use Rattle.order_solve.specs.declared.worker.WorkerResult.{WorkerResult}
+use Rattle.layer_work.specs.declared.worker.WorkerResult.{WorkerResult}
 use Rattle.order_solve.proofs.crews.gather.Goals as goal
 
 -- a worker that ends well was at the board

@@ -1,6 +1,6 @@
 use Rattle.std.proofs.Common.{sym, ap, ◌∙◌, arith}
 use Rattle.std.proofs.lemmas.Option.{slice_get_read}
-use Rattle.order_solve.specs.LayerContexts.{ContextOf}
+use Rattle.layer_work.specs.LayerContexts.{ContextOf}
 use Rattle.layer_core.proofs.BlockPlaces.{block_layer}
 use Rattle.order_solve.proofs.look_ahead.requests_of_layer.Goals as goal
 

@@ -1,7 +1,7 @@
 use Rattle.std.proofs.Common.{ℕ, ◌<◌, slice_index}
 use Rattle.subset_layers.specs.Layers.{block_masks}
-use Rattle.order_solve.specs.Gains.{StaysClaimed, IsPosted}
-use Rattle.order_solve.proofs.worker.post_block.Given as goal
+use Rattle.layer_work.specs.Gains.{StaysClaimed, IsPosted}
+use Rattle.layer_work.proofs.worker.post_block.Given as goal
 
 abbrev pub invariant-loop-i : goal.invariant-loop-i
 invariant-loop-i g l = record {

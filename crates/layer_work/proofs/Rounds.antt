@@ -12,10 +12,10 @@ use Rattle.layer_core.specs.Instances.{InstanceOf}
 use Rattle.layer_board.specs.Views.{BoardId, SeatOf, stepped, has_claimed, knows_filled}
 use Rattle.layer_core.specs.Needs.{widths_for}
 use Rattle.layer_core.proofs.Filters.{filter_none}
-use Rattle.order_solve.specs.Gains.{gains, gained, StaysClaimed, IsPosted}
-use Rattle.order_solve.proofs.Posts.{claimed_same}
+use Rattle.layer_work.specs.Gains.{gains, gained, StaysClaimed, IsPosted}
+use Rattle.layer_work.proofs.Posts.{claimed_same}
 use Rattle.layer_core.proofs.BlockPlaces.{block_layer}
-use Rattle.order_solve.proofs.ClaimedSets.{ClaimsBlock, claimed_has, same_board, as_before, kept, claim_gains, was_open, open_marks, fewer_open}
+use Rattle.layer_work.proofs.ClaimedSets.{ClaimsBlock, claimed_has, same_board, as_before, kept, claim_gains, was_open, open_marks, fewer_open}
 
 pub record Working (t : InstanceOf) (s0 s : SeatOf) (count : ℕ) : Type 0 where
   pub board : s.board ≡ s0.board

@@ -6,7 +6,7 @@ use Rattle.layer_core.specs.Machine.{Worker, place_of, knows, ends}
 use Rattle.subset_layers.specs.Layers.{LayerOf}
 use Rattle.layer_core.specs.Instances.{layout_of}
 use Rattle.layer_board.specs.Views.{BoardId, SeatOf, stepped, no_more, claims_place, knows_place, has_claimed}
-use Rattle.order_solve.specs.Gains.{StaysClaimed, IsPosted}
+use Rattle.layer_work.specs.Gains.{StaysClaimed, IsPosted}
 
 -- a worker knows no less
 abbrev KnowsMore : Worker → Worker → Type 0

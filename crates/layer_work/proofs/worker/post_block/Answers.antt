@@ -3,10 +3,10 @@ use Rattle.std.proofs.lemmas.Bool.{cases_eq}
 use Rattle.std.proofs.lemmas.Option.{slice_get-get_or}
 use Rattle.layer_core.proofs.CellPlaces.{found_cell}
 use Rattle.subset_layers.specs.Layers.{block_masks}
-use Rattle.order_solve.specs.Gains.{IsPosted}
-use Rattle.order_solve.proofs.Posts.{stays_trans, posted_stays}
+use Rattle.layer_work.specs.Gains.{IsPosted}
+use Rattle.layer_work.proofs.Posts.{stays_trans, posted_stays}
 use Rattle.definitions.proofs.Lists.Accepted.{index_of}
-use Rattle.order_solve.proofs.worker.post_block.Goals as goal
+use Rattle.layer_work.proofs.worker.post_block.Goals as goal
 
 pub post_cell-requires-clause-cell : goal.post_cell-requires-clause-cell
 post_cell-requires-clause-cell g c κs within =

@@ -1,9 +1,9 @@
 use Rattle.std.proofs.Common.{sym, ap, ◌∙◌, arith}
 use Rattle.layer_core.proofs.Layouts.{length-map_lem}
 use Rattle.layer_core.proofs.WantedMembers.{needed_sum}
-use Rattle.order_solve.specs.LayerContexts.{ContextOf}
-use Rattle.order_solve.proofs.Blocks.{are_members, own_layer}
-use Rattle.order_solve.proofs.cells.cells_of_block.Goals as goal
+use Rattle.layer_work.specs.LayerContexts.{ContextOf}
+use Rattle.layer_work.proofs.Blocks.{are_members, own_layer}
+use Rattle.layer_work.proofs.cells.cells_of_block.Goals as goal
 
 pub needs_of_block-requires-clause-next : goal.needs_of_block-requires-clause-next
 needs_of_block-requires-clause-next c =

@@ -4,12 +4,12 @@ use Rattle.subset_layers.specs.declared.costs.Cell.{Cell}
 use Rattle.layer_core.specs.Pairing.{pair_of}
 use Rattle.layer_core.specs.Instances.{cell_for}
 use Rattle.layer_core.proofs.Layouts.{block_below, length-map_lem}
-use Rattle.order_solve.specs.LayerContexts.{ContextOf}
+use Rattle.layer_work.specs.LayerContexts.{ContextOf}
 use Rattle.layer_core.specs.LayerCosts.{AreCells}
 use Rattle.layer_core.specs.Placed.{IsPlaced, StayPlaced, AreCellsPlaced}
 use Rattle.layer_core.proofs.BlockPlaces.{block_layer}
 use Rattle.layer_core.proofs.CellPlaces.{few_block, blocks_more, written_back, all_placed}
-use Rattle.order_solve.proofs.alone.cells_alone.Goals as goal
+use Rattle.layer_work.proofs.alone.cells_alone.Goals as goal
 
 pub cells_of_block-requires-clause-layer : goal.cells_of_block-requires-clause-layer
 cells_of_block-requires-clause-layer c = block_layer c.context.inside.layer.now c.loop-place.place c.block-block.result c.block-block.ensures

@@ -9,7 +9,7 @@ ghost use Rattle.layer_board.specs.Views.{has_claimed, knows_filled};
 ghost use Rattle.layer_core.specs.Pairing.{pair_of};
 ghost use Rattle.layer_core.specs.Needs.{widths_for};
 ghost use Rattle.layer_core.specs.LayerCosts.{AreCells};
-ghost use Rattle.order_solve.specs.Gains.{gains, gained, IsPosted, StaysClaimed};
+ghost use Rattle.layer_work.specs.Gains.{gains, gained, IsPosted, StaysClaimed};
 
 use crate::cells::cells_of_block;
 use crate::context::LayerContext;

@@ -3,13 +3,13 @@ use Rattle.subset_layers.specs.Layers.{LayerOf, BlockOf, layer_of, block_masks}
 use Rattle.definitions.specs.Orders.{has}
 use Rattle.layer_board.specs.Views.{BoardId}
 use Rattle.layer_core.specs.Needs.{widths_for}
-use Rattle.order_solve.specs.LayerContexts.{ContextOf}
-use Rattle.order_solve.specs.Gains.{IsPosted}
-use Rattle.order_solve.proofs.Posts.{no_more_stays}
+use Rattle.layer_work.specs.LayerContexts.{ContextOf}
+use Rattle.layer_work.specs.Gains.{IsPosted}
+use Rattle.layer_work.proofs.Posts.{no_more_stays}
 use Rattle.layer_core.proofs.BlockPlaces.{block_layer}
-use Rattle.order_solve.proofs.ClaimedSets.{few_gained}
-use Rattle.order_solve.proofs.Rounds.{Working, working_none, working_stays, working_round, round_gains, claims_at, round_closes}
-use Rattle.order_solve.proofs.worker.work_layer.Goals as goal
+use Rattle.layer_work.proofs.ClaimedSets.{few_gained}
+use Rattle.layer_work.proofs.Rounds.{Working, working_none, working_stays, working_round, round_gains, claims_at, round_closes}
+use Rattle.layer_work.proofs.worker.work_layer.Goals as goal
 
 pub loop-claim-init : goal.loop-claim-init
 loop-claim-init g c = grind (arith, working_none)

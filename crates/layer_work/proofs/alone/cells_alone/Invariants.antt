@@ -1,7 +1,7 @@
 use Rattle.std.proofs.Common.{◌≡◌, ℕ, ◌<◌, length}
 use Rattle.subset_layers.specs.Layers.{masks_of, block_place}
 use Rattle.layer_core.specs.Placed.{IsPlaced}
-use Rattle.order_solve.proofs.alone.cells_alone.Given as goal
+use Rattle.layer_work.proofs.alone.cells_alone.Given as goal
 
 abbrev pub invariant-loop-place : goal.invariant-loop-place
 invariant-loop-place l = record {

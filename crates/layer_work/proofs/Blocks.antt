@@ -23,7 +23,7 @@ use Rattle.compaction.specs.Rows.{width_wanted, IsWidthRow, AreMembers, AreWidth
 use Rattle.layer_core.specs.Needs.{needed}
 use Rattle.layer_core.proofs.WantedMembers.{wanted_member, wanted_bit, bit_wanted}
 use Rattle.layer_core.proofs.BlockPlaces.{block_has}
-use Rattle.order_solve.specs.LayerContexts.{ContextOf, IsContext}
+use Rattle.layer_work.specs.LayerContexts.{ContextOf, IsContext}
 use Rattle.layer_core.proofs.NeedsByCosts.{wanted_by_costs}
 
 -- the row of a set

@@ -1,6 +1,6 @@
-use Rattle.order_solve.proofs.Rounds.{Working}
-use Rattle.order_solve.proofs.ClaimedSets.{open_marks}
-use Rattle.order_solve.proofs.worker.work_layer.Given as goal
+use Rattle.layer_work.proofs.Rounds.{Working}
+use Rattle.layer_work.proofs.ClaimedSets.{open_marks}
+use Rattle.layer_work.proofs.worker.work_layer.Given as goal
 
 abbrev pub invariant-loop-claim : goal.invariant-loop-claim
 invariant-loop-claim g l = Working l.context.instance l.fn.seat l.seat l.tally

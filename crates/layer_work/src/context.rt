@@ -19,7 +19,7 @@ pub struct LayerContext<'a> {
 
 impl<'a> Model for LayerContext<'a> {
     ghost use Rattle.std.specs.Prelude.{◌≡◌};
-    ghost use Rattle.order_solve.specs.LayerContexts.{ContextOf, context_with, IsContext};
+    ghost use Rattle.layer_work.specs.LayerContexts.{ContextOf, context_with, IsContext};
 
     ghost Value = { ContextOf };
 
@@ -30,7 +30,7 @@ impl<'a> Model for LayerContext<'a> {
 }
 
 impl<'a> LayerContext<'a> {
-    ghost use Rattle.order_solve.specs.LayerContexts.{context_with, IsContext};
+    ghost use Rattle.layer_work.specs.LayerContexts.{context_with, IsContext};
 
     /// What the workers of `layer` read. Requires that `before` has the costs of the sets with one
     /// variable less than those of `layer`, for `instance`, and that `source` gives widths of the
@@ -51,5 +51,34 @@ impl<'a> LayerContext<'a> {
             before,
             source,
         }
+    }
+
+    /// The problem instance.
+    pub fn instance(&self) -> &'a Instance<'a>
+        ensures value { result.now ≡ self.now.instance }
+        ensures context { IsContext self.now }
+    {
+        self.instance
+    }
+
+    /// The layer.
+    pub fn layer(&self) -> &'a Layer
+        ensures { result.now ≡ self.now.layer }
+    {
+        self.layer
+    }
+
+    /// The costs of the layer before: of the sets with one variable fewer.
+    pub fn costs_before(&self) -> &'a Costs
+        ensures { result.now ≡ self.now.before }
+    {
+        self.before
+    }
+
+    /// The source of widths.
+    pub fn source(&self) -> &'a WidthSource<'a>
+        ensures { result.now ≡ self.now.instance.problem }
+    {
+        self.source
     }
 }

@@ -6,9 +6,9 @@ use Rattle.compaction.specs.Rows.{IsWidthRow}
 use Rattle.layer_core.specs.Instances.{InstanceOf, cell_for}
 use Rattle.layer_core.specs.Pairing.{pair_of}
 use Rattle.layer_core.specs.Needs.{needed}
-use Rattle.order_solve.specs.LayerContexts.{ContextOf}
-use Rattle.order_solve.proofs.Blocks.{in_layer, row_there, cell_is}
-use Rattle.order_solve.proofs.cells.cells_by_rows.Goals as goal
+use Rattle.layer_work.specs.LayerContexts.{ContextOf}
+use Rattle.layer_work.proofs.Blocks.{in_layer, row_there, cell_is}
+use Rattle.layer_work.proofs.cells.cells_by_rows.Goals as goal
 
 pub least_cell-requires-clause-inputs : goal.least_cell-requires-clause-inputs
 least_cell-requires-clause-inputs c =

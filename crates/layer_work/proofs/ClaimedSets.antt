@@ -19,7 +19,7 @@ use Rattle.layer_core.specs.Needs.{width_count, widths_for}
 use Rattle.layer_core.proofs.Filters.{sum_few}
 use Rattle.layer_core.proofs.WantedMembers.{few_each}
 use Rattle.layer_core.proofs.BlockPlaces.{block_layer, in_place}
-use Rattle.order_solve.specs.Gains.{gains, gained}
+use Rattle.layer_work.specs.Gains.{gains, gained}
 
 -- ---- a mask and its block
 

@@ -1,5 +1,5 @@
 use Rattle.std.proofs.Common.{rules}
-use Rattle.order_solve.proofs.worker.post_cell.Goals as goal
+use Rattle.layer_work.proofs.worker.post_cell.Goals as goal
 
 pub returns-clause-posted : goal.returns-clause-posted
 returns-clause-posted g c = search rules

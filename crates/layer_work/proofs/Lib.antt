@@ -1,0 +1,4 @@
+pub mod Blocks
+pub mod Posts
+pub mod ClaimedSets
+pub mod Rounds

@@ -1,0 +1,2 @@
+pub mod LayerContexts
+pub mod Gains
