@@ -1,10 +1,10 @@
 //! The values of problems in strips.
 
 use crate::problems::{MULTIPLEXER, five_bit_numbers, problem_of};
+use compaction::value_strips;
 use order_model::Problem;
 use std::alloc::Global;
 use std::process::Abort;
-use compaction::value_strips;
 
 /// Whether the values of one function of three variables make one strip of eight numbers.
 fn is_one_strip(rt: &impl Abort, alloc: Global, problem: &Problem) -> bool {

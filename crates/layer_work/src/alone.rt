@@ -13,10 +13,7 @@ use subset_layers::Cell;
 
 /// Computes the cells of the sets of the layer of `context`, in the layer's order, on the calling
 /// thread.
-pub fn cells_alone(
-    alloc: Global,
-    context: &LayerContext<'_>,
-) -> Result<Vec<Cell>, AllocError>
+pub fn cells_alone(alloc: Global, context: &LayerContext<'_>) -> Result<Vec<Cell>, AllocError>
     ensures { IfOk result (λ v.
         AreCells context.entry.now.instance (masks_of context.entry.now.layer) v.items) }
 {

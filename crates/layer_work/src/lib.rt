@@ -1,5 +1,5 @@
-//! A worker's part of a layer (the sets of one size): what it reads, and the cells of the blocks that
-//! it claims at the layer's board. The calling thread can compute all cells of a layer alone.
+//! A worker's part of a layer (the sets of one size): what it reads, and the cells of the blocks
+//! that it claims at the layer's board. The calling thread can compute all cells of a layer alone.
 #![tactic(auto)]
 
 mod alone;

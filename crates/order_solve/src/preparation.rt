@@ -11,8 +11,7 @@ use order_model::{Limit, LowerBound, Pairs, Problem, Workers};
 use std::alloc::{AllocError, Global};
 use std::marker::Model;
 use std::thread::Threads;
-use symmetries::pairs_to_keep;
-use symmetries::Renaming;
+use symmetries::{Renaming, pairs_to_keep};
 
 /// What a search begins with: the pairs that a search for the order alone keeps, the tables that
 /// walks read, and rows of widths that were computed ahead.

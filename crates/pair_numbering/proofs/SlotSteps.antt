@@ -1,15 +1,13 @@
 -- Steps of the numbering by slots.
---     counted_none, counted_step, counted_all      no lower class is counted yet; one more is; all are
---     uncounted      none is counted once
+--     counted_step, counted_all      one more lower class is counted; all are
 --     slotted_none      no pair yet
 --     slotted_step      one more pair, whose number is that of the first pair like it
 --     slotted_old, slotted_new      it has come before; it is new
 --     slotted_lone      its lower class is that of no other pair
-use Rattle.std.proofs.Common.{◌≡◌, ◌≢◌, ℕ, ◌+◌, ◌*◌, ◌<◌, ◌≤◌, inl, inr, List, length, get_or, set, take, replicate, refl, sym, ap, ◌∙◌, subst, arith}
+use Rattle.std.proofs.Common.{◌≡◌, ◌≢◌, ℕ, ◌+◌, ◌*◌, ◌<◌, ◌≤◌, inl, inr, List, length, get_or, set, take, refl, sym, ap, ◌∙◌, subst, arith}
 use Rattle.std.proofs.Math.Nat.{min-eq_left, min-eq_right}
-use Rattle.std.proofs.Math.ListN.{get_or-eq_default}
 use Rattle.std.proofs.lemmas.Bool.{cases_eq, cases_lt}
-use Rattle.std.proofs.lemmas.List.{get_or-replicate, get_or-set_same, get_or-set_other, length-replicate, length-set, length-take, take-set, take_more_set}
+use Rattle.std.proofs.lemmas.List.{get_or-set_same, get_or-set_other, length-set, length-take, take-set, take_more_set}
 use Rattle.subfunction_classes.specs.Numbering.{IsFirstOccurrence}
 use Rattle.pair_numbering.specs.LowerClasses.{AreLone, Counted}
 use Rattle.pair_numbering.specs.Slots.{Found, IsSlot, Slotted, slot_number}
@@ -17,9 +15,6 @@ use Rattle.subfunction_classes.specs.Made.{Made}
 use Rattle.subfunction_classes.proofs.Firsts.{made_none, made_first, made_again}
 
 module _ (ps : List (ℕ × ℕ)) (counts : List ℕ) where
-  pub counted_none : (j : ℕ) → j ≡ 0 → Counted ps counts j
-  counted_none j e = record { met = λ i l. absurd (omega arith); lone = λ i k a b. absurd (omega arith) }
-
   pub counted_step : (j v : ℕ) → (get_or ps j (0, 0)).0 < length counts → v ≢ 0 → (get_or counts (get_or ps j (0, 0)).0 0 ≢ 0 → v ≢ 1) →
       Counted ps counts j → Counted ps (set counts (get_or ps j (0, 0)).0 v) (j + 1)
   counted_step j v inside some more h = record {
@@ -41,15 +36,6 @@ module _ (ps : List (ℕ × ℕ)) (counts : List ℕ) where
 
       before : (i : ℕ) → lower i ≢ lower j → i < j + 1 → i < j
       before i ne l = elim (cases_eq i j) [ inl e ↦ absurd (ne (ap lower e)) | inr n ↦ omega arith ]
-
-  pub uncounted : (classes : ℕ) → counts ≡ replicate classes 0 → AreLone ps counts
-  uncounted classes none i k a b e q =
-      let c = (get_or ps i (0, 0)).0 in
-      let zero : get_or counts c 0 ≡ 0 = elim (cases_lt c classes) [
-        | inl l ↦ ap (λ us. get_or us c 0) none ∙ get_or-replicate classes c 0 0 l
-        | inr l ↦ get_or-eq_default counts 0 (omega (arith, ap length none, length-replicate {A = ℕ} classes 0))
-      ] in
-      omega arith
 
   pub counted_all : (j : ℕ) → length ps ≤ j → Counted ps counts j → AreLone ps counts
   counted_all j l h = λ i k a b. h.lone i k a (omega arith)

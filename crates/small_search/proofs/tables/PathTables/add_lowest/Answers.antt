@@ -257,7 +257,8 @@ make_classes-requires-clause-ready c = λ d.
     c.requires.path i.value i.few o.value o.few in
     let a = c.if-size-le-MOST_VALUE_VARIABLES.false in
     let b = c.if-size.false in
-    subst (λ (us : List MaskedNumbers). IsReady (get_or us (count_ones c.args.set - 5) d) (trailing_zeros w16 c.args.set)) (sym c.deref_mut-else-size.ensures.value)
+    subst (λ (us : List MaskedNumbers). IsReady (get_or us (count_ones c.args.set - 5) d) (trailing_zeros w16 c.args.set))
+    (sym c.deref_mut-else-size.ensures.value)
     (is_ready c.args.search.now.problem c.args.set c.args.self.now g (omega (arith, a, b)) d)
 
 pub returns-in_ok-number_values : goal.returns-in_ok-number_values
