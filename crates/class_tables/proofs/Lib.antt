@@ -1,1 +1,2 @@
 pub mod CountedFirsts
+pub mod PairChains

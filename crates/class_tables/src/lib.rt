@@ -3,6 +3,7 @@
 //! made once.
 #![tactic(auto)]
 
+mod chains;
 mod classes;
 mod indexed_pairs;
 mod scratch;

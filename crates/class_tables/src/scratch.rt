@@ -3,10 +3,11 @@
 ghost use Rattle.std.specs.Prelude.{◌≡◌, ◌==◌, ℕ, ◌+◌, ◌*◌, ◌/◌, ◌^◌, ◌<◌, ◌≤◌, length, IfOk};
 ghost use Rattle.class_tables.specs.Scratch.{AreLong, CountsMasks, most_entries};
 ghost use Rattle.subfunction_classes.specs.Places as places;
-ghost use Rattle.pair_numbering.specs.Chains.{AreFirsts};
+ghost use Rattle.class_tables.specs.Chains.{AreFirsts};
 
+use crate::chains::first_pairs;
 use order_model::{Problem, contains};
-use pair_numbering::{MaskedPairs, first_pairs};
+use pair_numbering::MaskedPairs;
 use std::alloc::{AllocError, Global};
 use std::marker::Model;
 use subfunction_classes::join_mask;

@@ -6,7 +6,6 @@ use Rattle.std.specs.Set.{distinct_count}
 use Rattle.std.proofs.Math.Nat.{mul-le-mul_right}
 use Rattle.std.proofs.lemmas.Map.Made.{distinct_count-le}
 use Rattle.definitions.specs.Widths.{same_pair}
-use Rattle.pair_numbering.specs.Chains.{lower_at, upper_at}
 use Rattle.pair_numbering.specs.Numbers.{ArePairsNumbered}
 use Rattle.subfunction_classes.specs.Places as places
 use Rattle.subfunction_classes.specs.Strips.{AreNamed, names_of, unrolled}
@@ -48,7 +47,7 @@ module _ (outer numbers : List ℕ) (len r : ℕ) (strips : AreStrips outer numb
         grind arith in e)
 
     pub paired_lower : (j a : ℕ) → j < length outer / 2 → a < len →
-        get_or paired (get_or numbered j 0 * (2 * len) + a) 0 ≡ get_or numbers (lower_at outer (2 ^ r) j * len + a) 0
+        get_or paired (get_or numbered j 0 * (2 * len) + a) 0 ≡ get_or numbers (get_or outer (places.low_place (2 ^ r) j) 0 * len + a) 0
     paired_lower j a l i =
         let s = length-pairs outer (2 ^ r) in
         let n = length_names_of pairs in
@@ -61,7 +60,7 @@ module _ (outer numbers : List ℕ) (len r : ℕ) (strips : AreStrips outer numb
         ∙ ap (λ z. get_or numbers (z * len + a) 0) (name_low pairs k b ∙ ap (λ (q : ℕ × ℕ). q.0) p)
 
     pub paired_upper : (j a : ℕ) → j < length outer / 2 → a < len →
-        get_or paired (get_or numbered j 0 * (2 * len) + len + a) 0 ≡ get_or numbers (upper_at outer (2 ^ r) j * len + a) 0
+        get_or paired (get_or numbered j 0 * (2 * len) + len + a) 0 ≡ get_or numbers (get_or outer (places.low_place (2 ^ r) j + 2 ^ r) 0 * len + a) 0
     paired_upper j a l i =
         let s = length-pairs outer (2 ^ r) in
         let n = length_names_of pairs in

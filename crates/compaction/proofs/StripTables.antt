@@ -8,7 +8,6 @@ use Rattle.std.proofs.Math.Nat.{mul-le-mul_right, add-mul-mod_self_right, add-mu
 use Rattle.std.proofs.lemmas.List.{get_or-map, length-map}
 use Rattle.definitions.specs.Widths.{same_pair}
 use Rattle.definitions.proofs.Widths.ClassPairs.{pair_decides}
-use Rattle.pair_numbering.specs.Chains.{lower_at, upper_at}
 use Rattle.subfunction_classes.specs.Numbering.{rank, ranks}
 use Rattle.subfunction_classes.specs.Places.{low_place, pair_at, pairs}
 use Rattle.subfunction_classes.specs.Strips.{AreNamed, unrolled}
@@ -64,9 +63,9 @@ module _ (outer numbers : List ℕ) (len s : ℕ) (strips : AreStrips outer numb
     (numbered paired : List ℕ) (ranked : numbered ≡ ranks same_pair (pairs outer s))
     (long : length paired ≡ distinct_count same_pair (pairs outer s) * (2 * len))
     (lower : (j a : ℕ) → j < length outer / 2 → a < len →
-    get_or paired (get_or numbered j 0 * (2 * len) + a) 0 ≡ get_or numbers (lower_at outer s j * len + a) 0)
+    get_or paired (get_or numbered j 0 * (2 * len) + a) 0 ≡ get_or numbers (get_or outer (low_place s j) 0 * len + a) 0)
     (upper : (j a : ℕ) → j < length outer / 2 → a < len →
-    get_or paired (get_or numbered j 0 * (2 * len) + len + a) 0 ≡ get_or numbers (upper_at outer s j * len + a) 0)
+    get_or paired (get_or numbered j 0 * (2 * len) + len + a) 0 ≡ get_or numbers (get_or outer (low_place s j + s) 0 * len + a) 0)
     (masks : List ℕ) (x : ℕ) (labels joined : List ℕ) (names : TellsPairs masks x (pairs paired len) labels joined) where
   ps : List (ℕ × ℕ)
   ps = pairs outer s
@@ -109,7 +108,7 @@ module _ (outer numbers : List ℕ) (len s : ℕ) (strips : AreStrips outer numb
   -- the place of a run's entry among the pairs of the longer table, and the place of its name
   entry_pair : (i a : ℕ) → i < length outer / 2 → a < len →
       pair_at (unrolled outer numbers len) (len * s) (i * len + a) ≡
-      (get_or numbers (lower_at outer s i * len + a) 0, get_or numbers (upper_at outer s i * len + a) 0)
+      (get_or numbers (get_or outer (low_place s i) 0 * len + a) 0, get_or numbers (get_or outer (low_place s i + s) 0 * len + a) 0)
   entry_pair i a h k = grind (arith, pair_within, high_place, unrolled_at)
 
   name_place : (i a : ℕ) → i < length outer / 2 → a < len → get_or numbered i 0 * len + a < length paired / 2
@@ -121,7 +120,7 @@ module _ (outer numbers : List ℕ) (len s : ℕ) (strips : AreStrips outer numb
 
   name_pair : (i a : ℕ) → i < length outer / 2 → a < len →
       get_or (pairs paired len) (get_or numbered i 0 * len + a) (0, 0) ≡
-      (get_or numbers (lower_at outer s i * len + a) 0, get_or numbers (upper_at outer s i * len + a) 0)
+      (get_or numbers (get_or outer (low_place s i) 0 * len + a) 0, get_or numbers (get_or outer (low_place s i + s) 0 * len + a) 0)
   name_pair i a h k =
       let p = low_place_parts len (get_or numbered i 0) a k in
       let l = ap (λ z. get_or paired z 0) p ∙ lower i a h k in

@@ -169,28 +169,4 @@ impl<'a> SharedTables<'a> {
         tally.add_wanted(needed);
         Ok(BlockWidths { rows, compactions })
     }
-
-    /// Computes a row for each set of the block: at each member x the width of x over the other
-    /// members, and 0 elsewhere. The walk begins at a shared table. For measurements and tests.
-    /// `tally` rises by the number of these widths, unless memory is refused. Requires it to be
-    /// below 2^31 before, and the block to have the problem's number of inputs.
-    pub fn all_widths(
-        &self,
-        alloc: Global,
-        block: &Block,
-        tally: &mut Tally,
-    ) -> Result<BlockWidths, AllocError>
-        requires inputs { block.now.inputs ≡ self.now.inputs }
-        requires room { tally.old < 2 ^ 31 }
-        ensures rows { IfOk result
-            (λ widths. AreWidthRows self.now (block_masks block.now) (block_masks block.now)
-            widths.rows) }
-        ensures compactions { IfOk result (λ widths. widths.compactions ≤ most_compactions) }
-        ensures ok { OnOk result (tally.new ≡ tally.old + wanted_count (block_masks block.now)) }
-        ensures err { OnErr result (tally.new ≡ tally.old) }
-    {
-        prove!(self.problem().inputs() <= 16);
-        prove!(block.len() <= 256);
-        self.block_widths(alloc, block, block.masks(), tally)
-    }
 }

@@ -27,4 +27,3 @@ pub use requests::Requests;
 pub use shared_tables::SharedTables;
 pub use source::WidthSource;
 pub use tally::Tally;
-pub use values::{ValueStrips, value_strips};

@@ -86,8 +86,7 @@ impl NamePairs {
 /// The number, by first occurrence, of each pair of strip names that stand 2^`rank` apart in
 /// `names`, at places i and i + 2^`rank` where bit `rank` of i is 0; and the distinct pairs, by
 /// rising number. Both are copied from `known` if it was made for the same names and rank; else it
-/// is ignored. Requires each name to be in a pair, and below `count`, the number of stored strips,
-/// which is at most 2^20.
+/// is ignored. Requires each name to be in a pair, and below `count`, the number of stored strips.
 pub(crate) fn number_names(
     alloc: Global,
     names: &[u32],
@@ -95,8 +94,7 @@ pub(crate) fn number_names(
     count: usize,
     known: Option<&NamePairs>,
 ) -> Result<NumberedPairs, AllocError>
-    requires table { IsPairTable names.now rank count }
-    requires few { count ≤ 2 ^ 20 }
+    requires { IsPairTable names.now rank count }
     ensures { IfOk result (λ v. ArePairsNumbered names.now rank v.numbers.items v.pairs.items) }
 {
     if let Some(known) = known {

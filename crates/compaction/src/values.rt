@@ -17,11 +17,11 @@ use subfunction_classes::{number_of_value, value_numbers};
 /// The class numbers of a problem's values in strips, one for each function and each assignment of
 /// the variables above the lowest eight. Equal strips may be stored once.
 #[derive(Drop)]
-pub struct ValueStrips {
+pub(crate) struct ValueStrips {
     /// For each strip, function by function, its number among the stored strips.
-    pub outer: Vec<u32>,
+    pub(crate) outer: Vec<u32>,
     /// The class numbers in the stored strips, one strip after the other.
-    pub numbers: Vec<u32>,
+    pub(crate) numbers: Vec<u32>,
 }
 
 /// Strips of 256 points of truth tables. The name of a strip is its number among the distinct ones.
@@ -108,7 +108,7 @@ fn whole_strips(alloc: Global, problem: &Problem) -> Result<ValueStrips, AllocEr
 /// variables alone; equal strips are stored once. The value of function 0 at point 0 has the class
 /// number 0, and the other value has 1. With fewer than eight variables there is a strip for each
 /// function instead, which is its whole truth table.
-pub fn value_strips(alloc: Global, problem: &Problem) -> Result<ValueStrips, AllocError>
+pub(crate) fn value_strips(alloc: Global, problem: &Problem) -> Result<ValueStrips, AllocError>
     ensures { IfOk result (λ v. HoldsValues problem.now v.outer.items v.numbers.items
         (2 ^ min problem.now.inputs 8)) }
 {

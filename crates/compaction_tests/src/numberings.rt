@@ -1,6 +1,8 @@
 //! Pairs of a table's entries, numbered by first occurrence and by keys.
 
-use pair_numbering::{EntryPairs, MaskedPairs, PairKeys, PairMemory, label_pairs, number_entries};
+use pair_numbering::{
+    EntryPairs, MaskedPairs, PairKeys, PairMemory, label_pairs, number_entries, number_with_masks,
+};
 use std::alloc::Global;
 use std::process::Abort;
 
@@ -34,6 +36,13 @@ fn labels_strip_pairs(rt: &impl Abort, alloc: Global) -> bool {
     );
     let is_two = have_keys(two.expect(rt, "memory"), &[2, 1, 3, 0], &[1, 11, 11, 2]);
     is_four && is_two
+}
+
+/// Whether the pairs of a table without equal entries are numbered as they stand.
+fn numbers_distinct_entries(rt: &impl Abort, alloc: Global) -> bool {
+    let pairs = MaskedPairs::of_table(&[0, 1, 2, 3], 1, 3, &[1, 2, 4, 1]);
+    let found = number_with_masks(&mut PairMemory::new(alloc), &pairs).expect(rt, "memory");
+    found.numbers.as_slice() == [0, 1].as_slice() && found.masks.as_slice() == [13, 11].as_slice()
 }
 
 /// Eighty pairs that are looked for from one slot on, each of them twice. Fewer slots are tried.
@@ -73,5 +82,5 @@ fn numbers_crowded_pairs(rt: &impl Abort, alloc: Global) -> bool {
 #[test]
 fn pairs_are_numbered_with_their_masks(rt: HostRuntime) {
     assert!(rt; numbers_pairs(&rt, rt.alloc()) && numbers_crowded_pairs(&rt, rt.alloc()));
-    assert!(rt; labels_strip_pairs(&rt, rt.alloc()));
+    assert!(rt; labels_strip_pairs(&rt, rt.alloc()) && numbers_distinct_entries(&rt, rt.alloc()));
 }

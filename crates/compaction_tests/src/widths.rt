@@ -70,9 +70,10 @@ fn sum_of_block(
     requires { shared.now ≡ problem.now }
 {
     assert!(rt; block.inputs() == problem.inputs());
+    prove!(problem.inputs() <= 16 && block.len() <= 256);
     let mut tally = Tally::new();
     let widths = shared
-        .all_widths(alloc, block, &mut tally)
+        .block_widths(alloc, block, block.masks(), &mut tally)
         .expect(rt, "memory");
     assert!(rt; widths.compactions() <= 2367 && tally.count() == members_of(block));
     sum_of_rows(rt, alloc, problem, block, &widths)

@@ -1,5 +1,4 @@
 pub mod CellSteps
-pub mod PairChains
 pub mod InBlocks
 pub mod EntryPlaces
 pub mod Names

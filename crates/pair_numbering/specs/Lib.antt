@@ -1,5 +1,4 @@
 pub mod Cells
-pub mod Chains
 pub mod Keys
 pub mod Numbers
 pub mod Slots

@@ -2,12 +2,13 @@
 //! blocks of 2^rank: the entries of a block at which the variable is 0 stand one behind the other,
 //! and so do those at which it is 1. The blocks of a layer are something else.
 
-ghost use Rattle.std.specs.Prelude.{◌≡◌, ℕ, ◌+◌, ◌*◌, ◌/◌, ◌^◌, ◌<◌, ◌≤◌, length, slice_index, get_or, IfSome};
+ghost use Rattle.std.specs.Prelude.{◌≡◌, ℕ, ◌+◌, ◌*◌, ◌/◌, ◌^◌, ◌<◌, ◌≤◌, length, slice_index, get_or, IfSome, IsTrue};
 ghost use Rattle.subfunction_classes.specs.Places as places;
-ghost use Rattle.subfunction_classes.specs.PairTables.{IsPaired};
+ghost use Rattle.subfunction_classes.specs.PairTables.{AreOwn, IsPaired};
 ghost use Rattle.subfunction_classes.specs.Strips.{AreNamed, names_of, unrolled};
 ghost use Rattle.pair_numbering.specs.Strips.{strips_at};
 
+use crate::numbers::are_in_order;
 use std::marker::Model;
 
 /// The pairs of a class table's entries that differ in one variable alone. The table's entries
@@ -138,6 +139,18 @@ impl<'a> EntryPairs<'a> {
         match self.names {
             None => self.numbers.len() / 2,
             Some(names) => names.len() << self.rank,
+        }
+    }
+
+    /// Whether the table's entries are 0, 1, 2 and so on, so that no two are equal. False if they
+    /// stand in strips.
+    #[inline(always)]
+    pub(crate) fn are_in_order(&self) -> bool
+        ensures { IsTrue result → AreOwn self.now.numbers }
+    {
+        match self.names {
+            None => are_in_order(self.numbers),
+            Some(_) => false,
         }
     }
 

@@ -4,8 +4,8 @@
 #![tactic(auto)]
 
 mod cells;
-mod chains;
 mod entries;
+mod index;
 mod keys;
 mod lower_classes;
 mod masks;
@@ -13,8 +13,8 @@ mod memory;
 mod numbers;
 mod slots;
 
-pub use chains::first_pairs;
 pub use entries::EntryPairs;
+pub use index::index_entries;
 pub use keys::{PairKeys, label_pairs};
 pub use masks::{MaskedPairs, join_masks};
 pub use memory::PairMemory;

@@ -1,5 +1,6 @@
-//! Numbers of pairs by first occurrence, and their masks, in memory that is used again: by cells,
-//! slots or chains, whichever is fastest.
+//! Numbers of pairs by first occurrence, and their masks: as they stand if no two entries are
+//! equal, else by cells if there are few classes, else by slots. Their memory is used again. Where
+//! slots fail, an `IndexSet` finds the numbers.
 
 ghost use Rattle.std.specs.Prelude.{◌≡◌, ℕ, ◌*◌, ◌^◌, ◌<◌, ◌≤◌, length, OnOk};
 ghost use Rattle.subfunction_classes.specs.PairTables.{IsPairTable};
@@ -7,10 +8,10 @@ ghost use Rattle.pair_numbering.specs.Numbers.{ArePairsNumbered};
 ghost use Rattle.pair_numbering.specs.MaskedNumbers.{NumbersMasked};
 
 use crate::cells::number_pairs_by_cells;
-use crate::chains::{find_first_pairs, number_firsts};
 use crate::entries::EntryPairs;
+use crate::index::index_entries;
 use crate::masks::{MaskedPairs, join_masks};
-use crate::numbers::MaskedNumbers;
+use crate::numbers::{MaskedNumbers, number_distinct_pairs};
 use crate::slots::number_pairs_by_slots;
 use std::alloc::{AllocError, Global};
 
@@ -46,16 +47,15 @@ impl PairMemory {
     }
 
     /// Numbers the pairs by first occurrence: overwrites `numbers` with the number of each pair,
-    /// and `self.pairs` with the pair of each number. Requires all classes to be below `classes`,
-    /// which is at most 2^20. If memory is refused, the two have no meaning.
+    /// and `self.pairs` with the pair of each number. Requires all classes to be below `classes`.
+    /// If memory is refused, the two have no meaning.
     pub fn number(
         &mut self,
         entries: &EntryPairs<'_>,
         classes: usize,
         numbers: &mut Vec<u32>,
     ) -> Result<(), AllocError>
-        requires table { IsPairTable entries.now.numbers entries.now.rank classes }
-        requires few { classes ≤ 2 ^ 20 }
+        requires { IsPairTable entries.now.numbers entries.now.rank classes }
         ensures { OnOk result
             (ArePairsNumbered entries.now.numbers entries.now.rank numbers.new.items
             self.new.pairs.items) }
@@ -63,8 +63,7 @@ impl PairMemory {
         if number_pairs_by_slots(entries, classes, self, numbers)? {
             return Ok(());
         }
-        let first = find_first_pairs(self.alloc, entries, classes)?;
-        let found = number_firsts(self.alloc, entries, &first)?;
+        let found = index_entries(self.alloc, entries)?;
         *numbers = found.numbers;
         self.pairs = found.pairs;
         Ok(())
@@ -82,6 +81,9 @@ impl PairMemory {
     {
         prove!(pairs.rank() < 16);
         let classes = pairs.masks.len();
+        if classes == 2 * pairs.entries.len() && pairs.entries.are_in_order() {
+            return number_distinct_pairs(pairs, to);
+        }
         if classes * classes <= MOST_CELLS_PER_PAIR * pairs.entries.len() {
             if number_pairs_by_cells(pairs, &mut self.cells, to)? {
                 return Ok(());

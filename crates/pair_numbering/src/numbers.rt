@@ -1,7 +1,8 @@
 //! Numbers of pairs by first occurrence, in lists of their own.
 
-ghost use Rattle.std.specs.Prelude.{◌≡◌, ◌<◌, ◌^◌, ◌≤◌, ℕ, length, slice_index, IfOk, IsTrue};
+ghost use Rattle.std.specs.Prelude.{◌≡◌, ◌<◌, ◌^◌, ◌≤◌, ℕ, length, slice_index, IfOk, IsTrue, OnOk};
 ghost use Rattle.subfunction_classes.specs.PairTables.{AreOwn, IsPairTable};
+ghost use Rattle.subfunction_classes.specs.Places as places;
 ghost use Rattle.pair_numbering.specs.Numbers.{ArePairsNumbered};
 ghost use Rattle.pair_numbering.specs.MaskedNumbers.{NumbersMasked};
 
@@ -10,6 +11,7 @@ use crate::masks::MaskedPairs;
 use crate::memory::PairMemory;
 use definitions::Mask;
 use std::alloc::{AllocError, Global};
+use subfunction_classes::join_mask;
 
 /// `numbers[j]` is the number of pair j, and `masks[k]` the mask of number k: the variables that
 /// the functions of its pair depend on. If the pairs are those of a set's class table, these are
@@ -38,14 +40,13 @@ pub struct NumberedPairs {
 }
 
 /// Numbers the pairs by first occurrence: the number of each pair, and the pair of each number.
-/// Requires all classes to be below `classes`, which is at most 2^20.
+/// Requires all classes to be below `classes`.
 pub fn number_entries(
     alloc: Global,
     entries: &EntryPairs<'_>,
     classes: usize,
 ) -> Result<NumberedPairs, AllocError>
-    requires table { IsPairTable entries.now.numbers entries.now.rank classes }
-    requires few { classes ≤ 2 ^ 20 }
+    requires { IsPairTable entries.now.numbers entries.now.rank classes }
     ensures { IfOk result
         (λ v. ArePairsNumbered entries.now.numbers entries.now.rank v.numbers.items
         v.pairs.items) }
@@ -68,6 +69,44 @@ pub fn number_with_masks(
     let mut to = MaskedNumbers::with_room(memory.alloc, 0)?;
     memory.write_numbers(pairs, &mut to)?;
     Ok(to)
+}
+
+/// The place of the first entry of pair j, that where the variable is 0, in a table without strips.
+/// `rank` is how many variables outside the table's set are below the variable. Requires j, counted
+/// from 0, to be below 2^32.
+#[inline(always)]
+fn low_place(rank: u32, j: usize) -> usize
+    requires rank { rank < 16 }
+    requires place { j < 2 ^ 32 }
+    ensures { result ≡ places.low_place (2 ^ rank) j }
+{
+    let below = (1usize << rank) - 1;
+    2 * j - (j & below)
+}
+
+/// Overwrites `to` with the numbers of the pairs, which are 0, 1, 2 and so on, and for each pair
+/// the mask of the function whose cofactors are the pair. Requires the table's entries to be 0, 1,
+/// 2 and so on, so that no two pairs are equal. If memory is refused, `to` has no meaning.
+pub(crate) fn number_distinct_pairs(
+    pairs: &MaskedPairs<'_>,
+    to: &mut MaskedNumbers,
+) -> Result<(), AllocError>
+    requires { AreOwn pairs.now.entries.numbers }
+    ensures { OnOk result (NumbersMasked pairs.now to.new.numbers.items to.new.masks.items) }
+{
+    let masks = pairs.masks;
+    let x = pairs.x;
+    let rank = pairs.rank();
+    let half = pairs.entries.len();
+    to.numbers.resize(half, 0)?;
+    to.masks.resize(half, 0)?;
+    for j in 0..half {
+        let low = low_place(rank, j);
+        let pair = (low as u32, (low + (1usize << rank)) as u32);
+        to.numbers[j] = j as u32;
+        to.masks[j] = join_mask(masks, x, pair);
+    }
+    Ok(())
 }
 
 /// Whether the numbers are 0, 1, 2 and so on; true if there are none. If they are a class table, no

@@ -8,22 +8,22 @@ use Rattle.class_tables.proofs.indexed_pairs.number_pairs_by_index.Goals as goal
 pub join_masks-requires-clause-classes : goal.join_masks-requires-clause-classes
 join_masks-requires-clause-classes c =
     let p = c.args.pairs.now in
-    let m = c.in_ok-distinct.ensures in
-    subst (λ us. ArePairsBelow us (length p.masks.now)) (sym c.deref-2.ensures.value)
+    let n = c.in_ok-indexed.ensures in
+    subst (λ us. ArePairsBelow us (length p.masks.now)) (sym c.deref.ensures.value)
     (met_classes p.entries.numbers p.entries.rank (length p.masks.now) c.rank.ensures.table.paired.whole c.rank.ensures.table.below
-    c.deref.result.now c.in_ok-distinct.distinct.items m.numbered_are m.many m.labels)
+    c.in_ok-indexed.indexed.numbers.items c.in_ok-indexed.indexed.pairs.items n.numbered_are n.many n.labels)
 
 pub returns : goal.returns
 returns c =
     let p = c.args.pairs.now in
     let ps = places.pairs p.entries.numbers (2 ^ p.entries.rank) in
     let join = joined_mask p.masks.now p.x in
-    let distinct = c.in_ok-distinct.distinct.items in
-    let n = c.deref.ensures.value in
-    let m = c.in_ok-distinct.ensures in
-    let joined = c.in_ok-join_masks.ensures ∙ ap (map join) c.deref-2.ensures.value in
+    let numbers = c.in_ok-indexed.indexed.numbers.items in
+    let distinct = c.in_ok-indexed.indexed.pairs.items in
+    let n = c.in_ok-indexed.ensures in
+    let joined = c.in_ok-join_masks.ensures ∙ ap (map join) c.deref.ensures.value in
     record {
-      numbers_are = c.in_ok-indexed.ensures;
-      many = ap length joined ∙ masks_many ps c.deref.result.now distinct m.numbered_are m.many m.labels join;
-      labels = (λ i. map (λ k. get_or (joined i) k 0) (sym n i)) ∙ masks_told ps c.deref.result.now distinct m.numbered_are m.many m.labels join;
+      numbers_are = n.numbered_are;
+      many = ap length joined ∙ masks_many ps numbers distinct n.numbered_are n.many n.labels join;
+      labels = ap (λ us. map (λ k. get_or us k 0) numbers) joined ∙ masks_told ps numbers distinct n.numbered_are n.many n.labels join;
     }

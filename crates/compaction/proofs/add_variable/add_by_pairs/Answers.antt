@@ -14,8 +14,8 @@ use Rattle.compaction.proofs.StripPairs.{paired_few, paired_long, paired_lower, 
 use Rattle.compaction.proofs.StripTables.{high_strips, high_tells}
 use Rattle.compaction.proofs.add_variable.add_by_pairs.Goals as goal
 
-pub number_names-requires-clause-table : goal.number_names-requires-clause-table
-number_names-requires-clause-table c = grind (arith, pow_pos, mul-le-mul_left, div-eq_of_lt, add-mul-div_right)
+pub number_names-requires : goal.number_names-requires
+number_names-requires c = grind (arith, pow_pos, mul-le-mul_left, div-eq_of_lt, add-mul-div_right)
 
 pub of_strips-pairs-requires-clause-strips : goal.of_strips-pairs-requires-clause-strips
 of_strips-pairs-requires-clause-strips c =

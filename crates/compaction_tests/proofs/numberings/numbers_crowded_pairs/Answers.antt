@@ -6,8 +6,8 @@ of_table-requires g c =
     let l = c.crowded_pairs-numbers.auto in
     record { small_rank = search rules; short = search (l, rules); whole = (160, search rules) }
 
-pub number_entries-requires-clause-table : goal.number_entries-requires-clause-table
-number_entries-requires-clause-table g c =
+pub number_entries-requires : goal.number_entries-requires
+number_entries-requires g c =
     let l = c.crowded_pairs-numbers.auto in
     rw (c.of_table.ensures.numbers, c.of_table.ensures.rank)
     (record {

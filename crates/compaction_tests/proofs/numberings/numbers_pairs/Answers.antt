@@ -4,8 +4,8 @@ use Rattle.compaction_tests.proofs.numberings.numbers_pairs.Goals as goal
 pub of_table-requires : goal.of_table-requires
 of_table-requires g c = record { small_rank = omega arith; short = omega arith; whole = (3, omega arith) }
 
-pub number_entries-requires-clause-table : goal.number_entries-requires-clause-table
-number_entries-requires-clause-table g c =
+pub number_entries-requires : goal.number_entries-requires
+number_entries-requires g c =
     rw (c.of_table.ensures.numbers, c.of_table.ensures.rank)
     (record {
       paired = record { small_rank = omega arith; short = omega arith; whole = (3, omega arith) };

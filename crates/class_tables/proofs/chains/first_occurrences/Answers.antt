@@ -1,9 +1,9 @@
 use Rattle.std.proofs.Common.{◌^◌, inl, inr, sym, subst, arith}
 use Rattle.std.proofs.lemmas.Bool.{cases_eq}
 use Rattle.subfunction_classes.specs.Numbering.{IsFirstOccurrence}
-use Rattle.pair_numbering.specs.Chains.{lower_at}
+use Rattle.class_tables.specs.Chains.{lower_at}
 use Rattle.subfunction_classes.specs.Places.{pair_at}
-use Rattle.pair_numbering.proofs.chains.first_occurrences.Goals as goal
+use Rattle.class_tables.proofs.chains.first_occurrences.Goals as goal
 
 pub loop-lower-preserved : goal.loop-lower-preserved
 loop-lower-preserved c = record {

@@ -3,7 +3,7 @@ use Rattle.std.proofs.Common.{◌≡◌, ◌≢◌, ℕ, suc, ◌+◌, ◌<◌, 
 use Rattle.std.proofs.lemmas.Bool.{cases_eq, cases_lt}
 use Rattle.std.proofs.lemmas.List.{length-set, get_or-set_same, get_or-set_other}
 use Rattle.subfunction_classes.specs.Numbering.{IsFirstOccurrence}
-use Rattle.pair_numbering.specs.Chains.{IsNext, lower_at, upper_at}
+use Rattle.class_tables.specs.Chains.{IsNext, lower_at, upper_at}
 use Rattle.subfunction_classes.specs.Places.{pair_at}
 
 -- ---- chains

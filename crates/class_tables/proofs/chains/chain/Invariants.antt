@@ -1,6 +1,6 @@
 use Rattle.std.proofs.Common.{ℕ, ◌+◌, ◌/◌, ◌^◌, ◌<◌, ◌≤◌, get_or, length}
-use Rattle.pair_numbering.specs.Chains.{IsNext, lower_at}
-use Rattle.pair_numbering.proofs.chains.chain.Given as goal
+use Rattle.class_tables.specs.Chains.{IsNext, lower_at}
+use Rattle.class_tables.proofs.chains.chain.Given as goal
 
 abbrev pub invariant-loop-j : goal.invariant-loop-j
 invariant-loop-j l = record {

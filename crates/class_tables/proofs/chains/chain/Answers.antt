@@ -1,8 +1,8 @@
 use Rattle.std.proofs.Common.{◌≡◌, ℕ, suc, ◌+◌, ◌-◌, ◌/◌, ◌^◌, ◌<◌, get_or, set, length, sym, ap, subst, arith}
 use Rattle.subfunction_classes.specs.Places.{low_place}
-use Rattle.pair_numbering.specs.Chains.{IsNext, lower_at}
-use Rattle.pair_numbering.proofs.PairChains.{heads_more, next_more}
-use Rattle.pair_numbering.proofs.chains.chain.Goals as goal
+use Rattle.class_tables.specs.Chains.{IsNext, lower_at}
+use Rattle.class_tables.proofs.PairChains.{heads_more, next_more}
+use Rattle.class_tables.proofs.chains.chain.Goals as goal
 
 pub loop-j-preserved : goal.loop-j-preserved
 loop-j-preserved c =

@@ -1,7 +1,7 @@
 use Rattle.std.proofs.Common.{◌≡◌, ◌≢◌, ℕ, ◌-◌, ◌/◌, ◌^◌, get_or, length}
-use Rattle.pair_numbering.specs.Chains.{lower_at}
-use Rattle.pair_numbering.proofs.PairChains.{Walk}
-use Rattle.pair_numbering.proofs.chains.walk_chain.Given as goal
+use Rattle.class_tables.specs.Chains.{lower_at}
+use Rattle.class_tables.proofs.PairChains.{Walk}
+use Rattle.class_tables.proofs.chains.walk_chain.Given as goal
 
 abbrev pub invariant-loop-j : goal.invariant-loop-j
 invariant-loop-j l = record {

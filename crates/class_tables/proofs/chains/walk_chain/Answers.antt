@@ -3,12 +3,12 @@ use Rattle.std.proofs.lemmas.List.{get_or-set_other}
 use Rattle.std.proofs.lemmas.Nat.{pow_pos}
 use Rattle.subfunction_classes.specs.PairTables.{AllBelow, IsPaired}
 use Rattle.subfunction_classes.specs.Places as places
-use Rattle.pair_numbering.specs.Chains.{IsNext, lower_at, upper_at}
+use Rattle.class_tables.specs.Chains.{IsNext, lower_at, upper_at}
 use Rattle.subfunction_classes.proofs.Index.{pair_within}
 use Rattle.pair_numbering.proofs.InBlocks.{pair_inside}
-use Rattle.pair_numbering.proofs.PairChains.{Walk, walk_again, walk_new}
-use Rattle.pair_numbering.proofs.chains.walk_chain.Goals as goal
-use Rattle.pair_numbering.proofs.chains.walk_chain.Goals.{then-stamps-upper, else-stamps-upper}
+use Rattle.class_tables.proofs.PairChains.{Walk, walk_again, walk_new}
+use Rattle.class_tables.proofs.chains.walk_chain.Goals as goal
+use Rattle.class_tables.proofs.chains.walk_chain.Goals.{then-stamps-upper, else-stamps-upper}
 
 -- the upper class of a pair is a class
 upper_inside : (cs : List ℕ) (rank classes j : ℕ) (pair : ℕ × ℕ) (rows : List ℕ) → IsPaired cs rank → AllBelow cs classes → j < length cs / 2 →

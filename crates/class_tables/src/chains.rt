@@ -1,15 +1,12 @@
-//! Numbers of pairs by first occurrence, without hashing. A pair has a lower class, where the
+//! The first of all equal pairs, found without hashing. A pair has a lower class, where the
 //! variable is 0, and an upper class, where it is 1. The pairs with one lower class form a chain,
 //! in which equal pairs are found by a mark for each upper class.
 
-ghost use Rattle.std.specs.Prelude.{◌≡◌, ℕ, ◌+◌, ◌*◌, ◌/◌, ◌^◌, ◌<◌, ◌≤◌, length, slice_index, IfOk};
-ghost use Rattle.pair_numbering.specs.Chains.{AreHeads, AreLinks, AreFirsts, AreFirstsOf, AreRowsFor, KeepsOthers};
+ghost use Rattle.std.specs.Prelude.{◌≡◌, ℕ, ◌+◌, ◌*◌, ◌/◌, ◌^◌, ◌<◌, ◌≤◌, length, slice_index};
+ghost use Rattle.class_tables.specs.Chains.{AreHeads, AreLinks, AreFirsts, AreFirstsOf, AreRowsFor, KeepsOthers};
 ghost use Rattle.subfunction_classes.specs.PairTables.{AllBelow, IsPaired, IsPairTable};
-ghost use Rattle.pair_numbering.specs.Numbers.{ArePairsNumbered};
 
-use crate::entries::EntryPairs;
-use crate::numbers::NumberedPairs;
-use std::alloc::{AllocError, Global};
+use pair_numbering::EntryPairs;
 
 /// Pairs of entries, in a chain for each lower class: `heads[c]` is the first pair with the lower
 /// class c, and `next[j]` the pair after pair j in its chain. The number of pairs stands for the
@@ -65,37 +62,6 @@ fn chain(entries: &EntryPairs<'_>, heads: &mut [u32], next: &mut [u32])
         next[j] = heads[lower];
         heads[lower] = j as u32;
     }
-}
-
-/// Numbers the pairs by first occurrence: the number of each pair, and the pair of each number.
-/// `first[j]` has to be, for each pair j, the least i for which pair i is equal to pair j.
-pub(crate) fn number_firsts(
-    alloc: Global,
-    entries: &EntryPairs<'_>,
-    first: &[u32],
-) -> Result<NumberedPairs, AllocError>
-    requires paired { IsPaired entries.now.numbers entries.now.rank }
-    requires len { length entries.now.numbers ≤ 2 ^ 20 }
-    requires first { AreFirsts entries.now first.now }
-    ensures { IfOk result
-        (λ v. ArePairsNumbered entries.now.numbers entries.now.rank v.numbers.items
-        v.pairs.items) }
-{
-    let mut out = vec![in alloc; 0u32; first.len()]?;
-    let mut pairs = Vec::new(alloc);
-    for j in 0..first.len() {
-        let f = first[j] as usize;
-        if f == j {
-            out[j] = pairs.len() as u32;
-            pairs.push(entries.pair(j))?;
-        } else {
-            out[j] = out[f];
-        }
-    }
-    Ok(NumberedPairs {
-        numbers: out,
-        pairs,
-    })
 }
 
 /// For each pair j with the lower class `lower`, writes to `first[j]` the least i for which pair i
@@ -159,7 +125,7 @@ fn first_occurrences(
 /// `next`, `stamps` and `marks` are working memory; what they hold before doesn't matter. Requires
 /// `heads`, `stamps` and `marks` to be of one length, above each class number and below 2^31, and
 /// `next` and `first` to have an entry for each pair.
-pub fn first_pairs(
+pub(crate) fn first_pairs(
     entries: &EntryPairs<'_>,
     heads: &mut [u32],
     next: &mut [u32],
@@ -180,32 +146,4 @@ pub fn first_pairs(
     chain(entries, heads, next);
     let chains = Chains::of(entries, heads, next);
     first_occurrences(&chains, stamps, marks, first);
-}
-
-/// For each pair j, at entry j, the least i for which pair i is equal to pair j. Requires all
-/// classes to be below `classes`, which is at most 2^20.
-pub(crate) fn find_first_pairs(
-    alloc: Global,
-    entries: &EntryPairs<'_>,
-    classes: usize,
-) -> Result<Vec<u32>, AllocError>
-    requires table { IsPairTable entries.now.numbers entries.now.rank classes }
-    requires few { classes ≤ 2 ^ 20 }
-    ensures { IfOk result (λ v. AreFirsts entries.now v.items) }
-{
-    let half = entries.len();
-    let mut heads = vec![in alloc; 0u32; classes]?;
-    let mut stamps = vec![in alloc; 0u32; classes]?;
-    let mut marks = vec![in alloc; 0u32; classes]?;
-    let mut next = vec![in alloc; 0u32; half]?;
-    let mut first = vec![in alloc; 0u32; half]?;
-    first_pairs(
-        entries,
-        &mut heads,
-        &mut next,
-        &mut stamps,
-        &mut marks,
-        &mut first,
-    );
-    Ok(first)
 }

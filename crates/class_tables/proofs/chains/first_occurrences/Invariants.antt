@@ -1,8 +1,8 @@
 use Rattle.std.proofs.Common.{ℕ, ◌/◌, ◌^◌, ◌<◌, ◌≤◌, get_or, length}
 use Rattle.subfunction_classes.specs.Numbering.{IsFirstOccurrence}
-use Rattle.pair_numbering.specs.Chains.{lower_at}
+use Rattle.class_tables.specs.Chains.{lower_at}
 use Rattle.subfunction_classes.specs.Places.{pair_at}
-use Rattle.pair_numbering.proofs.chains.first_occurrences.Given as goal
+use Rattle.class_tables.proofs.chains.first_occurrences.Given as goal
 
 abbrev pub invariant-loop-lower : goal.invariant-loop-lower
 invariant-loop-lower l = record {
