@@ -1,6 +1,6 @@
-//! The first of all equal pairs, found without hashing. A pair has a lower class, where the
-//! variable is 0, and an upper class, where it is 1. The pairs with one lower class form a chain,
-//! in which equal pairs are found by a mark for each upper class.
+//! For each pair the first one that is equal to it, found without hashing and allocating. A pair
+//! has a lower class, where the variable is 0, and an upper class, where it is 1. The pairs with
+//! one lower class form a chain, in which equal pairs are found by a mark for each upper class.
 
 ghost use Rattle.std.specs.Prelude.{◌≡◌, ℕ, ◌+◌, ◌*◌, ◌/◌, ◌^◌, ◌<◌, ◌≤◌, length, slice_index};
 ghost use Rattle.class_tables.specs.Chains.{AreHeads, AreLinks, AreFirsts, AreFirstsOf, AreRowsFor, KeepsOthers};

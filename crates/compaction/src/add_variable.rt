@@ -59,26 +59,6 @@ pub(crate) struct StripParts {
     ghost used: { IsTrue all_used → AreUsed numbers.items masks.items },
 }
 
-impl StripParts {
-    /// The parts of a class table in strips; that they fit together isn't tested. `outer` has the
-    /// strip names, function by function, by rising assignments of the high variables outside the
-    /// set. `numbers` has the class numbers in the strips, one strip after another. `masks` has the
-    /// mask of each class number, by rising number, even of those that don't occur in `numbers`. So
-    /// `all_used` is false.
-    pub(crate) fn new(outer: Vec<u32>, numbers: Vec<u32>, masks: Vec<Mask>) -> StripParts
-        ensures outer { result.outer ≡ outer }
-        ensures numbers { result.numbers ≡ numbers }
-        ensures masks { result.masks ≡ masks }
-    {
-        StripParts {
-            outer,
-            numbers,
-            masks,
-            all_used: false,
-        }
-    }
-}
-
 /// The `count` numbers 0, 1, 2 and so on. Requires `count` to be at most 2^20.
 fn first_numbers(alloc: Global, count: usize) -> Result<Vec<u32>, AllocError>
     requires { count ≤ 2 ^ 20 }

@@ -193,11 +193,8 @@ impl Tables {
     /// The mask of the variables at the places 0 to 7. Place p is bit p of a point.
     fn lowest(&self) -> Mask {
         let mut set: Mask = 0;
-        for place in 0..8 {
-            let variable = self.variables[place];
-            if variable < 16 {
-                set |= 1 << variable;
-            }
+        for variable in &self.variables[..8] {
+            set |= 1 << (*variable % 16);
         }
         set
     }

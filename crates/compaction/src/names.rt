@@ -86,7 +86,8 @@ impl NamePairs {
 /// The number, by first occurrence, of each pair of strip names that stand 2^`rank` apart in
 /// `names`, at places i and i + 2^`rank` where bit `rank` of i is 0; and the distinct pairs, by
 /// rising number. Both are copied from `known` if it was made for the same names and rank; else it
-/// is ignored. Requires each name to be in a pair, and below `count`, the number of stored strips.
+/// is ignored. Requires at most 2^20 names, each in a pair and below `count`, the number of stored
+/// strips.
 pub(crate) fn number_names(
     alloc: Global,
     names: &[u32],

@@ -208,7 +208,12 @@ impl<'a> Strips<'a> {
         prove!(problem.outputs() <= 16);
         let masks = vec![in alloc; 0; 2]?;
         let ValueStrips { outer, numbers } = value_strips(alloc, problem)?;
-        let parts = StripParts::new(outer, numbers, masks);
+        let parts = StripParts {
+            outer,
+            numbers,
+            masks,
+            all_used: false,
+        };
         Ok(Strips::of_parts(alloc, problem, 0, parts))
     }
 

@@ -8,7 +8,6 @@ mod orbits;
 #[cfg(test)]
 mod problems;
 #[cfg(test)]
-#[cfg(test)]
 mod tables;
 #[cfg(test)]
 mod walks;

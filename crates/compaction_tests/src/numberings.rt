@@ -1,18 +1,20 @@
 //! Pairs of a table's entries, numbered by first occurrence and by keys.
 
 use pair_numbering::{
-    EntryPairs, MaskedPairs, PairKeys, PairMemory, label_pairs, number_entries, number_with_masks,
+    EntryPairs, MaskedPairs, PairKeys, PairMemory, index_entries, label_pairs, number_entries,
+    number_with_masks,
 };
 use std::alloc::Global;
 use std::process::Abort;
 
-/// Whether pairs are numbered by first occurrence.
+/// Whether pairs are numbered by first occurrence, alike in both ways.
 fn numbers_pairs(rt: &impl Abort, alloc: Global) -> bool {
     let numbers = [2, 0, 1, 2, 0, 0, 1, 2, 2, 0, 1, 1];
-    let numbered = number_entries(alloc, &EntryPairs::of_table(&numbers, 1), 3).expect(
-        rt, "memory",
-    );
+    let entries = EntryPairs::of_table(&numbers, 1);
+    let numbered = number_entries(alloc, &entries, 3).expect(rt, "memory");
+    let indexed = index_entries(alloc, &entries).expect(rt, "memory");
     numbered.numbers.as_slice() == [0, 1, 2, 1, 0, 2].as_slice()
+        && indexed.numbers.as_slice() == numbered.numbers.as_slice()
         && numbered.pairs.as_slice() == [(2, 1), (0, 2), (0, 1)].as_slice()
 }
 
@@ -38,7 +40,7 @@ fn labels_strip_pairs(rt: &impl Abort, alloc: Global) -> bool {
     is_four && is_two
 }
 
-/// Whether the pairs of a table without equal entries are numbered as they stand.
+/// Whether the pairs of the entries 0 to 3 have the numbers 0 and 1, and their masks.
 fn numbers_distinct_entries(rt: &impl Abort, alloc: Global) -> bool {
     let pairs = MaskedPairs::of_table(&[0, 1, 2, 3], 1, 3, &[1, 2, 4, 1]);
     let found = number_with_masks(&mut PairMemory::new(alloc), &pairs).expect(rt, "memory");

@@ -142,10 +142,10 @@ impl<'a> EntryPairs<'a> {
         }
     }
 
-    /// Whether the table's entries are 0, 1, 2 and so on, so that no two are equal. False if they
-    /// stand in strips.
+    /// Whether the table stands in a row and its entries are 0, 1, 2 and so on, so that each is its
+    /// place. False for a table in strips.
     #[inline(always)]
-    pub(crate) fn are_in_order(&self) -> bool
+    pub(crate) fn are_places(&self) -> bool
         ensures { IsTrue result → AreOwn self.now.numbers }
     {
         match self.names {

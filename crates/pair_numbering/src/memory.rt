@@ -1,6 +1,7 @@
-//! Numbers of pairs by first occurrence, and their masks: as they stand if no two entries are
-//! equal, else by cells if there are few classes, else by slots. Their memory is used again. Where
-//! slots fail, an `IndexSet` finds the numbers.
+//! Numbers of pairs by first occurrence, and their masks. If a table's entries are 0, 1, 2 and so
+//! on, so are the numbers of its pairs. Others are found by cells if there are few classes, else by
+//! slots, in memory that is used again; or by an `IndexSet`, if there are too many pairs for slots
+//! or these are crowded.
 
 ghost use Rattle.std.specs.Prelude.{◌≡◌, ℕ, ◌*◌, ◌^◌, ◌<◌, ◌≤◌, length, OnOk};
 ghost use Rattle.subfunction_classes.specs.PairTables.{IsPairTable};
@@ -47,8 +48,8 @@ impl PairMemory {
     }
 
     /// Numbers the pairs by first occurrence: overwrites `numbers` with the number of each pair,
-    /// and `self.pairs` with the pair of each number. Requires all classes to be below `classes`.
-    /// If memory is refused, the two have no meaning.
+    /// and `self.pairs` with the pair of each number. Requires at most 2^20 entries, and all
+    /// classes to be below `classes`. If memory is refused, the two have no meaning.
     pub fn number(
         &mut self,
         entries: &EntryPairs<'_>,
@@ -81,7 +82,8 @@ impl PairMemory {
     {
         prove!(pairs.rank() < 16);
         let classes = pairs.masks.len();
-        if classes == 2 * pairs.entries.len() && pairs.entries.are_in_order() {
+        // with fewer classes than entries some are equal
+        if classes == 2 * pairs.entries.len() && pairs.entries.are_places() {
             return number_distinct_pairs(pairs, to);
         }
         if classes * classes <= MOST_CELLS_PER_PAIR * pairs.entries.len() {

@@ -1,4 +1,5 @@
-//! Numbers of pairs by first occurrence, in lists of their own.
+//! Numbers of pairs by first occurrence, as lists; and those of a table whose entries are 0, 1, 2
+//! and so on.
 
 ghost use Rattle.std.specs.Prelude.{◌≡◌, ◌<◌, ◌^◌, ◌≤◌, ℕ, length, slice_index, IfOk, IsTrue, OnOk};
 ghost use Rattle.subfunction_classes.specs.PairTables.{AreOwn, IsPairTable};
@@ -40,7 +41,7 @@ pub struct NumberedPairs {
 }
 
 /// Numbers the pairs by first occurrence: the number of each pair, and the pair of each number.
-/// Requires all classes to be below `classes`.
+/// Requires at most 2^20 entries, and all classes to be below `classes`.
 pub fn number_entries(
     alloc: Global,
     entries: &EntryPairs<'_>,
@@ -71,9 +72,9 @@ pub fn number_with_masks(
     Ok(to)
 }
 
-/// The place of the first entry of pair j, that where the variable is 0, in a table without strips.
-/// `rank` is how many variables outside the table's set are below the variable. Requires j, counted
-/// from 0, to be below 2^32.
+/// The place of pair j's entry where the variable is 0, in a table without strips; the other entry
+/// stands 2^rank further on. `rank`, below 16, is how many variables outside the table's set are
+/// below the variable. Requires j, counted from 0, to be below 2^32.
 #[inline(always)]
 fn low_place(rank: u32, j: usize) -> usize
     requires rank { rank < 16 }
@@ -86,7 +87,8 @@ fn low_place(rank: u32, j: usize) -> usize
 
 /// Overwrites `to` with the numbers of the pairs, which are 0, 1, 2 and so on, and for each pair
 /// the mask of the function whose cofactors are the pair. Requires the table's entries to be 0, 1,
-/// 2 and so on, so that no two pairs are equal. If memory is refused, `to` has no meaning.
+/// 2 and so on: a pair is then the two places of its entries, so no two pairs are equal, and no
+/// entry is read. If memory is refused, `to` has no meaning.
 pub(crate) fn number_distinct_pairs(
     pairs: &MaskedPairs<'_>,
     to: &mut MaskedNumbers,

@@ -1,4 +1,4 @@
-use Rattle.std.proofs.Common.{◌≡◌, ◌≤◌, sym, ap, subst, arith}
+use Rattle.std.proofs.Common.{sym, ap, subst, arith}
 use Rattle.subset_layers.specs.Layers.{block_masks}
 use Rattle.compaction.specs.Rows.{AreMembers, wanted_count}
 use Rattle.compaction.proofs.OwnMembers.{own_members, own_count}

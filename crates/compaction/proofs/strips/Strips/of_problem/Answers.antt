@@ -14,7 +14,6 @@ of_parts-requires c =
     let h = c.outputs.ensures.some in
     let outer = c.in_ok-outer.field-0.outer.items in
     let numbers = c.in_ok-outer.field-0.numbers.items in
-    rw (c.new-parts.ensures.outer, c.new-parts.ensures.numbers, c.new-parts.ensures.masks)
     (subst (HoldsStrips (classes_of p 0) (low_variables p) outer numbers)
     (sym (c.in_ok-masks.ensures.items_if_clones_equal (λ y e. e)))
     (holds_values p (omega arith) (omega arith) (omega arith) (low_variables p) outer numbers
