@@ -1,8 +1,8 @@
 #!/usr/bin/env python3
 """gate_cost.py [--anew]      runs the gate in this checkout and says what it took of processor time; with --anew nothing that an
                          earlier run kept is taken
-gate_cost.py --beside COMMIT      runs the gate in clean clones of HEAD and of the commit at once, each on half of the cores, and
-                         says what each took, all together and crate by crate
+gate_cost.py --beside COMMIT      runs the gates of HEAD and of the commit in clean clones, in turns of TURN seconds, and says
+                         what each took, all together and crate by crate
 gate_cost.py --unit      takes the unit alone
 
 The unit is what one fixed proof takes on the same machine in the same hour with nothing beside it: that of the kit's example
@@ -11,16 +11,17 @@ between machines and hours; the seconds of build/costs.csv, which a run in this 
 
 What a call of the prover has used is read from /proc twice a second, so a call's last half second is missing. The sum of all
 is the system's own count."""
-import concurrent.futures
+import contextlib
+import math
 import os
 import re
 import resource
 import shutil
+import signal
 import subprocess
 import sys
 import tempfile
 import time
-from collections.abc import Iterable
 from typing import NamedTuple
 
 sys.path.append(os.path.join(os.path.dirname(os.path.dirname(os.path.abspath(__file__))), "build"))
@@ -30,6 +31,8 @@ from writing import written  # noqa: E402
 
 TICKS = os.sysconf("SC_CLK_TCK")
 KINDS = ("proof", "tests", "edits")
+# so many seconds one gate has all cores to itself before it is the other's turn; a program that the gate runs may take 120
+TURN = 20.0
 # processor seconds of each kind
 Seconds = dict[str, float]
 
@@ -124,19 +127,45 @@ class Meter:
 
 
 class Gate:
-    """A run of the gate in a checkout: its status, its time, its processor seconds and those of each crate."""
+    """A run of the gate in a checkout, which goes on in turns: its status, the time of its turns, and its processor seconds."""
 
-    def __init__(self, top: str, words: list[str], cores: Iterable[int]) -> None:
+    def __init__(self, top: str, words: list[str]) -> None:
+        self.status: int | None = None
+        self.passed = self.seconds = 0.0
+        self.ran = subprocess.Popen(["rt", "ci", *words], cwd=top, stdin=subprocess.DEVNULL)
+        self.meter = Meter(self.ran.pid)
+
+    @property
+    def found(self) -> dict[str, Seconds]:
+        """The processor seconds of each crate."""
+        return self.meter.by_crate()
+
+    def send(self, number: signal.Signals) -> None:
+        """Sends a signal to the run and to all that it started."""
+        running = processes()
+        for it in running:
+            if is_below(it, self.meter.top, running):
+                with contextlib.suppress(ProcessLookupError):
+                    os.kill(int(it), number)
+
+    def turn(self, seconds: float = math.inf) -> None:
+        """Goes on for so many seconds, or to the end; then it stands still."""
         start = time.monotonic()
-        ran = subprocess.Popen(["rt", "ci", *words], cwd=top, preexec_fn=lambda: os.sched_setaffinity(0, cores),
-                               stdin=subprocess.DEVNULL)
-        meter, ended = Meter(ran.pid), 0
-        while not ended:
-            meter.look()
+        self.send(signal.SIGCONT)
+        while self.status is None and time.monotonic() - start < seconds:
+            self.meter.look()
             time.sleep(0.5)
-            ended, status, used = os.wait4(ran.pid, os.WNOHANG)
-        self.status, self.passed = os.waitstatus_to_exitcode(status), time.monotonic() - start
-        self.seconds, self.found = used.ru_utime + used.ru_stime, meter.by_crate()
+            ended, status, used = os.wait4(self.ran.pid, os.WNOHANG)
+            if ended:
+                self.status = self.ran.returncode = os.waitstatus_to_exitcode(status)
+                self.seconds = used.ru_utime + used.ru_stime
+        self.passed += time.monotonic() - start
+        self.stand()
+
+    def stand(self) -> None:
+        """Stands still until its next turn. What starts while the signals are sent gets the second one."""
+        for _ in range(2 if self.status is None else 0):
+            self.send(signal.SIGSTOP)
 
     def __str__(self) -> str:
         proofs, tests, edits = (round(sum(it[kind] for it in self.found.values())) for kind in KINDS)
@@ -151,19 +180,34 @@ def compare(ours: dict[str, Seconds], theirs: dict[str, Seconds]) -> None:
         print(f"  {crate}: {own:.0f} s, {other:.0f} s")
 
 
+def take_turns(gates: list[Gate]) -> None:
+    """Lets gates go on one after another until all have ended."""
+    try:
+        for it in gates[1:]:
+            it.stand()
+        while any(it.status is None for it in gates):
+            for it in gates:
+                if it.status is None:
+                    it.turn(TURN)
+    finally:
+        # where a turn ends by an interrupt, who stands still has to see it, too
+        for it in gates:
+            if it.status is None:
+                it.send(signal.SIGCONT)
+
+
 def beside(commit: str) -> None:
-    """Runs the gate of HEAD and that of a commit at once, each on one half of the cores."""
-    cores = sorted(os.sched_getaffinity(0))
-    half = len(cores) // 2
-    with tempfile.TemporaryDirectory(prefix="gates-") as room, concurrent.futures.ThreadPoolExecutor() as pool:
-        runs: list[concurrent.futures.Future[Gate]] = []
-        for name, own in (("HEAD", cores[:half]), (commit, cores[half:])):
-            top = f"{room}/{len(runs)}"
+    """Runs the gate of HEAD and that of a commit in turns."""
+    with tempfile.TemporaryDirectory(prefix="gates-") as room:
+        gates: list[Gate] = []
+        for name in ("HEAD", commit):
+            top = f"{room}/{len(gates)}"
             told = subprocess.run(["git", "rev-parse", name], cwd=TOP, check=True, capture_output=True, text=True)
             subprocess.run(["git", "clone", "-q", TOP, top], check=True)
             subprocess.run(["git", "checkout", "-q", told.stdout.strip()], cwd=top, check=True)
-            runs.append(pool.submit(Gate, top, ["--anew"], own))
-        ours, theirs = (it.result() for it in runs)
+            gates.append(Gate(top, ["--anew"]))
+        take_turns(gates)
+    ours, theirs = gates
     print(f"HEAD: {ours}\n{commit}: {theirs}")
     print(f"HEAD takes {ours.seconds / theirs.seconds:.3f} of the processor time, {ours.passed / theirs.passed:.2f} of the time")
     compare(ours.found, theirs.found)
@@ -190,7 +234,8 @@ def main(words: list[str]) -> None:
     if words == ["--unit"]:
         print(f"one unit: {first:.1f} s of processor time")
         return
-    ran = Gate(TOP, words, os.sched_getaffinity(0))
+    ran = Gate(TOP, words)
+    ran.turn()
     last = unit()
     write_costs(ran.found)
     print(f"{ran}\none unit: {first:.1f} s before, {last:.1f} s after")
