@@ -63,7 +63,7 @@ class Builds(unittest.TestCase):
     def assert_prints(self, number):
         """That the program is built for this number in place of the one before, and prints it."""
         main = self.top / "crates" / PROGRAM / "src/main.rt"
-        main.write_text(PROGRAM_TEXT.replace("(20)", f"({(number - 1) // 2})").replace("41", str(number)))
+        main.write_text(PROGRAM_TEXT.replace("(20)", f"({(number - 1) // 2})").replace("== 41", f"== {number}"))
         ran = self.called(f"./{PROGRAM}")
         self.assertEqual((ran.stdout, ran.returncode), (f"{number}\n", 0), ran.stderr)
 
