@@ -15,7 +15,8 @@ const ABOVE: &str =
 
 /// A certificate with the largest numbers.
 const LARGEST: &str =
-    "bddorder-certificate 2\ninputs 16\noutputs 16\norder 15 15 15 15 15 15 15 15 15 15 15 15 15 15 15 15\nlevels 999999 0 0 0 0 0 0 0 0 0 0 0 0 0 0 0\ntotal 999999\npairs 2\n14 15\n15 0\ncells 3\n00ff 10\n0abc 999999\nfffe 0\nend\n";
+    "bddorder-certificate 2\ninputs 16\noutputs 16\norder 15 15 15 15 15 15 15 15 15 15 15 15 15 15 15 15\n\
+    levels 999999 0 0 0 0 0 0 0 0 0 0 0 0 0 0 0\ntotal 999999\npairs 2\n14 15\n15 0\ncells 3\n00ff 10\n0abc 999999\nfffe 0\nend\n";
 
 /// Sets with their costs.
 macro_rules! cells {
