@@ -4,7 +4,7 @@
 --     filled_unwanted, filled_own, filled_both      the rows of a walk's branch, from those of its parts
 --     agree_low      the low byte is what a set has below the first high variable
 --     whole_rows      all sets are filled where the low variables alone are decided
---     rows_of_some, rows_of_none      the rows of some of what is wanted; nothing is
+--     rows_of_none      nothing is wanted
 use Rattle.std.proofs.Common.{◌≡◌, ◌≢◌, ℕ, zero, suc, ◌+◌, ◌*◌, ◌-◌, ◌%◌, ◌^◌, ◌<◌, ◌≤◌, inl, inr, List, [], length, slice_index, get_or, set as write, get_or-set_same, get_or-set_other, cond, eq-eqb, ◌/◌, refl, sym, ap, ◌∙◌, subst, arith, bit_and, bit_or, count_ones}
 use Rattle.std.specs.Int.{bit_at}
 use lib.Count.{ones-le}
@@ -156,15 +156,6 @@ pub whole_rows : (p : TruthTables) (low decided : ℕ) (needed : List ℕ) (old 
     ((h : ℕ) → h < length needed → bit_and (h * 256 + low) decided ≡ low) → AreRowsFilled p low needed low decided old new →
     AreByteRows p low needed new
 whole_rows p low decided needed old new e agree filled = record { each = e; are = λ h lt. (filled h lt).0 (agree h lt) }
-
--- the rows of some of what is wanted
-pub rows_of_some : (p : TruthTables) (low : ℕ) (needed some : List ℕ) (rows : List (List ℕ)) → length needed ≡ length some →
-    ((h x : ℕ) → bit_at (slice_index some h) x ≡ 1 → bit_at (slice_index needed h) x ≡ 1) → AreByteRows p low needed rows →
-    AreByteRows p low some rows
-rows_of_some p low needed some rows long inside all = record {
-  each = all.each ∙ long;
-  are = λ h lt x few one. all.are h (omega (arith, long, lt)) x few (inside h x one);
-}
 
 -- nothing is wanted
 pub rows_of_none : (p : TruthTables) (low : ℕ) (needed words : List ℕ) (rows : List (List ℕ)) → length rows ≡ length needed → length needed ≤ 256 →

@@ -143,13 +143,6 @@ some_members n t variables small x one =
     let b = bit_at-lt t x in
     all_members n t small x (omega arith)
 
--- bits within another mask's
-pub within_wanted : (wanted more x : ℕ) → bit_and wanted more ≡ wanted → bit_at wanted x ≡ 1 → bit_at more x ≡ 1
-within_wanted wanted more x e one =
-    let w = ap (λ z. bit_at z x) (sym e) ∙ bit_at_and wanted more x in
-    let b = bit_at-lt more x in
-    omega arith
-
 -- what is wanted of one set are its members
 pub wanted_members : (n low : ℕ) (needed : List ℕ) (t j wanted : ℕ) → j ≡ t / 256 → t % 256 ≡ low → j < length needed →
     wanted ≡ get_or needed j wanted → IsRequest n low needed → AreMembersOf n t wanted

@@ -1,14 +1,12 @@
 -- Strips: how long they are, and what stands at a place.
 --     named_inside, length_strip, strip_at      each strip that is named stands whole; how long it is, and its entries
 --     length_named, named_at      a strip for each run; entry a of run i is entry a of the strip that is named there
---     unrolled_more, unrolled_none      one strip more, and none
 --     length_names_of, name_low, name_high      the names in pairs
 --     unrolled_below      what holds of all entries holds of those of named strips
-use Rattle.std.proofs.Common.{◌≡◌, ℕ, zero, suc, ◌+◌, ◌*◌, ◌/◌, ◌%◌, ◌<◌, ◌≤◌, List, [], ◌∷◌, ◌++◌, length, get_or, drop, zero-mul, refl, ap, ◌∙◌, sym, arith}
+use Rattle.std.proofs.Common.{◌≡◌, ℕ, zero, suc, ◌+◌, ◌*◌, ◌/◌, ◌%◌, ◌<◌, ◌≤◌, List, [], ◌∷◌, length, get_or, drop, zero-mul, refl, ap, ◌∙◌, sym, arith}
 use Rattle.std.specs.List.{flat_map}
 use Rattle.std.proofs.Math.Nat.{div-lt_iff_lt-mul, mod-lt, mul-le-mul_right}
-use Rattle.std.proofs.lemmas.List.Concat.{flat_map-append}
-use Rattle.std.proofs.lemmas.List.{append-nil, length-append, length-drop, length-take-le, get_or_append_left, get_or-append-add, get_or-take, get_or-drop}
+use Rattle.std.proofs.lemmas.List.{length-append, length-drop, length-take-le, get_or_append_left, get_or-append-add, get_or-take, get_or-drop}
 use Rattle.subfunction_classes.specs.Strips.{AreNamed, names_of, strip, unrolled}
 
 -- each strip that is named stands whole
@@ -55,17 +53,6 @@ named_at outer numbers len s i a small inside = each outer (named_inside outer n
         ap (λ k. get_or (flat_map (strip numbers len) (o ∷ os)) k 0) (omega arith)
         ∙ get_or-append-add (strip numbers len o) (flat_map (strip numbers len) os) (j * len + a) 0
         ∙ each os (λ i k. f (suc i) (omega arith)) j (omega arith)
-
--- ---- one strip more
-
-pub unrolled_more : (outer numbers : List ℕ) (len k : ℕ) → unrolled (outer ++ k ∷ []) numbers len ≡ unrolled outer numbers len ++ strip numbers len k
-unfolding unrolled
-unrolled_more outer numbers len k = flat_map-append (strip numbers len) outer (k ∷ [])
-    ∙ ap (λ us. flat_map (strip numbers len) outer ++ us) (append-nil (strip numbers len k))
-
-pub unrolled_none : (numbers : List ℕ) (len : ℕ) → unrolled [] numbers len ≡ []
-unfolding unrolled
-unrolled_none numbers len = refl
 
 -- ---- the names in pairs
 

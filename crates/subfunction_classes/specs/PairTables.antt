@@ -1,9 +1,9 @@
 -- Class tables whose entries are paired in one variable, and the numbers of the pairs.
---     AllBelow numbers k, AreApart numbers, AreOwn numbers      all numbers are below k; no two are equal; each number is its place in the list
+--     AllBelow numbers k, AreOwn numbers      all numbers are below k; each number is its place in the list
 --     IsPaired numbers rank      the entries come in pairs, which stand in blocks of 2 ^ rank pairs
 --     IsPairTable numbers rank classes      a class table that is paired, with its classes below `classes`
 --     NumbersPairs masks x ps numbers joined      the numbers of pairs by first occurrence, and the mask of each number
-use Rattle.std.specs.Prelude.{◌≡◌, ◌≢◌, ℕ, ◌*◌, ◌^◌, ◌<◌, ◌≤◌, List, map, length, slice_index}
+use Rattle.std.specs.Prelude.{◌≡◌, ℕ, ◌*◌, ◌^◌, ◌<◌, ◌≤◌, List, map, length, slice_index}
 use Rattle.std.specs.Set.{distinct_count}
 use Rattle.definitions.specs.Widths.{same_pair}
 use Rattle.subfunction_classes.specs.Dependence.{joined_mask}
@@ -12,10 +12,6 @@ use Rattle.subfunction_classes.specs.Numbering.{ranks}
 -- all numbers are below k
 abbrev pub AllBelow : List ℕ → ℕ → Type 0
 AllBelow numbers k = (i : ℕ) → i < length numbers → slice_index numbers i < k
-
--- no two numbers are equal
-abbrev pub AreApart : List ℕ → Type 0
-AreApart numbers = (i j : ℕ) → i < j → j < length numbers → slice_index numbers i ≢ slice_index numbers j
 
 -- each entry's number is its place
 abbrev pub AreOwn : List ℕ → Type 0
