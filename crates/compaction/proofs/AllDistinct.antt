@@ -19,10 +19,10 @@ use Rattle.definitions.proofs.Lists.Ranges.{range_at}
 use Rattle.subfunction_classes.specs.Dependence.{joined_mask}
 use Rattle.subfunction_classes.specs.Places.{low_place, pairs}
 use Rattle.compaction.specs.Rows.{width_wanted}
-use Rattle.pair_numbering.specs.Keys.{AreUsed, TellsPairs}
+use Rattle.pair_numbering.specs.Keys.{TellsPairs}
 use Rattle.subfunction_classes.specs.Strips.{unrolled}
 use Rattle.compaction.specs.ValueStrips.{AreStrips}
-use Rattle.compaction.specs.Strips.{AreDistinct, HoldsStrips, HoldsStripTable, masks_in_use, HoldsKeys}
+use Rattle.compaction.specs.Strips.{AreDistinct, HoldsStrips, HoldsStripTable, masks_in_use, low_variables, HoldsKeys}
 use Rattle.subfunction_classes.specs.Table.{ClassesOf, with_variable, functions_of, set_of, free_below}
 use Rattle.subfunction_classes.proofs.CountedWidths.{length_filter_map}
 use Rattle.subfunction_classes.proofs.Index.{length-pairs, pair_listed, pair_within}
@@ -204,18 +204,18 @@ distinct_strips t low outer numbers masks h exact own counted full = record {
         ∙ ap (λ k. get_or numbers k 0) (sym e)
         ∙ counted i (omega arith) ∙ sym (range_at (length numbers) i (omega arith)))
 
--- which of both a table holds
-pub table_strips : (t : ClassesOf) (low : ℕ) (distinct : Option ℕ) (all_used : Bool) (outer numbers masks : List ℕ) →
-    HoldsStripTable t low distinct all_used outer numbers masks → distinct ≡ None → HoldsStrips t low outer numbers masks
+-- what the parts of a table hold that stands for t: strips, or a count alone
+pub table_strips : (own t : ClassesOf) (distinct : Option ℕ) (outer numbers masks : List ℕ) → own ≡ t →
+    HoldsStripTable own (low_variables own.problem) distinct outer numbers masks → distinct ≡ None →
+    HoldsStrips t (low_variables t.problem) outer numbers masks
 unfolding HoldsStripTable
-table_strips t low distinct all_used outer numbers masks h e = (subst (λ d. HoldsStripTable t low d all_used outer numbers masks) e h).0
+table_strips own t distinct outer numbers masks view h e =
+    subst (λ (z : ClassesOf). HoldsStrips z (low_variables z.problem) outer numbers masks) view
+    (subst (λ d. HoldsStripTable own (low_variables own.problem) d outer numbers masks) e h)
 
-pub table_used : (t : ClassesOf) (low : ℕ) (distinct : Option ℕ) (all_used : Bool) (outer numbers masks : List ℕ) →
-    HoldsStripTable t low distinct all_used outer numbers masks → distinct ≡ None → all_used ≡ true → AreUsed numbers masks
+pub table_distinct : (own t : ClassesOf) (distinct : Option ℕ) (count : ℕ) (outer numbers masks : List ℕ) → own ≡ t →
+    HoldsStripTable own (low_variables own.problem) distinct outer numbers masks → distinct ≡ Some count → AreDistinct t count
 unfolding HoldsStripTable
-table_used t low distinct all_used outer numbers masks h e = (subst (λ d. HoldsStripTable t low d all_used outer numbers masks) e h).1
-
-pub table_distinct : (t : ClassesOf) (low : ℕ) (distinct : Option ℕ) (count : ℕ) (all_used : Bool) (outer numbers masks : List ℕ) →
-    HoldsStripTable t low distinct all_used outer numbers masks → distinct ≡ Some count → AreDistinct t count
-unfolding HoldsStripTable
-table_distinct t low distinct count all_used outer numbers masks h e = subst (λ d. HoldsStripTable t low d all_used outer numbers masks) e h
+table_distinct own t distinct count outer numbers masks view h e =
+    subst (λ (z : ClassesOf). AreDistinct z count) view
+    (subst (λ d. HoldsStripTable own (low_variables own.problem) d outer numbers masks) e h)

@@ -10,7 +10,7 @@
 --     AreOfFirstSets p tables      the tables of the first sets, in the order of their masks
 --     AreKnownTables p tables known      the tables of all sets of the first `known` variables
 --     CanTakeLow x t      the variable is a low one outside the table's set
-use Rattle.std.specs.Prelude.{◌≡◌, ℕ, ◌+◌, ◌*◌, ◌^◌, ◌<◌, ◌≤◌, Bool, IsFalse, IsTrue, min, List, Option, None, Some, map, length, reverse, slice_index, nat_eq}
+use Rattle.std.specs.Prelude.{◌≡◌, ℕ, ◌+◌, ◌*◌, ◌^◌, ◌<◌, ◌≤◌, IsFalse, min, List, Option, None, Some, map, length, reverse, slice_index, nat_eq}
 use Rattle.std.specs.List.{filter, range_with_len}
 use Rattle.definitions.specs.Orders.{has, variables}
 use Rattle.definitions.specs.Problems.{TruthTables}
@@ -21,7 +21,7 @@ use Rattle.subfunction_classes.specs.PairTables.{AllBelow}
 use Rattle.subfunction_classes.specs.Places.{pairs}
 use Rattle.subfunction_classes.specs.Dependence.{dependence}
 use Rattle.subfunction_classes.specs.Table.{ClassesOf, classes_of, functions_of, set_of, free_below}
-use Rattle.pair_numbering.specs.Keys.{AreUsed, TellsPairs}
+use Rattle.pair_numbering.specs.Keys.{TellsPairs}
 use Rattle.subfunction_classes.specs.Strips.{unrolled}
 use Rattle.compaction.specs.ValueStrips.{AreStrips}
 
@@ -83,11 +83,10 @@ pub record AreDistinct (t : ClassesOf) (count : ℕ) : Type 0 where
   pub keys : HoldsKeys t (range_with_len 0 count) masks
   pub full : (i : ℕ) → i < count → slice_index masks i ≡ t.set
 
--- if all are distinct nothing else is kept; else it may be known that all masks are used
-unfoldable pub HoldsStripTable : ClassesOf → ℕ → Option ℕ → Bool → List ℕ → List ℕ → List ℕ → Type 0
-HoldsStripTable t low None all_used outer numbers masks = HoldsStrips t low outer numbers masks
-    × (IsTrue all_used → AreUsed numbers masks)
-HoldsStripTable t low (Some count) all_used outer numbers masks = AreDistinct t count
+-- if all are distinct nothing else is kept
+unfoldable pub HoldsStripTable : ClassesOf → ℕ → Option ℕ → List ℕ → List ℕ → List ℕ → Type 0
+HoldsStripTable t low None outer numbers masks = HoldsStrips t low outer numbers masks
+HoldsStripTable t low (Some count) outer numbers masks = AreDistinct t count
 
 -- the tables of the first sets, in the order of their masks
 abbrev pub AreOfFirstSets : TruthTables → List ClassesOf → Type 0

@@ -33,16 +33,6 @@ impl Model for BlockWidths {
 }
 
 impl BlockWidths {
-    /// The widths of the sets of a block, and the number of class tables that were compacted to
-    /// find them. `rows[i]` is for the block's set i: at each member x whose width was requested,
-    /// the width of x over the other members, and 0 elsewhere.
-    pub(crate) fn new(rows: Vec<WidthRow>, compactions: u32) -> BlockWidths
-        ensures rows { result.rows ≡ rows.items }
-        ensures compactions { result.compactions ≡ compactions }
-    {
-        BlockWidths { rows, compactions }
-    }
-
     /// The row of the block's set `i`: at each member x whose width was requested, the width of x
     /// over the other members, and 0 elsewhere. Requires `i` to be below the number of sets.
     pub fn row(&self, i: usize) -> WidthRow
@@ -59,8 +49,8 @@ impl BlockWidths {
         self.rows
     }
 
-    /// How many class tables were compacted to find the widths. Each variable in the block's low
-    /// byte counts as one, even if its table was made beforehand. 0 if no width was requested.
+    /// How many class tables were compacted to find the widths: one for each variable in the
+    /// block's low byte, and those of the walk. 0 if no width was requested.
     pub fn compactions(&self) -> u32
         ensures { result ≡ self.now.compactions }
     {
@@ -87,7 +77,7 @@ impl<'a> SharedTables<'a> {
     /// the width of x over the other members, and 0 elsewhere. Requires that `byte` has these
     /// widths for the shared tables' problem and the block's low byte, that the block has as many
     /// inputs as the problem, and that `needed` has a mask for each of its sets.
-    pub(crate) fn rows_of_block(
+    fn rows_of_block(
         &self,
         alloc: Global,
         byte: &ByteRows,
@@ -133,40 +123,13 @@ pub fn block_widths(
     ensures ok { OnOk result (tally.new ≡ tally.old + wanted_count needed.now) }
     ensures err { OnErr result (tally.new ≡ tally.old) }
 {
+    prove!(block.len() <= 256);
+    prove!(problem.inputs() <= 16);
     let shared = SharedTables::bare(alloc, problem)?;
-    shared.block_widths(alloc, block, needed, tally)
-}
-
-impl<'a> SharedTables<'a> {
-    /// Computes a row for each set of the block: for set i, at each x in `needed[i]`, the width of
-    /// x over the other members, and 0 elsewhere. The walk begins at a shared table. `tally` rises
-    /// by the number of these widths, unless memory is refused. Requires that it doesn't rise above
-    /// 2^32, that the block has the problem's number of inputs, and that `needed` has a mask of
-    /// members for each set.
-    pub fn block_widths(
-        &self,
-        alloc: Global,
-        block: &Block,
-        needed: &[Mask],
-        tally: &mut Tally,
-    ) -> Result<BlockWidths, AllocError>
-        requires inputs { block.now.inputs ≡ self.now.inputs }
-        requires needed { length needed.now ≡ length (block_masks block.now) }
-        requires members { AreMembers self.now (block_masks block.now) needed.now }
-        requires room { tally.old + wanted_count needed.now ≤ 2 ^ 32 }
-        ensures rows { IfOk result
-            (λ widths. AreWidthRows self.now (block_masks block.now) needed.now widths.rows) }
-        ensures compactions { IfOk result (λ widths. widths.compactions ≤ most_compactions) }
-        ensures ok { OnOk result (tally.new ≡ tally.old + wanted_count needed.now) }
-        ensures err { OnErr result (tally.new ≡ tally.old) }
-    {
-        prove!(block.len() <= 256);
-        prove!(self.problem().inputs() <= 16);
-        let mut request = WidthRequest::none(alloc, block.inputs(), block.low())?;
-        request.add_block(block, needed);
-        let (byte, compactions) = walked_rows(&mut PairMemory::new(alloc), self, request)?;
-        let rows = self.rows_of_block(alloc, &byte, block, needed)?;
-        tally.add_wanted(needed);
-        Ok(BlockWidths { rows, compactions })
-    }
+    let mut request = WidthRequest::none(alloc, block.inputs(), block.low())?;
+    request.add_block(block, needed);
+    let (byte, compactions) = walked_rows(&mut PairMemory::new(alloc), &shared, request)?;
+    let rows = shared.rows_of_block(alloc, &byte, block, needed)?;
+    tally.add_wanted(needed);
+    Ok(BlockWidths { rows, compactions })
 }

@@ -8,7 +8,6 @@ ghost use Rattle.compaction.specs.Strips.{low_variables as low_of};
 ghost use Rattle.compaction.specs.Walks.{AreWanted, FillsOwn, FillsRows, HasDecided};
 
 use crate::high_bytes::HighBytes;
-use crate::names::AllNamePairs;
 use crate::request::WidthRequest;
 use crate::shared_tables::SharedTables;
 use crate::strips::{Strips, low_variables};
@@ -115,15 +114,13 @@ fn fill_row(
 
 /// Walks from `table` to the sets that are its set with none, some or all of the variables added
 /// that `branch` leaves undecided. If `request` needs a width of one, writes its row to `rows[h]`;
-/// its high byte h must be in `branch.wanted`. Other rows stay. `names` has pairs of strip names,
-/// numbered beforehand. Returns how many class tables were compacted. Requires that `branch`
-/// decides the members and low variables, `request` has the problem's number of variables, and
-/// `rows` is as long as `request.needed`. If memory is refused, some rows may be written. `memory`
-/// is working memory.
+/// its high byte h must be in `branch.wanted`. Other rows stay. Returns how many class tables were
+/// compacted. Requires that `branch` decides the members and low variables, `request` has the
+/// problem's number of variables, and `rows` is as long as `request.needed`. If memory is refused,
+/// some rows may be written. `memory` is working memory.
 fn walk(
     memory: &mut PairMemory,
     table: &Strips<'_>,
-    names: &AllNamePairs,
     branch: &Branch,
     request: &WidthRequest,
     rows: &mut [WidthRow],
@@ -148,7 +145,7 @@ fn walk(
         decided,
         wanted: branch.wanted.without(y % 8),
     };
-    let before = walk(memory, table, names, &without, request, rows)?;
+    let before = walk(memory, table, &without, request, rows)?;
     let with = Branch {
         decided,
         wanted: branch.wanted.with(y % 8),
@@ -156,8 +153,8 @@ fn walk(
     if with.wanted.is_empty() {
         return Ok(before);
     }
-    let next = table.add_high(memory, y, names.at(table.set(), y))?;
-    let after = walk(memory, &next, names, &with, request, rows)?;
+    let next = table.add_high(memory, y)?;
+    let after = walk(memory, &next, &with, request, rows)?;
     Ok(before + after + 1)
 }
 
@@ -170,29 +167,29 @@ fn low_mask(problem: &Problem) -> Mask
 
 /// If `request.needed[h]` isn't 0, writes to `rows[h]` the needed widths of the set with the high
 /// byte h and the low byte of `request`, and 0 elsewhere. Other rows stay. The walk begins at
-/// `table`, the class table of the set whose mask is this low byte. `shared` has pairs of strip
-/// names, numbered beforehand. Returns how many class tables were compacted. Requires that
-/// `request` has the problem's number of variables, and that `rows` is as long as `request.needed`.
-/// If memory is refused, some rows may be written. `memory` is working memory.
+/// `table`, the class table of the set whose mask is this low byte. Returns how many class tables
+/// were compacted. Requires that `request` has the problem's number of variables, and that `rows`
+/// is as long as `request.needed`. If memory is refused, some rows may be written. `memory` is
+/// working memory.
 fn walk_from(
     memory: &mut PairMemory,
-    shared: &SharedTables<'_>,
+    problem: &Problem,
     table: &Strips<'_>,
     request: &WidthRequest,
     rows: &mut [WidthRow],
 ) -> Result<u32, AllocError>
-    requires inputs { request.now.inputs ≡ shared.now.inputs }
-    requires table { table.now ≡ classes_of shared.now request.now.low }
+    requires inputs { request.now.inputs ≡ problem.now.inputs }
+    requires table { table.now ≡ classes_of problem.now request.now.low }
     requires rows { length rows.old ≡ length request.now.needed.items }
     ensures rows { OnOk result
-        (AreByteRows shared.now request.now.low request.now.needed.items rows.new) }
-    ensures compactions { IfOk result (λ count. count + 1 ≤ most_walked shared.now) }
+        (AreByteRows problem.now request.now.low request.now.needed.items rows.new) }
+    ensures compactions { IfOk result (λ count. count + 1 ≤ most_walked problem.now) }
 {
     let branch = Branch {
-        decided: low_mask(shared.problem()),
+        decided: low_mask(problem),
         wanted: HighBytes::wanted(&request.needed),
     };
-    let count = walk(memory, table, shared.names(), &branch, request, rows)?;
+    let count = walk(memory, table, &branch, request, rows)?;
     Ok(count)
 }
 
@@ -246,7 +243,7 @@ fn fill_rows(
     let (first, known) = shared.first_table(low);
     let made = with_members(memory, first, low, known)?;
     let table = made.as_ref().unwrap_or(&*first);
-    walk_from(memory, shared, table, request, rows)
+    walk_from(memory, shared.problem(), table, request, rows)
 }
 
 /// The rows of the sets with one low byte, that of `request`: for the set with the high byte h,

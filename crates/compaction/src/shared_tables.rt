@@ -6,7 +6,6 @@ ghost use Rattle.subfunction_classes.specs.Table.{classes_of, with_variable};
 ghost use Rattle.compaction.specs.Strips.{AreKnownTables, CanTakeLow, low_variables as low_of};
 ghost use Rattle.compaction.specs.Joining.{AreJoined};
 
-use crate::names::AllNamePairs;
 use crate::strips::{Strips, low_variables};
 use order_model::{Mask, Problem, VarIx, Workers};
 use pair_numbering::PairMemory;
@@ -24,18 +23,15 @@ const MOST_POINTS: usize = 1 << 18;
 /// variables are made beforehand, or of all low variables if there are fewer.
 const FEWEST_KNOWN: u8 = 3;
 
-/// What all walks share, made once a search: the class tables of the sets of the lowest variables,
-/// and numbered pairs of strip names for the sets of high variables.
+/// What all walks share, made once a search: the class tables of the sets of the lowest variables.
 #[derive(Drop)]
-pub struct SharedTables<'a> {
+pub(crate) struct SharedTables<'a> {
     problem: &'a Problem,
     /// The class tables of all sets of the lowest `known` variables: `tables[m]` is that of the set
     /// with the mask m.
     tables: Vec<Strips<'a>>,
     /// How many of the lowest variables have class tables for all their sets.
     known: u8,
-    /// The pairs of strip names that are numbered beforehand, for the sets of high variables.
-    names: AllNamePairs,
 }
 
 impl<'a> Model for SharedTables<'a> {
@@ -194,7 +190,6 @@ fn made_by<'a, M: TableMaker>(
 {
     let low = low_variables(problem);
     let empty = Strips::of_problem(alloc, problem)?;
-    let names = AllNamePairs::of(alloc, empty.names(), problem.inputs() - low)?;
     let known = if empty.stored() <= MOST_POINTS {
         low
     } else {
@@ -204,20 +199,19 @@ fn made_by<'a, M: TableMaker>(
         problem,
         tables: tables_of_low_sets(maker, alloc, empty, known)?,
         known,
-        names,
     })
 }
 
 impl<'a> SharedTables<'a> {
     /// A problem's shared tables for several walks, made by the calling thread.
-    pub fn of(alloc: Global, problem: &'a Problem) -> Result<SharedTables<'a>, AllocError>
+    pub(crate) fn of(alloc: Global, problem: &'a Problem) -> Result<SharedTables<'a>, AllocError>
         ensures { IfOk result (λ b. b ≡ problem.now) }
     {
         made_by(&CallingThread, alloc, problem)
     }
 
     /// A problem's shared tables for several walks, made by the threads of `workers` workers.
-    pub fn by_threads<R: Threads + Sync>(
+    pub(crate) fn by_threads<R: Threads + Sync>(
         rt: &R,
         alloc: Global,
         problem: &'a Problem,
@@ -228,8 +222,7 @@ impl<'a> SharedTables<'a> {
         made_by(&WorkerThreads { rt, workers }, alloc, problem)
     }
 
-    /// A problem's shared tables for a single walk: the class table of the empty set, and no
-    /// numbered pairs of names.
+    /// A problem's shared tables for a single walk: the class table of the empty set alone.
     pub(crate) fn bare(alloc: Global, problem: &'a Problem) -> Result<SharedTables<'a>, AllocError>
         ensures { IfOk result (λ b. b ≡ problem.now) }
     {
@@ -239,7 +232,6 @@ impl<'a> SharedTables<'a> {
             problem,
             tables,
             known: 0,
-            names: AllNamePairs::none(alloc),
         })
     }
 
@@ -248,11 +240,6 @@ impl<'a> SharedTables<'a> {
         ensures { result.now ≡ self.now }
     {
         self.problem
-    }
-
-    /// The pairs of strip names that were numbered beforehand.
-    pub(crate) fn names(&self) -> &AllNamePairs {
-        &self.names
     }
 
     /// The class table at which a walk to `set` begins, and a number k: the table is that of the

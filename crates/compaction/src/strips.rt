@@ -8,11 +8,10 @@ ghost use Rattle.definitions.specs.Orders.{has};
 ghost use Rattle.subfunction_classes.specs.PairTables.{AllBelow, AreOwn};
 ghost use Rattle.compaction.specs.Strips.{masks_in_use, low_variables as low_of};
 
-use crate::add_variable::{StripParts, StripTable, add_above};
-use crate::names::NamePairs;
+use crate::add_variable::{StripTable, add_above};
 use crate::values::{ValueStrips, value_strips};
 use order_model::{Mask, Problem, VarIx, WidthRow, contains};
-use pair_numbering::{MaskedPairs, PairMemory, are_in_order, label_pairs};
+use pair_numbering::{MaskedPairs, PairKeys, PairMemory, are_in_order, label_pairs};
 use std::alloc::{AllocError, Global};
 use std::marker::Model;
 use subfunction_classes::{count_with, rank_of};
@@ -24,19 +23,15 @@ use subfunction_classes::{count_with, rank_of};
 pub(crate) struct Strips<'a> {
     problem: &'a Problem,
     set: Mask,
-    /// How many subfunctions there are, if only their count is kept: then the lists below are
+    /// How many subfunctions there are, if only their count is kept: then `outer` and `keys` are
     /// empty. Else None.
     distinct: Option<u32>,
-    /// If true, each entry of `masks` is that of a class number that occurs in `numbers`. If false,
-    /// some may be of numbers that don't occur.
-    all_used: bool,
     /// Function by function, for each assignment of the high variables outside the set, the name of
     /// its strip: the strip's number among those in `numbers`.
     outer: Vec<u32>,
-    /// The class numbers in the strips, one strip after the other.
-    numbers: Vec<u32>,
-    /// For each class number, the mask of the variables that its subfunctions depend on.
-    masks: Vec<Mask>,
+    /// The class numbers in the strips, one strip after the other, and for each class number the
+    /// mask of the variables that its subfunctions depend on.
+    keys: PairKeys,
 }
 
 impl<'a> Model for Strips<'a> {
@@ -48,8 +43,8 @@ impl<'a> Model for Strips<'a> {
     ghost view = { λ c. classes_of c.problem.now c.set };
 
     ghost invariant = { λ c. HoldsStripTable
-        (classes_of c.problem.now c.set) (low_variables c.problem.now) c.distinct c.all_used
-        c.outer.items c.numbers.items c.masks.items };
+        (classes_of c.problem.now c.set) (low_variables c.problem.now) c.distinct c.outer.items
+        c.keys.numbers.items c.keys.masks.items };
 }
 
 /// How many variables of a problem are low: eight, or all if there are fewer.
@@ -154,30 +149,29 @@ impl<'a> Strips<'a> {
     ghost use Rattle.compaction.specs.Strips.{AreDistinct, HoldsStrips, low_variables};
     ghost use Rattle.subfunction_classes.specs.Table.{set_of, with_variable, classes_of};
 
-    /// The class table of `set` for the functions of `problem`, whose strip names, class numbers
-    /// and masks are in `parts`; that they are right isn't tested. If all subfunctions are
-    /// distinct, numbered in order, and depend on the whole set, only their count is kept.
-    pub(crate) fn of_parts(
+    /// The class table of `set` for the functions of `problem`, with the strip names `outer`, and
+    /// the class numbers and masks in `keys`; that they are right isn't tested. If all subfunctions
+    /// are distinct, numbered in order, and depend on the whole set, only their count is kept.
+    fn of_parts(
         alloc: Global,
         problem: &'a Problem,
         set: Mask,
-        parts: StripParts,
+        outer: Vec<u32>,
+        keys: PairKeys,
     ) -> Strips<'a>
         requires { HoldsStrips (classes_of problem.now set) (low_variables problem.now)
-            parts.outer.items parts.numbers.items parts.masks.items }
+            outer.items keys.numbers.items keys.masks.items }
         ensures { result ≡ classes_of problem.now set }
     {
-        if all_distinct(&parts.outer, &parts.numbers, &parts.masks, set) {
-            return Strips::of_count(alloc, problem, set, parts.numbers.len() as u32);
+        if all_distinct(&outer, &keys.numbers, &keys.masks, set) {
+            return Strips::of_count(alloc, problem, set, keys.numbers.len() as u32);
         }
         Strips {
             problem,
             set,
             distinct: None,
-            all_used: parts.all_used,
-            outer: parts.outer,
-            numbers: parts.numbers,
-            masks: parts.masks,
+            outer,
+            keys,
         }
     }
 
@@ -192,10 +186,12 @@ impl<'a> Strips<'a> {
             problem,
             set,
             distinct: Some(count),
-            all_used: false,
             outer: Vec::new(alloc),
-            numbers: Vec::new(alloc),
-            masks: Vec::new(alloc),
+            keys: PairKeys {
+                numbers: Vec::new(alloc),
+                masks: Vec::new(alloc),
+                all_used: false,
+            },
         }
     }
 
@@ -208,13 +204,12 @@ impl<'a> Strips<'a> {
         prove!(problem.outputs() <= 16);
         let masks = vec![in alloc; 0; 2]?;
         let ValueStrips { outer, numbers } = value_strips(alloc, problem)?;
-        let parts = StripParts {
-            outer,
+        let keys = PairKeys {
             numbers,
             masks,
             all_used: false,
         };
-        Ok(Strips::of_parts(alloc, problem, 0, parts))
+        Ok(Strips::of_parts(alloc, problem, 0, outer, keys))
     }
 
     /// How many variables of the problem are low.
@@ -224,16 +219,9 @@ impl<'a> Strips<'a> {
         low_variables(self.problem)
     }
 
-    /// The strip names, function by function, by rising assignments of the high variables outside
-    /// the set. A name is the strip's number among those stored. Empty if only a count of
-    /// subfunctions is kept.
-    pub(crate) fn names(&self) -> &[u32] {
-        self.outer.as_slice()
-    }
-
     /// How many class numbers are stored in the strips; 0 if only a count of subfunctions is kept.
     pub(crate) fn stored(&self) -> usize {
-        self.numbers.len()
+        self.keys.numbers.len()
     }
 
     /// The set that the table is of, as a mask.
@@ -259,30 +247,20 @@ impl<'a> Strips<'a> {
             Some(count) => Ok(Strips::of_count(memory.alloc, self.problem, set, count / 2)),
             None => {
                 let rank = rank_of(self.set, x);
-                let pairs = MaskedPairs::of_table(&self.numbers, rank, x, &self.masks);
-                let labels = label_pairs(memory, &pairs)?;
+                let pairs = MaskedPairs::of_table(&self.keys.numbers, rank, x, &self.keys.masks);
+                let keys = label_pairs(memory, &pairs)?;
                 let outer = self.outer.to_vec(memory.alloc)?;
-                let parts = StripParts {
-                    outer,
-                    numbers: labels.numbers,
-                    masks: labels.masks,
-                    all_used: labels.all_used,
-                };
-                Ok(Strips::of_parts(memory.alloc, self.problem, set, parts))
+                Ok(Strips::of_parts(memory.alloc, self.problem, set, outer, keys))
             }
         }
     }
 
-    /// The class table of this table's set with the high variable `x` added. `known` may have the
-    /// numbers of this table's pairs of strips that differ in `x` alone; it is ignored unless it
-    /// was made for the same strip names and as many high variables below `x` outside the set.
-    /// Requires that `x` is a variable of the problem and not in the set. `memory` is working
-    /// memory.
+    /// The class table of this table's set with the high variable `x` added. Requires that `x` is a
+    /// variable of the problem and not in the set. `memory` is working memory.
     pub(crate) fn add_high(
         &self,
         memory: &mut PairMemory,
         x: VarIx,
-        known: Option<&NamePairs>,
     ) -> Result<Strips<'a>, AllocError>
         requires high { low_variables self.now.problem ≤ x }
         requires inside { x < self.now.problem.inputs }
@@ -299,12 +277,12 @@ impl<'a> Strips<'a> {
                 let table = StripTable {
                     outer: &self.outer,
                     rank,
-                    numbers: &self.numbers,
+                    numbers: &self.keys.numbers,
                     bits,
-                    masks: &self.masks,
+                    masks: &self.keys.masks,
                 };
-                let grown = add_above(memory, &table, x, known)?;
-                Ok(Strips::of_parts(memory.alloc, self.problem, set, grown))
+                let (outer, keys) = add_above(memory, &table, x)?;
+                Ok(Strips::of_parts(memory.alloc, self.problem, set, outer, keys))
             }
         }
     }
@@ -318,10 +296,10 @@ impl<'a> Strips<'a> {
         match self.distinct {
             Some(count) => Ok(same_row(count, wanted)),
             None => {
-                if self.all_used {
-                    return Ok(row_of(&self.masks, wanted));
+                if self.keys.all_used {
+                    return Ok(row_of(&self.keys.masks, wanted));
                 }
-                let used = used_masks(alloc, &self.numbers, &self.masks)?;
+                let used = used_masks(alloc, &self.keys.numbers, &self.keys.masks)?;
                 Ok(row_of(&used, wanted))
             }
         }

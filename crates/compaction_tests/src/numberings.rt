@@ -1,8 +1,7 @@
 //! Pairs of a table's entries, numbered by first occurrence and by keys.
 
 use pair_numbering::{
-    EntryPairs, MaskedPairs, PairKeys, PairMemory, index_entries, label_pairs, number_entries,
-    number_with_masks,
+    EntryPairs, MaskedPairs, PairKeys, PairMemory, index_entries, label_pairs, number_with_masks,
 };
 use std::alloc::Global;
 use std::process::Abort;
@@ -11,11 +10,13 @@ use std::process::Abort;
 fn numbers_pairs(rt: &impl Abort, alloc: Global) -> bool {
     let numbers = [2, 0, 1, 2, 0, 0, 1, 2, 2, 0, 1, 1];
     let entries = EntryPairs::of_table(&numbers, 1);
-    let numbered = number_entries(alloc, &entries, 3).expect(rt, "memory");
+    let mut memory = PairMemory::new(alloc);
+    let mut found = Vec::new(alloc);
+    memory.number(&entries, 3, &mut found).expect(rt, "memory");
     let indexed = index_entries(alloc, &entries).expect(rt, "memory");
-    numbered.numbers.as_slice() == [0, 1, 2, 1, 0, 2].as_slice()
-        && indexed.numbers.as_slice() == numbered.numbers.as_slice()
-        && numbered.pairs.as_slice() == [(2, 1), (0, 2), (0, 1)].as_slice()
+    found.as_slice() == [0, 1, 2, 1, 0, 2].as_slice()
+        && indexed.numbers.as_slice() == found.as_slice()
+        && memory.pairs.as_slice() == [(2, 1), (0, 2), (0, 1)].as_slice()
 }
 
 /// Whether pairs have these keys and masks.
@@ -75,10 +76,13 @@ fn count_up_to_eighty(numbers: &[u32]) -> bool {
 fn numbers_crowded_pairs(rt: &impl Abort, alloc: Global) -> bool {
     let numbers = crowded_pairs();
     assert!(rt; numbers.iter().all(|number| *number < 1 << 17));
-    let numbered = number_entries(alloc, &EntryPairs::of_table(&numbers, 0), 1 << 17).expect(
-        rt, "memory",
-    );
-    numbered.pairs.len() == 80 && count_up_to_eighty(&numbered.numbers)
+    let entries = EntryPairs::of_table(&numbers, 0);
+    let mut memory = PairMemory::new(alloc);
+    let mut found = Vec::new(alloc);
+    memory
+        .number(&entries, 1 << 17, &mut found)
+        .expect(rt, "memory");
+    memory.pairs.len() == 80 && count_up_to_eighty(&found)
 }
 
 #[test]

@@ -5,7 +5,7 @@ ghost use Rattle.subset_layers.specs.Layers.{block_masks};
 
 use crate::problems::{PROBLEMS, cubes, five_bit_numbers, problem_of};
 use crate::tables::width_alone;
-use compaction::{BlockWidths, SharedTables, Tally};
+use compaction::{BlockWidths, Tally, block_widths};
 use order_model::{Mask, Problem, WidthRow, contains};
 use std::alloc::Global;
 use std::process::Abort;
@@ -60,21 +60,13 @@ fn sum_of_rows(
 }
 
 /// The sum of the widths that are taken of a block, whose rows are to be those by each set alone.
-fn sum_of_block(
-    rt: &impl Abort,
-    alloc: Global,
-    problem: &Problem,
-    shared: &SharedTables<'_>,
-    block: &Block,
-) -> u64
-    requires { shared.now ≡ problem.now }
-{
+fn sum_of_block(rt: &impl Abort, alloc: Global, problem: &Problem, block: &Block) -> u64 {
     assert!(rt; block.inputs() == problem.inputs());
     prove!(problem.inputs() <= 16 && block.len() <= 256);
     let mut tally = Tally::new();
-    let widths = shared
-        .block_widths(alloc, block, block.masks(), &mut tally)
-        .expect(rt, "memory");
+    let widths = block_widths(alloc, problem, block, block.masks(), &mut tally).expect(
+        rt, "memory",
+    );
     assert!(rt; widths.compactions() <= 2367 && tally.count() == members_of(block));
     sum_of_rows(rt, alloc, problem, block, &widths)
 }
@@ -82,10 +74,9 @@ fn sum_of_block(
 /// The sum of the widths of the layer of the sets of a size, taken block by block.
 fn sum_of_layer(rt: &impl Abort, alloc: Global, problem: &Problem, size: u8) -> u64 {
     let layer = Layer::of(alloc, problem.inputs(), size).expect(rt, "memory");
-    let shared = SharedTables::of(alloc, problem).expect(rt, "memory");
     let mut sum = 0u64;
     for i in 0..layer.blocks() {
-        let own = sum_of_block(rt, alloc, problem, &shared, &layer.block(i));
+        let own = sum_of_block(rt, alloc, problem, &layer.block(i));
         sum = sum.saturating_add(own);
     }
     sum

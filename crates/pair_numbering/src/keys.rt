@@ -20,14 +20,16 @@ use subfunction_classes::join_mask;
 /// occurrence.
 const MOST_JOINED: usize = 16;
 
-/// `numbers[j]` is the number of pair j, equal for equal pairs and no others, and `masks[k]` the
-/// mask of number k: the variables that the functions of its pair depend on. If `all_used` is true,
-/// each entry of `masks` is that of a number that occurs.
+/// Numbers of a class table's entries, or of pairs of entries: equal for equal ones and no others.
+/// `masks[k]` is the mask of number k: the variables that its functions depend on. If `all_used` is
+/// true, each entry of `masks` is that of a number that occurs; if false, some may be of numbers
+/// that don't occur.
 #[derive(Drop)]
 pub struct PairKeys {
     pub numbers: Vec<u32>,
     pub masks: Vec<Mask>,
     pub all_used: bool,
+    ghost used: { IsTrue all_used → AreUsed numbers.items masks.items },
 }
 
 /// Writes the joined number of each pair j, low + base * high, to `joined[j]`: low is the pair's
@@ -99,11 +101,10 @@ fn join_key_masks(alloc: Global, masks: &[Mask], x: VarIx) -> Result<Vec<Mask>, 
 /// where the variable is 0, and high that where it is 1. Else pairs are numbered by first
 /// occurrence. What `memory` has before doesn't matter.
 pub fn label_pairs(memory: &mut PairMemory, pairs: &MaskedPairs<'_>) -> Result<PairKeys, AllocError>
-    ensures tells { IfOk result
+    ensures { IfOk result
         (λ v. TellsPairs pairs.now.masks.now pairs.now.x
         (places.pairs pairs.now.entries.numbers (2 ^ pairs.now.entries.rank)) v.numbers.items
         v.masks.items) }
-    ensures used { IfOk result (λ v. IsTrue v.all_used → AreUsed v.numbers.items v.masks.items) }
 {
     prove!(pairs.rank() < 16);
     let base = pairs.masks.len();

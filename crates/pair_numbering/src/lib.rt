@@ -18,4 +18,4 @@ pub use index::index_entries;
 pub use keys::{PairKeys, label_pairs};
 pub use masks::{MaskedPairs, join_masks};
 pub use memory::PairMemory;
-pub use numbers::{MaskedNumbers, NumberedPairs, are_in_order, number_entries, number_with_masks};
+pub use numbers::{MaskedNumbers, NumberedPairs, are_in_order, number_with_masks};

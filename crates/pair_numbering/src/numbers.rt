@@ -40,25 +40,6 @@ pub struct NumberedPairs {
     pub pairs: Vec<(u32, u32)>,
 }
 
-/// Numbers the pairs by first occurrence: the number of each pair, and the pair of each number.
-/// Requires at most 2^20 entries, and all classes to be below `classes`.
-pub fn number_entries(
-    alloc: Global,
-    entries: &EntryPairs<'_>,
-    classes: usize,
-) -> Result<NumberedPairs, AllocError>
-    requires { IsPairTable entries.now.numbers entries.now.rank classes }
-    ensures { IfOk result
-        (λ v. ArePairsNumbered entries.now.numbers entries.now.rank v.numbers.items
-        v.pairs.items) }
-{
-    let mut memory = PairMemory::new(alloc);
-    let mut numbers = Vec::new(alloc);
-    memory.number(entries, classes, &mut numbers)?;
-    let PairMemory { pairs, .. } = memory;
-    Ok(NumberedPairs { numbers, pairs })
-}
-
 /// Numbers the pairs by first occurrence: the number of each pair, and for each number the mask of
 /// the function whose cofactors are the pair. What `memory` has before doesn't matter.
 pub fn number_with_masks(

@@ -29,19 +29,19 @@ of_table-pairs-requires-clause-table c =
       below = table.below;
     }
 
-pub returns-clause-grows : goal.returns-clause-grows
-returns-clause-grows c =
+pub returns : goal.returns
+returns c =
     let t = c.table.inside in
     let table = c.table.invariant in
     let own = subst (λ (z : StripTableOf). AreOwn z.outer) (sym c.table.view_is) c.requires.own in
     let outer = t.outer.now in
     let numbers = t.numbers.now in
     let step = 2 ^ (t.bits + t.rank) in
-    let labels = c.in_ok-labels.labels in
+    let labels = c.in_ok-keys.keys in
     let p = c.of_table-pairs.ensures in
     let tells = subst (λ z. z)
     (λ i. TellsPairs (p.masks i) (p.variable i) (places.pairs (p.numbers i) (2 ^ p.rank i)) labels.numbers.items labels.masks.items)
-    c.in_ok-labels.ensures.tells in
+    c.in_ok-keys.ensures in
     let names =
     subst (λ k. TellsPairs t.masks.now c.args.x (places.pairs numbers k) labels.numbers.items labels.masks.items)
     (pow-add 2 t.bits t.rank) tells in

@@ -1,7 +1,6 @@
-use Rattle.std.proofs.Common.{◌+◌, ◌*◌, ◌-◌, ◌^◌, ◌≡◌, length, min, bit_and, sym, ap, ◌∙◌, subst, arith}
+use Rattle.std.proofs.Common.{◌+◌, ◌*◌, ◌-◌, ◌^◌, ◌≡◌, length, min, bit_and, sym, ap, subst, arith}
 use Rattle.std.proofs.lemmas.Grind.{common_steps}
 use Rattle.std.proofs.lemmas.Nat.Bits.{bit_at_ones}
-use Rattle.definitions.specs.Problems.{TruthTables}
 use Rattle.subfunction_classes.specs.Table.{ClassesOf}
 use Rattle.compaction.specs.Rows.{AreRowsFilled}
 use Rattle.compaction.specs.Strips.{low_variables}
@@ -19,13 +18,13 @@ walk-requires-clause-decided c =
 pub returns-clause-rows : goal.returns-clause-rows
 returns-clause-rows c =
     let w = c.args.request.now in
-    let p = c.args.shared.now in
+    let p = c.args.problem.now in
     let k = low_variables p in
     let long : length c.walk.new.rows ≡ length w.needed.items = grind arith in
     whole_rows p w.low (2 ^ k - 1) w.needed.items c.args.rows.now c.walk.new.rows long
     (λ h lt. agree_low w.inputs w.low (h * 256 + w.low) k (ap (λ i. min i 8) (sym c.requires.inputs)) (w.request.sets h lt) (omega (arith, w.request.byte)))
     (subst (λ m. AreRowsFilled p w.low w.needed.items w.low m c.args.rows.now c.walk.new.rows)
-    (c.low_mask.ensures ∙ ap (λ (q : TruthTables). 2 ^ low_variables q - 1) c.problem.ensures)
+    c.low_mask.ensures
     (subst (λ (t : ClassesOf). AreRowsFilled t.problem w.low w.needed.items t.set c.low_mask.result c.args.rows.now c.walk.new.rows) c.requires.table
     c.in_ok-count.ensures.rows))
 

@@ -6,8 +6,8 @@ use Rattle.compaction_tests.proofs.widths.sum_of_block.Goals as goal
 
 pub block_widths-requires-clause-members : goal.block_widths-requires-clause-members
 block_widths-requires-clause-members g c =
-    subst (λ needed. AreMembers c.args.shared.now (block_masks c.args.block.now) needed) (sym c.masks.ensures)
-    (own_members c.args.shared.now c.args.block.now (grind arith))
+    subst (λ needed. AreMembers c.args.problem.now (block_masks c.args.block.now) needed) (sym c.masks.ensures)
+    (own_members c.args.problem.now c.args.block.now (grind arith))
 
 pub block_widths-requires-clause-room : goal.block_widths-requires-clause-room
 block_widths-requires-clause-room g c =

@@ -6,10 +6,10 @@ use Rattle.compaction.proofs.strips.Strips.of_parts.Goals as goal
 
 pub of_count-requires : goal.of_count-requires
 of_count-requires c =
-    let n : c.len.result ≡ length c.args.parts.numbers.items = (let e = c.len.ensures in omega arith) in
+    let n : c.len.result ≡ length c.args.keys.numbers.items = (let e = c.len.ensures in omega arith) in
     subst (AreDistinct (classes_of c.args.problem.now c.args.set)) (sym n)
-    (distinct_strips (classes_of c.args.problem.now c.args.set) (low_variables c.args.problem.now) c.args.parts.outer.items c.args.parts.numbers.items
-    c.args.parts.masks.items c.requires
+    (distinct_strips (classes_of c.args.problem.now c.args.set) (low_variables c.args.problem.now) c.args.outer.items c.args.keys.numbers.items
+    c.args.keys.masks.items c.requires
     (sym (ap length c.deref-3.ensures.value) ∙ c.if-all_distinct.ensures.exact refl ∙ ap length c.deref-2.ensures.value)
     (λ i h. let v = ap length c.deref.ensures.value in let e = ap (λ us. get_or us i 0) c.deref.ensures.value in
     let t = c.if-all_distinct.ensures.outer refl i (omega arith) in omega arith)
@@ -20,4 +20,4 @@ of_count-requires c =
 
 pub invariant_of-result : goal.invariant_of-result
 unfolding HoldsStripTable
-invariant_of-result c = (c.requires, c.args.parts.used)
+invariant_of-result c = c.requires

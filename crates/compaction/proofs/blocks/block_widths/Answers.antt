@@ -1,6 +1,6 @@
 use Rattle.std.proofs.Common.{arith}
 use Rattle.std.proofs.lemmas.Grind.{common_steps}
-use Rattle.compaction.proofs.shared_tables.SharedTables.block_widths.Goals as goal
+use Rattle.compaction.proofs.blocks.block_widths.Goals as goal
 
 pub rows_of_block-requires-clause-rows : goal.rows_of_block-requires-clause-rows
 rows_of_block-requires-clause-rows c = grind (arith, common_steps)
