@@ -67,7 +67,8 @@ fn sum_of_block(rt: &impl Abort, alloc: Global, problem: &Problem, block: &Block
     let widths = block_widths(alloc, problem, block, block.masks(), &mut tally).expect(
         rt, "memory",
     );
-    assert!(rt; widths.compactions() <= 2367 && tally.count() == members_of(block));
+    assert!(rt; 0 < widths.compactions() && widths.compactions() <= 2367);
+    assert!(rt; tally.count() == members_of(block));
     sum_of_rows(rt, alloc, problem, block, &widths)
 }
 
