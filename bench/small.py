@@ -1,9 +1,9 @@
 #!/usr/bin/env python3
 """small.py INPUTS OUTPUTS COUNT [PEERS]    what COUNT random problems of at most 10 inputs take, by several ways
 
-The ways are the library, the plainest dynamic program in C, the program in a loop and by four at a time, and, where
-bench/peers.sh built it in PEERS, CUDD's exact reordering in one process. Each is run five times, in turns, and the
-fastest run counts."""
+The ways are the library, the dynamic program in C in its plainest form and with truth tables in place of class tables, the
+program in a loop and by four at a time, and, where bench/peers.sh built it in PEERS, CUDD's exact reordering in one process.
+Each is run five times, in turns, and the fastest run counts."""
 import os
 import random
 import subprocess
@@ -53,10 +53,12 @@ def main():
         files = write_files(room, inputs, outputs, count)
         include = ["-I", f"{TOP}/include", f"{TOP}/bench/small.c", f"{TOP}/lib/libminorder.a"]
         subprocess.run([compiler, "-O2", *include, "-o", f"{room}/small"], check=True)
-        subprocess.run([compiler, "-O3", f"{TOP}/bench/plain.c", "-o", f"{room}/plain"], check=True)
+        for name in ("plain", "values"):
+            subprocess.run([compiler, "-O3", "-march=native", f"{TOP}/bench/{name}.c", "-o", f"{room}/{name}"], check=True)
         ways = {
             "libminorder, one process": lambda: told([f"{room}/small", *files]),
             "the plain program in C, one process": lambda: told([f"{room}/plain", *files]),
+            "the program in C by truth tables, one process": lambda: told([f"{room}/values", *files]),
             "minorder --workers 1, in a loop": lambda: measured(f"while read -r it; do {program} --workers 1 $it; done", files),
             "minorder --workers 1, xargs -P 4": lambda: measured(f"xargs -n 1 -P 4 {program} --workers 1", files),
         }
