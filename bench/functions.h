@@ -60,4 +60,20 @@ static inline double milliseconds(void)
     clock_gettime(CLOCK_MONOTONIC, &now);
     return now.tv_sec * 1e3 + now.tv_nsec / 1e6;
 }
+
+/* Prints how many milliseconds `fewest` takes a file of at most `most` inputs, its reading left out, and the sum of what it returns. */
+static inline int time_files(int count, char **paths, int most, uint32_t (*fewest)(void))
+{
+    double taken = 0;
+    unsigned long nodes = 0;
+    for (int i = 1; i < count; i++) {
+        read_file(paths[i]);
+        if (inputs > most) fail("too many inputs");
+        double start = milliseconds();
+        nodes += fewest();
+        taken += milliseconds() - start;
+    }
+    printf("%.6f ms a file, %lu nodes\n", taken / (count - 1), nodes);
+    return 0;
+}
 #endif

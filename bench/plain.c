@@ -82,15 +82,5 @@ static uint32_t fewest(void)
 
 int main(int count, char **paths)
 {
-    double taken = 0;
-    unsigned long nodes = 0;
-    for (int i = 1; i < count; i++) {
-        read_file(paths[i]);
-        if (inputs > MOST) fail("at most 10 inputs");
-        double start = milliseconds();
-        nodes += fewest();
-        taken += milliseconds() - start;
-    }
-    printf("%.6f ms a file, %lu nodes\n", taken / (count - 1), nodes);
-    return 0;
+    return time_files(count, paths, MOST, fewest);
 }
