@@ -33,7 +33,7 @@ static DdManager *manager_of(DdNode **roots)
     return manager;
 }
 
-static void time_files(Cudd_ReorderingType method, int count, char **paths)
+static void time_reordering(Cudd_ReorderingType method, int count, char **paths)
 {
     DdNode *roots[16];
     double taken = 0;
@@ -55,7 +55,7 @@ int main(int argc, char **argv)
     if (argc < 3) fail("usage: cudd exact|sift FILE..");
     Cudd_ReorderingType method = strcmp(argv[1], "exact") ? CUDD_REORDER_SIFT : CUDD_REORDER_EXACT;
     if (argc > 3) {
-        time_files(method, argc - 2, argv + 2);
+        time_reordering(method, argc - 2, argv + 2);
         return 0;
     }
     read_file(argv[2]);
