@@ -1,13 +1,17 @@
 //! Rows of widths that are found before the cells of their layer need them.
 
-ghost use Rattle.std.specs.Prelude.{◌≡◌, IfSome, OnOk, OnErr};
+ghost use Rattle.std.specs.Prelude.{◌≡◌, ◌%◌, IfSome, OnOk, OnErr};
 ghost use Rattle.compaction.specs.Ahead.{none_ahead, with_others};
 ghost use Rattle.compaction.specs.Rows.{HoldsRows};
 
 use crate::high_walk::ByteRows;
-use order_model::Problem;
+use order_model::{Mask, Problem};
 use std::alloc::{AllocError, Global};
 use std::marker::Model;
+
+/// For each low byte b, at index b: the place of the last entry with this low byte in the list
+/// `bytes` of a `WidthsAhead`; None if there is none.
+pub(crate) type Places = [Option<usize>; 256];
 
 /// Rows of widths of a problem's sets that were found ahead of their layers.
 #[derive(Drop)]
@@ -74,37 +78,26 @@ impl<'a> WidthsAhead<'a> {
         self.bytes.push(byte)?;
         Ok(())
     }
-}
 
-/// For each low byte, the place of its last entry in the list `bytes` of a `WidthsAhead`.
-#[derive(Clone, Copy)]
-pub(crate) struct Places {
-    /// `of[b]` is the place of the last entry with the low byte b; None if there is none.
-    of: [Option<usize>; 256],
-}
-
-impl Places {
-    /// For each low byte, the index in the list `found` of the last entry with rows of sets that
-    /// have this low byte; None if there is no such entry.
-    pub(crate) fn of(found: &WidthsAhead<'_>) -> Places {
-        let mut places = Places { of: [None; 256] };
-        for (place, byte) in found.bytes.iter().enumerate() {
-            places.of[usize::from(byte.request.low)] = Some(place);
+    /// For each low byte, the place in this list of the last rows of sets that have it; None if
+    /// there are none.
+    pub(crate) fn places(&self) -> Places {
+        let mut places = [None; 256];
+        for (place, byte) in self.bytes.iter().enumerate() {
+            places[usize::from(byte.request.low)] = Some(place);
         }
         places
     }
-}
 
-impl<'a> WidthsAhead<'a> {
-    /// The last rows in this list that are of sets with the low byte `low`; None if there are none.
-    /// Expects `places` to be made from this list as it is now. If rows were appended since, the
-    /// result may be None, or rows that are not the last ones.
-    pub(crate) fn rows_at(&self, places: &Places, low: u8) -> Option<&ByteRows>
+    /// The last rows in this list that are of sets with the low byte of `set`; None if there are
+    /// none. Expects `places` to be made from this list as it is now. If rows were appended since,
+    /// the result may be None, or rows that are not the last ones.
+    pub(crate) fn rows_at(&self, places: &Places, set: Mask) -> Option<&ByteRows>
         ensures rows { IfSome result (λ b. HoldsRows self.now.problem b.now) }
-        ensures low { IfSome result (λ b. b.now.low ≡ low) }
+        ensures low { IfSome result (λ b. b.now.low ≡ set % 256) }
     {
-        let place = places.of[usize::from(low)]?;
-        match self.bytes.get(place) {
+        let low = (set % 256) as u8;
+        match self.bytes.get(places[usize::from(low)]?) {
             Some(byte) if byte.request.low == low => Some(byte),
             _ => None,
         }

@@ -1,6 +1,6 @@
 //! The widths of the sets of a block.
 
-ghost use Rattle.std.specs.Prelude.{◌≡◌, ℕ, ◌+◌, ◌^◌, ◌<◌, ◌≤◌, ◌==◌, if◌then◌else◌, length, slice_get, slice_index, IfOk, OnOk, OnErr, Some};
+ghost use Rattle.std.specs.Prelude.{◌≡◌, ℕ, ◌+◌, ◌^◌, ◌<◌, ◌≤◌, ◌==◌, if◌then◌else◌, length, slice_index, IfOk, OnOk, OnErr};
 ghost use Rattle.std.specs.Int.{bit_at};
 ghost use Rattle.subset_layers.specs.Layers.{block_masks};
 ghost use Rattle.compaction.specs.Requests.{Asks};
@@ -33,16 +33,8 @@ impl Model for BlockWidths {
 }
 
 impl BlockWidths {
-    /// The row of the block's set `i`: at each member x whose width was requested, the width of x
-    /// over the other members, and 0 elsewhere. Requires `i` to be below the number of sets.
-    pub fn row(&self, i: usize) -> WidthRow
-        requires { i < length self.now.rows }
-        ensures { slice_get self.now.rows i ≡ Some result }
-    {
-        self.rows[i]
-    }
-
-    /// A row of widths for each set of the block, by rising mask.
+    /// A row for each set of the block, by rising mask: at each member x whose width was requested,
+    /// the width of x over the other members, and 0 elsewhere.
     pub fn into_rows(self) -> Vec<WidthRow>
         ensures { result.items ≡ self.rows }
     {

@@ -1,11 +1,9 @@
 //! Finds the rows that are requested, low byte by low byte, by one thread or several.
 
 ghost use Rattle.std.specs.Prelude.{◌≡◌, All, IfOk};
-ghost use Rattle.compaction.specs.Rows.{HoldsRows};
 
 use crate::ahead::WidthsAhead;
-use crate::high_walk::{ByteRows, walked_rows};
-use crate::request::WidthRequest;
+use crate::high_walk::walked_rows;
 use crate::requests::Requests;
 use crate::shared_tables::SharedTables;
 use order_model::{Problem, Workers};
@@ -24,27 +22,22 @@ struct Turns {
     taken: AtomicU64,
 }
 
-/// All bytes: those with fewer bits that are 1 come first, and of those with equally many the
-/// smaller.
-fn bytes_by_size() -> [u8; 256] {
-    let mut bytes = [0; 256];
-    let mut count = 0usize;
-    for size in 0..9u32 {
-        for byte in 0..256u16 {
-            if byte.count_ones() == size && count < 256 {
-                bytes[count] = byte as u8;
-                count += 1;
+impl Turns {
+    /// A queue of all 256 low bytes, none of which is taken: those with fewer bits that are 1 come
+    /// first, and of those with equally many the smaller.
+    fn new() -> Turns {
+        let mut bytes = [0; 256];
+        let mut count = 0usize;
+        for size in 0..9u32 {
+            for byte in 0..256u16 {
+                if byte.count_ones() == size && count < 256 {
+                    bytes[count] = byte as u8;
+                    count += 1;
+                }
             }
         }
-    }
-    bytes
-}
-
-impl Turns {
-    /// A queue of all 256 low bytes, none of which is taken.
-    fn new() -> Turns {
         Turns {
-            bytes: bytes_by_size(),
+            bytes,
             taken: AtomicU64::new(0),
         }
     }
@@ -53,31 +46,11 @@ impl Turns {
     /// the fewest bits that are 1 come first.
     fn next(&self) -> Option<u8> {
         let turn = self.taken.fetch_add(1, Ordering::SeqCst);
-        if turn < 256 {
-            Some(self.bytes[turn as usize])
-        } else {
-            None
-        }
+        self.bytes.get(turn as usize).copied()
     }
 }
 
 impl<'a> SharedTables<'a> {
-    /// Computes the widths that `request` needs, as a row for each set with the low byte of
-    /// `request`. Requires that `request` has the problem's number of variables. `memory` is
-    /// working memory.
-    fn rows_of(
-        &self,
-        memory: &mut PairMemory,
-        request: &WidthRequest,
-    ) -> Result<ByteRows, AllocError>
-        requires { request.now.inputs ≡ self.now.inputs }
-        ensures { IfOk result (HoldsRows self.now) }
-    {
-        let request = request.try_clone(memory.alloc)?;
-        let (byte, _) = walked_rows(memory, self, request)?;
-        Ok(byte)
-    }
-
     /// Takes low bytes from `turns` until none is left, and for each one computes the rows that the
     /// request for it in `requests` needs, if there is one. A request for another number of
     /// variables than the problem's is skipped. `end` limits nothing: it is only stored in the
@@ -101,7 +74,7 @@ impl<'a> SharedTables<'a> {
             if let Some(request) = requests.of_byte(low)
                 && request.inputs == inputs
             {
-                let byte = self.rows_of(&mut memory, request)?;
+                let (byte, _) = walked_rows(&mut memory, self, request.try_clone(alloc)?)?;
                 found.keep(byte)?;
             }
         }

@@ -10,8 +10,8 @@ ghost use Rattle.compaction.specs.Walks.{AreWanted, FillsOwn, FillsRows, HasDeci
 use crate::high_bytes::HighBytes;
 use crate::request::WidthRequest;
 use crate::shared_tables::SharedTables;
-use crate::strips::{Strips, low_variables};
-use order_model::{Mask, Problem, VarIx, WidthRow, contains};
+use crate::strips::Strips;
+use order_model::{Mask, VarIx, WidthRow, contains};
 use pair_numbering::PairMemory;
 use std::alloc::{AllocError, Global};
 use std::marker::Model;
@@ -23,21 +23,6 @@ struct Branch {
     decided: Mask,
     /// The high bytes of the wanted sets that agree with the table's set in the decided variables.
     wanted: HighBytes,
-}
-
-/// The lowest variable below `inputs` that is not in the set `decided`; None if all are in it.
-/// Requires `inputs` to be at most 16.
-fn first_undecided(inputs: u8, decided: Mask) -> Option<VarIx>
-    requires { inputs ≤ 16 }
-    ensures undecided { IfSome result (λ y. (y < inputs) × (bit_at decided y ≡ 0)) }
-    ensures all { IsNone result → (y : ℕ) → y < inputs → bit_at decided y ≡ 1 }
-{
-    for y in 0..inputs {
-        if !contains(decided, y) {
-            return Some(y);
-        }
-    }
-    None
 }
 
 impl Branch {
@@ -65,13 +50,11 @@ impl Branch {
             (y : ℕ) → y < inputs → bit_at self.now.decided y ≡ 1 }
     {
         let decided = self.decided;
-        if decided.count_ones() + 2 >= u32::from(inputs) {
-            return first_undecided(inputs, decided);
-        }
+        let few = decided.count_ones() + 2 >= u32::from(inputs);
         let mut next = None;
         let mut most = 0;
         for y in 0..inputs {
-            let count = self.count_with(y);
+            let count = if few { 0 } else { self.count_with(y) };
             if !contains(decided, y) && (next.is_none() || count > most) {
                 next = Some(y);
                 most = count;
@@ -158,41 +141,6 @@ fn walk(
     Ok(before + after + 1)
 }
 
-/// The mask of the low variables: the lowest eight, or all if the problem has fewer.
-fn low_mask(problem: &Problem) -> Mask
-    ensures { result ≡ 2 ^ low_of problem.now - 1 }
-{
-    (1 << low_variables(problem)) - 1
-}
-
-/// If `request.needed[h]` isn't 0, writes to `rows[h]` the needed widths of the set with the high
-/// byte h and the low byte of `request`, and 0 elsewhere. Other rows stay. The walk begins at
-/// `table`, the class table of the set whose mask is this low byte. Returns how many class tables
-/// were compacted. Requires that `request` has the problem's number of variables, and that `rows`
-/// is as long as `request.needed`. If memory is refused, some rows may be written. `memory` is
-/// working memory.
-fn walk_from(
-    memory: &mut PairMemory,
-    problem: &Problem,
-    table: &Strips<'_>,
-    request: &WidthRequest,
-    rows: &mut [WidthRow],
-) -> Result<u32, AllocError>
-    requires inputs { request.now.inputs ≡ problem.now.inputs }
-    requires table { table.now ≡ classes_of problem.now request.now.low }
-    requires rows { length rows.old ≡ length request.now.needed.items }
-    ensures rows { OnOk result
-        (AreByteRows problem.now request.now.low request.now.needed.items rows.new) }
-    ensures compactions { IfOk result (λ count. count + 1 ≤ most_walked problem.now) }
-{
-    let branch = Branch {
-        decided: low_mask(problem),
-        wanted: HighBytes::wanted(&request.needed),
-    };
-    let count = walk(memory, table, &branch, request, rows)?;
-    Ok(count)
-}
-
 /// The class table of `low`, a set of low variables. It is made by adding variables to `first`, the
 /// table of the members of `low` below `from`. None if all members of `low` are below `from`:
 /// `first` is then its table. Requires `from` to be at most the number of low variables. `memory`
@@ -243,7 +191,12 @@ fn fill_rows(
     let (first, known) = shared.first_table(low);
     let made = with_members(memory, first, low, known)?;
     let table = made.as_ref().unwrap_or(&*first);
-    walk_from(memory, shared.problem(), table, request, rows)
+    let branch = Branch {
+        decided: (1 << first.low_variables()) - 1,
+        wanted: HighBytes::wanted(&request.needed),
+    };
+    let count = walk(memory, table, &branch, request, rows)?;
+    Ok(count)
 }
 
 /// The rows of the sets with one low byte, that of `request`: for the set with the high byte h,

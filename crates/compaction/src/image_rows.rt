@@ -1,6 +1,6 @@
 //! The widths of a set from the row of its image.
 
-ghost use Rattle.std.specs.Prelude.{◌≡◌, ◌<◌, ◌≤◌, ◌%◌, ◌==◌, ℕ, if◌then◌else◌, IfSome, IsTrue, slice_index};
+ghost use Rattle.std.specs.Prelude.{◌≡◌, ◌<◌, ◌≤◌, ◌%◌, ◌==◌, ℕ, if◌then◌else◌, IfSome, IsSome, slice_index};
 ghost use Rattle.std.specs.Int.{bit_at};
 ghost use Rattle.definitions.specs.Problems.{TruthTables};
 ghost use Rattle.symmetries.specs.Orbits.{TakesWidths};
@@ -11,46 +11,30 @@ use crate::high_walk::ByteRows;
 use order_model::{Mask, VarIx, WidthRow, contains, next_member};
 use symmetries::Image;
 
-/// The entry of `row` at `x`; 0 if `x` is not below 16.
-fn width_at(row: &WidthRow, x: VarIx) -> u32
-    ensures { result ≡ slice_index row.now x }
-{
-    match row.get(usize::from(x)) {
-        Some(width) => *width,
-        None => 0,
-    }
-}
-
-/// Whether, for each variable x in `needed`, the variable `variables[x]` is in `asked`. False if
-/// one of these is not below 16.
-fn asks_for(asked: Mask, variables: &[VarIx; 16], needed: Mask) -> bool
-    ensures { IsTrue result → (x : ℕ) → x < 16 → bit_at needed x ≡ 1 →
+/// The row that has, at each variable x in `needed`, the entry of `row` at `variables[x]`, and 0
+/// elsewhere. None if one of these `variables[x]` is not in `asked`, or not below 16.
+fn members_moved(
+    row: &WidthRow,
+    asked: Mask,
+    variables: &[VarIx; 16],
+    needed: Mask,
+) -> Option<WidthRow>
+    ensures asked { IsSome result → (x : ℕ) → x < 16 → bit_at needed x ≡ 1 →
         bit_at asked (slice_index variables.now x) ≡ 1 }
-{
-    let mut from = 0;
-    while let Some(x) = next_member(needed, from) {
-        let variable = variables[x as usize];
-        if variable >= 16 || !contains(asked, variable) {
-            return false;
-        }
-        from = x + 1;
-    }
-    true
-}
-
-/// The row that has, at each variable x in `needed`, the entry of `row` at `variables[x]`, or 0 if
-/// that is not below 16. It is 0 elsewhere.
-fn members_moved(row: &WidthRow, variables: &[VarIx; 16], needed: Mask) -> WidthRow
-    ensures { (x : ℕ) → x < 16 → slice_index result x ≡
-        (if bit_at needed x == 1 then slice_index row.now (slice_index variables.now x) else 0) }
+    ensures row { IfSome result (λ moved. (x : ℕ) → x < 16 → slice_index moved x ≡
+        (if bit_at needed x == 1 then slice_index row.now (slice_index variables.now x) else 0)) }
 {
     let mut found = [0; 16];
     let mut from = 0;
     while let Some(x) = next_member(needed, from) {
-        found[x as usize] = width_at(row, variables[x as usize]);
+        let variable = variables[x as usize];
+        if variable >= 16 || !contains(asked, variable) {
+            return None;
+        }
+        found[x as usize] = row[variable as usize];
         from = x + 1;
     }
-    found
+    Some(found)
 }
 
 impl ByteRows {
@@ -73,10 +57,6 @@ impl ByteRows {
         let high = usize::from(image.set >> 8);
         let asked = *self.request.needed.get(high)?;
         let row = self.rows.get(high)?;
-        if asks_for(asked, &image.variables, needed) {
-            Some(members_moved(row, &image.variables, needed))
-        } else {
-            None
-        }
+        members_moved(row, asked, &image.variables, needed)
     }
 }

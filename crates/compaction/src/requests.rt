@@ -36,10 +36,8 @@ impl Requests {
         requires { inputs ≤ 16 }
     {
         let mut bytes = Vec::with_capacity(alloc, 256)?;
-        for low in 0..256u16 {
-            if u32::from(low) < 1u32 << inputs {
-                bytes.push(WidthRequest::none(alloc, inputs, low as u8)?)?;
-            }
+        for low in 0..(1u32 << inputs).min(256) {
+            bytes.push(WidthRequest::none(alloc, inputs, low as u8)?)?;
         }
         Ok(Requests { bytes })
     }

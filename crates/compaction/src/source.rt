@@ -39,17 +39,13 @@ impl<'a> WidthSource<'a> {
     {
         WidthSource {
             prepared,
-            places: Places::of(prepared.found()),
+            places: prepared.found().places(),
         }
     }
 
     /// Whether the widths of all members of `set`, a set of the renamed problem, were found ahead.
     pub fn is_found(&self, set: Mask) -> bool {
-        match self
-            .prepared
-            .found()
-            .rows_at(&self.places, (set % 256) as u8)
-        {
+        match self.prepared.found().rows_at(&self.places, set) {
             Some(byte) => byte.is_whole(set),
             None => false,
         }
@@ -69,10 +65,7 @@ impl<'a> WidthSource<'a> {
         }
         prove!(self.prepared.problem().inputs() <= 16);
         let image = self.prepared.image_of(set);
-        let byte = self
-            .prepared
-            .found()
-            .rows_at(&self.places, (image.set % 256) as u8)?;
+        let byte = self.prepared.found().rows_at(&self.places, image.set)?;
         byte.row_by_image(&image, needed)
     }
 

@@ -16,7 +16,7 @@ fn row_by_itself(rt: &impl Abort, alloc: Global, problem: &Problem, block: &Bloc
     let mut tally = Tally::new();
     let widths = block_widths(alloc, problem, block, &[needed], &mut tally).expect(rt, "memory");
     assert!(rt; tally.count() == 2);
-    widths.row(0)
+    widths.into_rows()[0]
 }
 
 /// The row of the set that is alone in a block, from a row that is found for it.

@@ -5,7 +5,7 @@ ghost use Rattle.subset_layers.specs.Layers.{block_masks};
 
 use crate::problems::{PROBLEMS, cubes, five_bit_numbers, problem_of};
 use crate::tables::width_alone;
-use compaction::{BlockWidths, Tally, block_widths};
+use compaction::{Tally, block_widths};
 use order_model::{Mask, Problem, WidthRow, contains};
 use std::alloc::Global;
 use std::process::Abort;
@@ -46,14 +46,14 @@ fn sum_of_rows(
     alloc: Global,
     problem: &Problem,
     block: &Block,
-    widths: &BlockWidths,
+    rows: &[WidthRow],
 ) -> u64
-    requires { length widths.now.rows ≡ length (block_masks block.now) }
+    requires { length rows.now ≡ length (block_masks block.now) }
 {
     let mut sum = 0u64;
     for i in 0..block.len() {
         let row = row_alone(rt, alloc, problem, block.mask(i));
-        assert!(rt; widths.row(i) == row);
+        assert!(rt; rows[i] == row);
         sum = sum.saturating_add(sum_of(&row));
     }
     sum
@@ -69,7 +69,7 @@ fn sum_of_block(rt: &impl Abort, alloc: Global, problem: &Problem, block: &Block
     );
     assert!(rt; 0 < widths.compactions() && widths.compactions() <= 2367);
     assert!(rt; tally.count() == members_of(block));
-    sum_of_rows(rt, alloc, problem, block, &widths)
+    sum_of_rows(rt, alloc, problem, block, &widths.into_rows())
 }
 
 /// The sum of the widths of the layer of the sets of a size, taken block by block.

@@ -1,5 +1,6 @@
-use Rattle.std.proofs.Common.{◌≡◌, ℕ, ◌∙◌, eqb, cond, List, refl, slice_index, sym, ap, arith, eq-eqb, ne_eqb}
+use Rattle.std.proofs.Common.{◌≡◌, ℕ, eqb, cond, List, refl, slice_index, sym, ap, arith, eq-eqb, ne_eqb}
 use Rattle.std.specs.Int.{bit_at}
+use Rattle.std.proofs.lemmas.Bool.{cases_lt, cases_eq}
 use Rattle.compaction.proofs.RowSteps.{row_passed, row_written}
 use Rattle.compaction.proofs.image_rows.members_moved.Goals as goal
 
@@ -24,15 +25,15 @@ loop-x-preserved c =
     let small = m.1 in
     record {
       small = omega arith;
-      row = row_written f c.loop-x.found x c.width_at.result small
-          (c.width_at.ensures ∙ ap (λ b. cond b moved 0) (sym (eq-eqb (bit_at needed x) 1 m.2)))
+      asked = grind (arith, cases_lt, cases_eq);
+      row = row_written f c.loop-x.found x moved small (ap (λ b. cond b moved 0) (sym (eq-eqb (bit_at needed x) 1 m.2)))
           (row_passed f c.loop-x.found c.loop-x.from x m.0
           (λ y h lt. entry_none needed c.args.row.now c.args.variables.now y (c.in-Some.ensures.first y h lt)) c.loop-x.invariant.row);
     }
 
-pub returns : goal.returns
+pub returns-clause-row : goal.returns-clause-row
 unfolding entry
-returns c = λ x lt.
+returns-clause-row c = λ x lt.
     let f = entry c.args.needed c.args.row.now c.args.variables.now in
     (row_passed f c.loop-x.found c.loop-x.from 16 c.loop-x.invariant.small
     (λ y h l. entry_none c.args.needed c.args.row.now c.args.variables.now y (c.in_default.ensures.none refl y h)) c.loop-x.invariant.row).1 x lt
