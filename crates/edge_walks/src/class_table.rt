@@ -171,10 +171,10 @@ impl<'a> ClassTable<'a> {
 
     /// The class table of this table's set with `x` added. Requires that `x` is a variable of the
     /// problem, that it is smaller than all members of the set, and that any rows left out of this
-    /// table have more than 2^`x` entries.
+    /// table have more than 2^`x` entries. `memory` is working memory.
     pub(crate) fn with_variable(
         &self,
-        alloc: Global,
+        memory: &mut PairMemory,
         x: VarIx,
     ) -> Result<ClassTable<'a>, AllocError>
         requires inside { x < self.now.problem.inputs }
@@ -189,13 +189,13 @@ impl<'a> ClassTable<'a> {
                 set,
                 level: x,
                 full: Some(count / 2),
-                numbers: Vec::new(alloc),
-                masks: Vec::new(alloc),
+                numbers: Vec::new(memory.alloc),
+                masks: Vec::new(memory.alloc),
             }),
             None => {
                 let pairs = MaskedPairs::of_table(&self.numbers, u32::from(x), x, &self.masks);
-                let numbered = number_with_masks(&mut PairMemory::new(alloc), &pairs)?;
-                Ok(table_of(alloc, self.problem, set, x, numbered))
+                let numbered = number_with_masks(memory, &pairs)?;
+                Ok(table_of(memory.alloc, self.problem, set, x, numbered))
             }
         }
     }

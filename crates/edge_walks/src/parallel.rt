@@ -11,6 +11,7 @@ use crate::small_sources::edges_up_to;
 use crate::top_tables::{first_from_tops, top_tables};
 use crate::walk::{first_failing, first_of, has_judged};
 use order_model::{Mask, VarIx};
+use pair_numbering::PairMemory;
 use rayon::prelude::*;
 use std::alloc::{AllocError, Global};
 use std::thread::Threads;
@@ -155,7 +156,7 @@ impl Walker for CallingThread {
             table: &table,
             free: edges.problem.inputs(),
         };
-        first_failing(alloc, root, false)
+        first_failing(&mut PairMemory::new(alloc), root, false)
     }
 }
 

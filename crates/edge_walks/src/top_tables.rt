@@ -10,13 +10,14 @@ use crate::class_table::ClassTable;
 use crate::position::{Edge, Position};
 use crate::walk::{first_in_part, has_upper_judged, upper_table};
 use order_model::{Mask, VarIx};
+use pair_numbering::PairMemory;
 use std::alloc::{AllocError, Global};
 
 /// The class table of the set of `at.table` with the variable `at.free` - 1 added. None if no edge
 /// is to be tested into this larger set with none, some or all of the smaller variables added.
-/// Requires 0 < `at.free`.
+/// Requires 0 < `at.free`. `memory` is working memory.
 fn judged_upper_table<'t>(
-    alloc: Global,
+    memory: &mut PairMemory,
     at: Position<'_, 't>,
 ) -> Result<Option<ClassTable<'t>>, AllocError>
     requires { 0 < at.free }
@@ -26,7 +27,7 @@ fn judged_upper_table<'t>(
     if !has_upper_judged(at) {
         return Ok(None);
     }
-    let larger = upper_table(alloc, at)?;
+    let larger = upper_table(memory, at)?;
     Ok(Some(larger))
 }
 
@@ -34,9 +35,10 @@ fn judged_upper_table<'t>(
 /// `tops`; appends the class tables of these larger sets to `tops`. A table is left out if no edge
 /// is to be tested into its set with none, some or all of the smaller variables added. Requires
 /// `root.free` to be above 0, and the sets of the tables in `tops` to have no variable below
-/// `root.free`. If memory is refused, only some tables may be appended.
+/// `root.free`. If memory is refused, only some tables may be appended. `memory` is working
+/// memory.
 fn add_variable<'t>(
-    alloc: Global,
+    memory: &mut PairMemory,
     root: Position<'_, 't>,
     tops: &mut Vec<ClassTable<'t>>,
 ) -> Result<(), AllocError>
@@ -47,7 +49,7 @@ fn add_variable<'t>(
 {
     let Position { edges, free, .. } = root;
     let made = tops.len();
-    if let Some(larger) = judged_upper_table(alloc, root)? {
+    if let Some(larger) = judged_upper_table(memory, root)? {
         tops.push(larger)?;
     }
     for i in 0..made {
@@ -56,7 +58,7 @@ fn add_variable<'t>(
             table: &tops[i],
             free,
         };
-        if let Some(larger) = judged_upper_table(alloc, at)? {
+        if let Some(larger) = judged_upper_table(memory, at)? {
             tops.push(larger)?;
         }
     }
@@ -76,6 +78,7 @@ pub(crate) fn top_tables<'t>(
     ensures { IfOk result (λ v. All (StandsAt root.entry.edges.problem.now y) v.items) }
 {
     let Position { edges, table, free } = root;
+    let mut memory = PairMemory::new(alloc);
     let mut tops = Vec::new(alloc);
     for x in (y..free).rev() {
         let above = Position {
@@ -83,7 +86,7 @@ pub(crate) fn top_tables<'t>(
             table,
             free: x + 1,
         };
-        add_variable(alloc, above, &mut tops)?;
+        add_variable(&mut memory, above, &mut tops)?;
     }
     Ok(tops)
 }
@@ -107,6 +110,7 @@ pub(crate) fn first_from_tops(
     requires part { IsBlock root.edges.problem.now.inputs part end }
     ensures { IfOk result (IsFirstEdge (FailsInBlock root.entry.edges part end)) }
 {
+    let mut memory = PairMemory::new(alloc);
     for table in tops {
         if table.set() == part >> y << y {
             let top = Position {
@@ -114,8 +118,8 @@ pub(crate) fn first_from_tops(
                 table,
                 free: y,
             };
-            return first_in_part(alloc, top, part, end);
+            return first_in_part(&mut memory, top, part, end);
         }
     }
-    first_in_part(alloc, root, part, end)
+    first_in_part(&mut memory, root, part, end)
 }

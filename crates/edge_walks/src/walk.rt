@@ -9,7 +9,8 @@ use crate::class_table::ClassTable;
 use crate::position::{Edge, Position};
 use crate::upper_halves::upper_half_passes;
 use order_model::{Mask, VarIx, contains};
-use std::alloc::{AllocError, Global};
+use pair_numbering::PairMemory;
+use std::alloc::AllocError;
 
 /// The one of two edges that comes first, by the mask that it leads from and then by variable. If
 /// one is None, the other; None if both are.
@@ -59,16 +60,16 @@ pub(crate) fn has_upper_judged(at: Position) -> bool
 }
 
 /// The class table of the set of `at.table` with the variable `at.free` - 1 added. Requires 0 <
-/// `at.free`.
+/// `at.free`. `memory` is working memory.
 pub(crate) fn upper_table<'t>(
-    alloc: Global,
+    memory: &mut PairMemory,
     at: Position<'_, 't>,
 ) -> Result<ClassTable<'t>, AllocError>
     requires { 0 < at.free }
     ensures set { IfOk result (λ t. t.set ≡ at.entry.table.now.set + 2 ^ (at.entry.free - 1)) }
     ensures stands { IfOk result (StandsAt at.entry.edges.problem.now (at.entry.free - 1)) }
 {
-    at.table.with_variable(alloc, at.free - 1)
+    at.table.with_variable(memory, at.free - 1)
 }
 
 /// The first edge in `at.edges` that leads into the set of `at.table` and fails; None if none does.
@@ -95,8 +96,9 @@ fn first_into(at: Position) -> Option<Edge>
 /// The first edge in `at.edges`, by the mask that it leads from and then by variable, that fails
 /// and leads into the set of `at.table` with none, some or all of the variables below `at.free`
 /// added; None if none does. `short` is true if repeated rows of the table were looked for already.
+/// `memory` is working memory.
 pub(crate) fn first_failing(
-    alloc: Global,
+    memory: &mut PairMemory,
     at: Position,
     short: bool,
 ) -> Result<Option<Edge>, AllocError>
@@ -110,13 +112,13 @@ pub(crate) fn first_failing(
         return Ok(first_into(at));
     }
     if !short {
-        if let Some(shorter) = table.with_short_rows(alloc, free)? {
+        if let Some(shorter) = table.with_short_rows(memory.alloc, free)? {
             let same = Position {
                 edges,
                 table: &shorter,
                 free,
             };
-            return first_failing(alloc, same, true);
+            return first_failing(memory, same, true);
         }
     }
     let lower = Position {
@@ -124,26 +126,26 @@ pub(crate) fn first_failing(
         table,
         free: free - 1,
     };
-    let without = first_failing(alloc, lower, false)?;
-    let passes = upper_half_passes(alloc, at)?;
+    let without = first_failing(memory, lower, false)?;
+    let passes = upper_half_passes(memory.alloc, at)?;
     if passes {
         return Ok(without);
     }
-    let larger = upper_table(alloc, at)?;
+    let larger = upper_table(memory, at)?;
     let upper = Position {
         edges,
         table: &larger,
         free: free - 1,
     };
-    let with = first_failing(alloc, upper, false)?;
+    let with = first_failing(memory, upper, false)?;
     Ok(first_of(without, with))
 }
 
 /// The class table of the members of `part` that are not below `end`; None if this is the set of
 /// `at.table`. Requires that the set of `at.table` is the members of `part` that are not below
-/// `at.free`, and that `end` <= `at.free`.
+/// `at.free`, and that `end` <= `at.free`. `memory` is working memory.
 fn part_table<'t>(
-    alloc: Global,
+    memory: &mut PairMemory,
     at: Position<'_, 't>,
     part: Mask,
     end: VarIx,
@@ -157,8 +159,8 @@ fn part_table<'t>(
     for x in (end..at.free).rev() {
         if contains(part, x) {
             let larger = match &own {
-                Some(smaller) => smaller.with_variable(alloc, x)?,
-                None => at.table.with_variable(alloc, x)?,
+                Some(smaller) => smaller.with_variable(memory, x)?,
+                None => at.table.with_variable(memory, x)?,
             };
             own = Some(larger);
         }
@@ -169,9 +171,10 @@ fn part_table<'t>(
 /// The first edge in `at.edges`, by the mask that it leads from and then by variable, that fails
 /// and leads into `part` with none, some or all of the variables below `end` added; None if none
 /// does. Requires that `part` has no variable below `end`, that the set of `at.table` is the
-/// members of `part` that are not below `at.free`, and that `end` <= `at.free`.
+/// members of `part` that are not below `at.free`, and that `end` <= `at.free`. `memory` is working
+/// memory.
 pub(crate) fn first_in_part(
-    alloc: Global,
+    memory: &mut PairMemory,
     at: Position,
     part: Mask,
     end: VarIx,
@@ -185,14 +188,14 @@ pub(crate) fn first_in_part(
     if !has_judged(edges.judged, part, end) {
         return Ok(None);
     }
-    match part_table(alloc, at, part, end)? {
+    match part_table(memory, at, part, end)? {
         Some(own) => {
             let own_part = Position {
                 edges,
                 table: &own,
                 free: end,
             };
-            first_failing(alloc, own_part, false)
+            first_failing(memory, own_part, false)
         }
         None => {
             let same = Position {
@@ -200,7 +203,7 @@ pub(crate) fn first_in_part(
                 table,
                 free: end,
             };
-            first_failing(alloc, same, false)
+            first_failing(memory, same, false)
         }
     }
 }
