@@ -101,8 +101,11 @@ pub(crate) fn add_above(
     let names = EntryPairs::of_table(table.outer, table.rank);
     let mut outer = Vec::new(memory.alloc);
     memory.number(&names, strips, &mut outer)?;
-    let runs = mem::replace(&mut memory.pairs, Vec::new(memory.alloc));
-    let pairs = MaskedPairs::of_strips(&runs, table.numbers, table.bits, x, table.masks);
+    // The entries are numbered in the same memory while the pairs of strips are still read.
+    let spare = mem::replace(&mut memory.spare, Vec::new(memory.alloc));
+    let strip_pairs = mem::replace(&mut memory.pairs, spare);
+    let pairs = MaskedPairs::of_strips(&strip_pairs, table.numbers, table.bits, x, table.masks);
     let keys = label_pairs(memory, &pairs)?;
+    memory.spare = strip_pairs;
     Ok((outer, keys))
 }

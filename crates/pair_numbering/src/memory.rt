@@ -19,14 +19,17 @@ use std::alloc::{AllocError, Global};
 /// Pairs are numbered by cells if there are at most this many cells for each pair.
 const MOST_CELLS_PER_PAIR: usize = 16;
 
-/// Working memory in which pairs are numbered, and the distinct pairs that `number` found last.
-/// What it holds before a numbering doesn't matter.
+/// Working memory in which pairs are numbered. What it holds before a numbering doesn't matter.
 #[derive(Drop)]
 pub struct PairMemory {
     /// The allocator of this memory.
     pub alloc: Global,
-    /// `pairs[k]` is the pair with the number k.
+    /// After a call of `number`: `pairs[k]` is the pair with the number k.
     pub pairs: Vec<(u32, u32)>,
+    /// Room for a second list of pairs; what it holds has no meaning. A caller that needs `pairs`
+    /// during the next numbering takes the list out, puts this one in its place, and puts it here
+    /// when it is done.
+    pub spare: Vec<(u32, u32)>,
     /// How many pairs have each class as their lower class (`CountedPairs`).
     pub(crate) counts: Vec<u8>,
     /// Slots of a hash table, each with the number of a pair (`slots.rt`).
@@ -41,6 +44,7 @@ impl PairMemory {
         PairMemory {
             alloc,
             pairs: Vec::new(alloc),
+            spare: Vec::new(alloc),
             counts: Vec::new(alloc),
             slots: Vec::new(alloc),
             cells: Vec::new(alloc),
