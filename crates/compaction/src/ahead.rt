@@ -79,8 +79,8 @@ impl<'a> WidthsAhead<'a> {
         Ok(())
     }
 
-    /// For each low byte, the place in this list of the last rows of sets that have it; None if
-    /// there are none.
+    /// For each low byte, the place in this list of the last rows of the sets with this low byte;
+    /// None if there are none.
     pub(crate) fn places(&self) -> Places {
         let mut places = [None; 256];
         for (place, byte) in self.bytes.iter().enumerate() {

@@ -1,7 +1,6 @@
 //! The widths of the sets of a block.
 
-ghost use Rattle.std.specs.Prelude.{◌≡◌, ℕ, ◌+◌, ◌^◌, ◌<◌, ◌≤◌, ◌==◌, if◌then◌else◌, length, slice_index, IfOk, OnOk, OnErr};
-ghost use Rattle.std.specs.Int.{bit_at};
+ghost use Rattle.std.specs.Prelude.{◌≡◌, ◌+◌, ◌^◌, ◌≤◌, length, IfOk, OnOk, OnErr};
 ghost use Rattle.subset_layers.specs.Layers.{block_masks};
 ghost use Rattle.compaction.specs.Requests.{Asks};
 ghost use Rattle.compaction.specs.Rows.{AreWidthRows, AreMembers, HoldsRows, wanted_count, most_compactions};
@@ -9,8 +8,9 @@ ghost use Rattle.compaction.specs.Rows.{AreWidthRows, AreMembers, HoldsRows, wan
 use crate::high_walk::{ByteRows, walked_rows};
 use crate::request::WidthRequest;
 use crate::shared_tables::SharedTables;
+use crate::strips::members_only;
 use crate::tally::Tally;
-use order_model::{Mask, Problem, WidthRow, contains};
+use order_model::{Mask, Problem, WidthRow};
 use pair_numbering::PairMemory;
 use std::alloc::{AllocError, Global};
 use std::marker::Model;
@@ -48,20 +48,6 @@ impl BlockWidths {
     {
         self.compactions
     }
-}
-
-/// The entries of `row` at the variables in `members`, and 0 elsewhere.
-fn members_only(row: WidthRow, members: Mask) -> WidthRow
-    ensures { (x : ℕ) → x < 16 →
-        slice_index result x ≡ (if bit_at members x == 1 then slice_index row x else 0) }
-{
-    let mut found = [0; 16];
-    for x in 0..16u8 {
-        if contains(members, x) {
-            found[x as usize] = row[x as usize];
-        }
-    }
-    found
 }
 
 impl<'a> SharedTables<'a> {

@@ -42,8 +42,7 @@ impl Turns {
         }
     }
 
-    /// Takes the next low byte off the queue, and returns it; None if all 256 are taken. Those with
-    /// the fewest bits that are 1 come first.
+    /// Takes the next low byte off the queue, and returns it; None if all 256 are taken.
     fn next(&self) -> Option<u8> {
         let turn = self.taken.fetch_add(1, Ordering::SeqCst);
         self.bytes.get(turn as usize).copied()

@@ -1,6 +1,6 @@
 //! A walk over the high variables, from the class table of a low byte.
 
-ghost use Rattle.std.specs.Prelude.{◌≡◌, ℕ, ◌+◌, ◌-◌, ◌%◌, ◌^◌, ◌<◌, ◌≤◌, length, IfOk, IfSome, IsNone, OnOk, bit_or};
+ghost use Rattle.std.specs.Prelude.{◌≡◌, ℕ, ◌+◌, ◌%◌, ◌^◌, ◌<◌, ◌≤◌, length, IfOk, IfSome, IsNone, OnOk, bit_or};
 ghost use Rattle.std.specs.Int.{bit_at};
 ghost use Rattle.subfunction_classes.specs.Table.{classes_of, free_below};
 ghost use Rattle.compaction.specs.Rows.{AreByteRows, HoldsRows, most_compactions, most_walked};
@@ -50,6 +50,7 @@ impl Branch {
             (y : ℕ) → y < inputs → bit_at self.now.decided y ≡ 1 }
     {
         let decided = self.decided;
+        // Of two undecided variables the better one saves at most one table: not worth a count.
         let few = decided.count_ones() + 2 >= u32::from(inputs);
         let mut next = None;
         let mut most = 0;
@@ -191,6 +192,7 @@ fn fill_rows(
     let (first, known) = shared.first_table(low);
     let made = with_members(memory, first, low, known)?;
     let table = made.as_ref().unwrap_or(&*first);
+    // All sets of this walk have the request's low byte, so every low variable is decided.
     let branch = Branch {
         decided: (1 << first.low_variables()) - 1,
         wanted: HighBytes::wanted(&request.needed),

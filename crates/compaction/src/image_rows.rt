@@ -12,7 +12,7 @@ use order_model::{Mask, VarIx, WidthRow, contains, next_member};
 use symmetries::Image;
 
 /// The row that has, at each variable x in `needed`, the entry of `row` at `variables[x]`, and 0
-/// elsewhere. None if one of these `variables[x]` is not in `asked`, or not below 16.
+/// elsewhere. None if one of these `variables[x]` is not in `asked`, or is 16 or more.
 fn members_moved(
     row: &WidthRow,
     asked: Mask,

@@ -130,18 +130,18 @@ fn all_distinct(outer: &[u32], numbers: &[u32], masks: &[Mask], set: Mask) -> bo
         && are_all(masks, set)
 }
 
-/// The row that has `width` at each variable in `wanted`, and 0 elsewhere.
-fn same_row(width: u32, wanted: Mask) -> WidthRow
+/// The entries of `row` at the variables in `members`, and 0 elsewhere.
+pub(crate) fn members_only(row: WidthRow, members: Mask) -> WidthRow
     ensures { (x : ℕ) → x < 16 →
-        slice_index result x ≡ (if bit_at wanted x == 1 then width else 0) }
+        slice_index result x ≡ (if bit_at members x == 1 then slice_index row x else 0) }
 {
-    let mut row = [0; 16];
+    let mut found = [0; 16];
     for x in 0..16u8 {
-        if contains(wanted, x) {
-            row[x as usize] = width;
+        if contains(members, x) {
+            found[x as usize] = row[x as usize];
         }
     }
-    row
+    found
 }
 
 impl<'a> Strips<'a> {
@@ -294,7 +294,7 @@ impl<'a> Strips<'a> {
         ensures { IfOk result (λ row. IsWidthRow self.now.problem self.now.set wanted row) }
     {
         match self.distinct {
-            Some(count) => Ok(same_row(count, wanted)),
+            Some(count) => Ok(members_only([count; 16], wanted)),
             None => {
                 if self.keys.all_used {
                     return Ok(row_of(&self.keys.masks, wanted));

@@ -1,6 +1,7 @@
 use Rattle.std.proofs.Common.{length, ap, ◌∙◌, sym, subst, arith, cond, eqb}
 use Rattle.std.specs.Int.{bit_at}
 use Rattle.std.specs.List.{filter}
+use Rattle.std.proofs.lemmas.List.{get_or-replicate}
 use Rattle.compaction.specs.Strips.{low_variables, masks_in_use}
 use Rattle.subfunction_classes.specs.PairTables.{AllBelow}
 use Rattle.subfunction_classes.specs.Table.{classes_of}
@@ -34,7 +35,8 @@ returns-in-Some c =
     λ x small. distinct_row c.args.self.now c.in-Some.count
     (table_distinct (classes_of c.self.inside.problem.now c.self.inside.set) c.args.self.now c.self.inside.distinct c.in-Some.count
     c.self.inside.outer.items c.self.inside.keys.numbers.items c.self.inside.keys.masks.items c.self.view_is c.self.invariant c.in-Some.is)
-    c.args.wanted x _ (c.requires x) (c.same_row.ensures x small)
+    c.args.wanted x _ (c.requires x)
+    (c.members_only.ensures x small ∙ ap (λ w. cond (eqb (bit_at c.args.wanted x) 1) w 0) (get_or-replicate 16 x c.in-Some.count 0 small))
 
 pub returns-then-self : goal.returns-then-self
 returns-then-self c = λ x small.

@@ -2,8 +2,8 @@ use Rattle.std.proofs.Common.{ℕ, ◌+◌, eqb, cond, List, slice_index, sym, a
 use Rattle.std.specs.Int.{bit_at}
 use Rattle.std.proofs.lemmas.Bool.{iff_false}
 use Rattle.compaction.proofs.RowSteps.{IsRowBelow, row_written, row_kept}
-use Rattle.compaction.proofs.blocks.members_only.Goals as goal
-use Rattle.compaction.proofs.blocks.members_only.Goals.{then-contains, else-contains}
+use Rattle.compaction.proofs.strips.members_only.Goals as goal
+use Rattle.compaction.proofs.strips.members_only.Goals.{then-contains, else-contains}
 
 -- the row's entry at x
 entry : ℕ → List ℕ → ℕ → ℕ
