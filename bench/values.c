@@ -39,7 +39,7 @@ static void find_dependent(void)
         for (int x = 0; x < 4; x++) lanes[mask] |= (uint64_t)(mask >> x & 1) << 16 * x;
 }
 
-/* Exchanges the index bits i and j, i < j: two bits of a point in its word, one of these and one of the word's number, or two of this. */
+/* Exchanges the index bits i and j, i < j. Bits below 6 say a point's place in its word, the others which word it is. */
 static void exchange(const uint64_t *from, uint64_t *to, int i, int j)
 {
     if (j < 6) {
