@@ -36,7 +36,8 @@ of_strips-pairs-requires-clause-strips c =
     let runs = c.number.new.numbers.items in
     let ns = c.of_table-names in
     let own = numbered t.outer.now runs ns.result.numbers pairs t.rank ns.result.rank ns.ensures.numbers ns.ensures.rank
-    (subst (λ us. ArePairsNumbered ns.result.numbers ns.result.rank runs us) (sym (ap (λ v. v.items) c.replace-strip_pairs.ensures.value)) c.in_ok-number.ensures) in
+    (subst (λ us. ArePairsNumbered ns.result.numbers ns.result.rank runs us)
+    (sym (ap (λ v. v.items) c.replace-strip_pairs.ensures.value)) c.in_ok-number.ensures) in
     let named =
     paired_named t.outer.now t.numbers.now len t.rank table.strips table.whole runs pairs own in
     let few = paired_few t.outer.now t.numbers.now len t.rank table.strips table.whole runs pairs own (unrolled (names_of pairs) t.numbers.now len) refl in
@@ -63,7 +64,8 @@ returns c =
     let labels = c.in_ok-keys.keys in
     let ns = c.of_table-names in
     let own = numbered outer runs ns.result.numbers pairs t.rank ns.result.rank ns.ensures.numbers ns.ensures.rank
-    (subst (λ us. ArePairsNumbered ns.result.numbers ns.result.rank runs us) (sym (ap (λ v. v.items) c.replace-strip_pairs.ensures.value)) c.in_ok-number.ensures) in
+    (subst (λ us. ArePairsNumbered ns.result.numbers ns.result.rank runs us)
+    (sym (ap (λ v. v.items) c.replace-strip_pairs.ensures.value)) c.in_ok-number.ensures) in
     let long = paired_long outer numbers len t.rank table.strips table.whole runs pairs own paired refl in
     let lower = paired_lower outer numbers len t.rank table.strips table.whole runs pairs own paired refl in
     let upper = paired_upper outer numbers len t.rank table.strips table.whole runs pairs own paired refl in
