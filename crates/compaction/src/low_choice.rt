@@ -1,7 +1,7 @@
 //! Which variables are to be the lowest ones: eight under which the truth tables have few distinct
 //! strips, one of 256 entries for each assignment of the others. What is chosen decides time alone.
 
-ghost use Rattle.std.specs.Prelude.{◌≡◌, ◌<◌, ◌≤◌, length, IfOk};
+ghost use Rattle.std.specs.Prelude.{◌≡◌, ◌<◌, ◌≤◌, IfOk};
 
 use order_model::packed::lower_half;
 use order_model::{Mask, Problem, VarIx};
@@ -24,114 +24,50 @@ fn mixed(hash: u64, word: u64) -> u64 {
     product ^ (product >> 29)
 }
 
-/// The hash of `first` and `second`, which depends on their order.
-fn joined(first: u64, second: u64) -> u64 {
-    mixed(mixed(0, first), second)
-}
-
-/// A set of values that the upper 14 bits of hashes have: a bit for each of the 16,384 values.
-#[derive(Clone, Copy)]
-struct Seen {
-    words: [u64; 256],
-}
-
-impl Seen {
-    /// Adds the number in the upper 14 bits of `hash` to the set.
-    fn add(&mut self, hash: u64) {
-        let value = hash >> 50;
-        if let Some(word) = self.words.get_mut((value / 64) as usize) {
-            *word |= 1 << (value % 64);
-        }
-    }
-
-    /// How many distinct values were added.
-    fn count(&self) -> u32 {
-        let mut count = 0u32;
-        for word in &self.words {
-            count = count.wrapping_add(word.count_ones());
-        }
-        count
-    }
-}
-
-/// Hashes of the two halves of each strip, which differ in one low variable.
-#[derive(Drop)]
-struct Halves {
-    /// For each strip the hash of the half where the variable is 0.
-    lower: Vec<u64>,
-    /// For each strip the hash of the half where the variable is 1.
-    upper: Vec<u64>,
-}
-
-impl Halves {
-    /// For each strip in `words`, the hash of its half where bit `low` of the point is 0, and the
-    /// hash of its half where that bit is 1. `words` has packed truth tables, four words a strip;
-    /// up to three words left over are ignored. Requires `low` < 8.
-    fn of(alloc: Global, words: &[u64], low: VarIx) -> Result<Halves, AllocError>
-        requires { low < 8 }
-    {
-        let strips = words.len() / 4;
-        let mut lower = Vec::with_capacity(alloc, strips)?;
-        let mut upper = Vec::with_capacity(alloc, strips)?;
-        for strip in 0..strips {
-            let mut halves = (0, 0);
-            for place in 0..4 {
-                let word = words[4 * strip + place];
-                if low < 6 {
-                    let mask = lower_half(low);
-                    halves.0 = mixed(halves.0, word & mask);
-                    halves.1 = mixed(halves.1, word.wrapping_shr(1 << low) & mask);
-                } else if (place >> (low - 6)) & 1 == 0 {
-                    halves.0 = mixed(halves.0, word);
-                } else {
-                    halves.1 = mixed(halves.1, word);
-                }
-            }
-            lower.push(halves.0)?;
-            upper.push(halves.1)?;
-        }
-        Ok(Halves { lower, upper })
-    }
-
-    /// About how many distinct strips these halves make up: how many distinct values the upper 14
-    /// bits of the strips' hashes have, so never more than there are.
-    fn count(&self) -> u32 {
-        let mut seen = Seen { words: [0; 256] };
-        for (lower, upper) in self.lower.iter().zip(&self.upper) {
-            seen.add(joined(*lower, *upper));
-        }
-        seen.count()
-    }
-
-    /// About how many distinct strips are left if two variables are exchanged: the low one in which
-    /// the halves differ, and the high one `8 + place`. It is how many distinct values the upper 14
-    /// bits of the new strips' hashes have. Requires `place` < 8, and expects `8 + place` to be a
-    /// variable of the problem; else the count has no meaning.
-    fn count_after(&self, place: u8) -> u32
-        requires { place < 8 }
-    {
-        let mut seen = Seen { words: [0; 256] };
-        let step = 1usize << place;
-        for halves in [&self.lower, &self.upper] {
-            for (strip, hash) in halves.iter().enumerate() {
-                if (strip >> place) & 1 == 0
-                    && let Some(other) = halves.get(strip | step)
-                {
-                    seen.add(joined(*hash, *other));
-                }
+/// Hashes of the two halves of each strip in `words`: for strip i, at 2i the hash of its half where
+/// bit `low` of the point is 0, and at 2i + 1 that of its half where that bit is 1. `words` has
+/// packed truth tables, four words a strip; up to three words left over are ignored. Requires
+/// `low` < 8.
+fn halves_of(alloc: Global, words: &[u64], low: VarIx) -> Result<Vec<u64>, AllocError>
+    requires { low < 8 }
+{
+    let mut hashes = Vec::with_capacity(alloc, words.len() / 2)?;
+    for strip in words.chunks_exact(4) {
+        let mut halves = [0, 0];
+        for (place, word) in strip.iter().enumerate() {
+            if low < 6 {
+                let mask = lower_half(low);
+                halves[0] = mixed(halves[0], *word & mask);
+                halves[1] = mixed(halves[1], word.wrapping_shr(1 << low) & mask);
+            } else {
+                let half = (place >> (low - 6)) & 1;
+                halves[half] = mixed(halves[half], *word);
             }
         }
-        seen.count()
+        hashes.extend_from_slice(&halves)?;
     }
+    Ok(hashes)
 }
 
-/// The packed truth tables of a problem with exchanged variables. Place p stands for bit p of a
-/// point.
-#[derive(Drop)]
-struct Tables {
-    words: Vec<u64>,
-    /// `variables[p]` is the problem's variable at place p.
-    variables: [VarIx; 16],
+/// About how many distinct strips the halves with the hashes in `halves` make up, if those at
+/// places that differ in bit `bit` alone are joined. If `halves` are those of `halves_of`, bit 0
+/// joins them as they were, and bit k those that come together if the low variable and the high one
+/// `7 + k` are exchanged. It is how many distinct values the upper 14 bits of the strips' hashes
+/// have, so never more than there are. Requires `bit` to be at most 8.
+fn count_strips(halves: &[u64], bit: u8) -> u32
+    requires { bit ≤ 8 }
+{
+    let mut seen = [0u64; 256];
+    for (place, half) in halves.iter().enumerate() {
+        if (place >> bit) & 1 == 0
+            && let Some(other) = halves.get(place | (1 << bit))
+        {
+            let value = mixed(mixed(0, *half), *other) >> 50;
+            seen[(value / 64) as usize] |= 1 << (value % 64);
+        }
+    }
+    seen.iter()
+        .fold(0, |count, word| count.wrapping_add(word.count_ones()))
 }
 
 /// An exchange of the variables at two places, which are bits of a point.
@@ -147,57 +83,32 @@ struct Change {
     ghost is_high: { high < 16 },
 }
 
-impl Tables {
-    /// The packed truth tables of `problem`, one output after another, with no variables exchanged.
-    fn of(alloc: Global, problem: &Problem) -> Result<Tables, AllocError> {
-        let mut words = Vec::new(alloc);
-        for output in 0..problem.outputs() {
-            words.extend_from_slice(problem.words(output))?;
-        }
-        Ok(Tables {
-            words,
-            variables: [0, 1, 2, 3, 4, 5, 6, 7, 8, 9, 10, 11, 12, 13, 14, 15],
-        })
-    }
-
-    /// The exchange of two variables that leaves the fewest distinct strips, by an estimate from
-    /// hashes. One variable is at a place below 8, the other at a place from 8 to `inputs` - 1;
-    /// place p is bit p of a point. Of several exchanges it is the first, by the lower place and
-    /// then by the higher one. None if `inputs`, the problem's number of variables, is at most 8.
-    /// Requires `inputs` to be at most 16.
-    fn best_change(&self, alloc: Global, inputs: u8) -> Result<Option<Change>, AllocError>
-        requires { inputs ≤ 16 }
-    {
-        let mut best: Option<Change> = None;
-        for low in 0..8 {
-            let halves = Halves::of(alloc, &self.words, low)?;
-            for high in 8..inputs {
-                let strips = halves.count_after(high - 8);
-                if best.is_none_or(|change| strips < change.strips) {
-                    best = Some(Change { low, high, strips });
-                }
+/// The exchange of two variables that leaves the fewest distinct strips of `words`, by an estimate
+/// from hashes. One variable is at a place below 8, the other at a place from 8 to `inputs` - 1;
+/// place p is bit p of a point. Of several exchanges it is the first, by the lower place and then
+/// by the higher one. None if each leaves at least `most` strips, or if `inputs` is at most 8.
+/// Requires `inputs` to be at most 16.
+fn best_change(
+    alloc: Global,
+    words: &[u64],
+    inputs: u8,
+    most: u32,
+) -> Result<Option<Change>, AllocError>
+    requires { inputs ≤ 16 }
+{
+    let mut best = None;
+    let mut fewest = most;
+    for low in 0..8 {
+        let halves = halves_of(alloc, words, low)?;
+        for high in 8..inputs {
+            let strips = count_strips(&halves, high - 7);
+            if strips < fewest {
+                fewest = strips;
+                best = Some(Change { low, high, strips });
             }
         }
-        Ok(best)
     }
-
-    /// Exchanges the variables at the places `change.low` and `change.high`: these tables become
-    /// the truth tables of the functions with the two exchanged. Place p is bit p of a point.
-    /// Expects `change.high` to be below the number of variables; else the tables may be wrong.
-    fn make(&mut self, change: Change) {
-        self.variables
-            .swap(change.low as usize, change.high as usize);
-        exchange(&mut self.words, change.low, change.high);
-    }
-
-    /// The mask of the variables at the places 0 to 7. Place p is bit p of a point.
-    fn lowest(&self) -> Mask {
-        let mut set: Mask = 0;
-        for variable in &self.variables[..8] {
-            set |= 1 << (*variable % 16);
-        }
-        set
-    }
+    Ok(best)
 }
 
 /// Exchanges bits `low` and `high` of all points in `words`, which has packed truth tables one
@@ -207,25 +118,20 @@ fn exchange(words: &mut [u64], low: VarIx, high: VarIx)
     requires low { low < 8 }
     requires high { high < 16 }
 {
-    let above = 1usize << high.saturating_sub(6);
+    let above = (1usize << high) / 64;
+    let below = (1usize << low) / 64;
     for place in 0..words.len() {
-        if place & above != 0 {
+        let other = (place ^ below) | above;
+        if place & (below | above) != below || other >= words.len() {
             continue;
         }
         if low < 6 {
-            let other = place | above;
-            if other < words.len() {
-                let shift = 1u32 << low;
-                let moved = (words[place].wrapping_shr(shift) ^ words[other]) & lower_half(low);
-                words[place] ^= moved.wrapping_shl(shift);
-                words[other] ^= moved;
-            }
+            let shift = 1u32 << low;
+            let moved = (words[place].wrapping_shr(shift) ^ words[other]) & lower_half(low);
+            words[place] ^= moved.wrapping_shl(shift);
+            words[other] ^= moved;
         } else {
-            let below = 1usize << (low - 6);
-            let other = (place ^ below) | above;
-            if place & below != 0 && other < words.len() {
-                words.swap(place, other);
-            }
+            words.swap(place, other);
         }
     }
 }
@@ -238,26 +144,30 @@ fn exchange(words: &mut [u64], low: VarIx, high: VarIx)
 fn lowest_of(alloc: Global, problem: &Problem) -> Result<Option<Mask>, AllocError>
     requires { problem.now.inputs ≤ 16 }
 {
-    let mut tables = Tables::of(alloc, problem)?;
-    let first = Halves::of(alloc, &tables.words, 0)?.count();
+    let mut words = Vec::new(alloc);
+    for output in 0..problem.outputs() {
+        words.extend_from_slice(problem.words(output))?;
+    }
+    let first = count_strips(&halves_of(alloc, &words, 0)?, 0);
     if first <= FEW_STRIPS {
         return Ok(None);
     }
     let mut fewest = first;
+    // The variable at each place, which is a bit of a point.
+    let mut variables: [VarIx; 16] = [0, 1, 2, 3, 4, 5, 6, 7, 8, 9, 10, 11, 12, 13, 14, 15];
     for _change in 0..MOST_CHANGES {
-        match tables.best_change(alloc, problem.inputs())? {
-            Some(change) if change.strips < fewest => {
-                fewest = change.strips;
-                tables.make(change);
-            }
-            _ => break,
-        }
+        let Some(change) = best_change(alloc, &words, problem.inputs(), fewest)? else {
+            break;
+        };
+        fewest = change.strips;
+        exchange(&mut words, change.low, change.high);
+        variables.swap(change.low as usize, change.high as usize);
     }
-    if fewest <= first - first / 4 {
-        Ok(Some(tables.lowest()))
-    } else {
-        Ok(None)
+    if fewest > first - first / 4 {
+        return Ok(None);
     }
+    let lowest = variables[..8].iter().fold(0, |set, x| set | 1 << (*x % 16));
+    Ok(Some(lowest))
 }
 
 /// A renaming of the variables by which the truth tables of `problem` have fewer distinct strips,
@@ -268,11 +178,10 @@ pub fn renaming_of<'a>(alloc: Global, problem: &'a Problem) -> Result<Renaming<'
     ensures { IfOk result (λ r. r.problem ≡ problem.now) }
 {
     prove!(problem.inputs() <= 16);
-    if problem.inputs() <= 8 {
-        return Ok(Renaming::none(problem));
+    if problem.inputs() > 8
+        && let Some(set) = lowest_of(alloc, problem)?
+    {
+        return Renaming::to_lowest(alloc, problem, set);
     }
-    match lowest_of(alloc, problem)? {
-        Some(set) => Renaming::to_lowest(alloc, problem, set),
-        None => Ok(Renaming::none(problem)),
-    }
+    Ok(Renaming::none(problem))
 }
