@@ -3,8 +3,9 @@
 --     latest, latest_of      the last table that was made, or the one to begin with
 --     one_set_more      one more of them
 --     can_take, with_larger      a larger member can come into all of them; with those that have it they are the first sets
+--     one_more_known      the tables of one more variable are known with those that have it
 --     larger_set, lacks_larger      the mask of a set with a larger member, which it lacked
-use Rattle.std.proofs.Common.{◌≡◌, ℕ, zero, suc, ◌+◌, ◌*◌, ◌^◌, ◌<◌, List, Option, None, Some, [], ◌∷◌, ◌++◌, map, length, get_or, false, sym, ap, ◌∙◌, arith, bit_or, zero-mul}
+use Rattle.std.proofs.Common.{◌≡◌, ℕ, zero, suc, ◌+◌, ◌*◌, ◌^◌, ◌<◌, List, Option, None, Some, [], ◌∷◌, ◌++◌, map, length, get_or, false, sym, ap, ◌∙◌, subst, arith, bit_or, zero-mul, add-one}
 use Rattle.std.specs.List.{All, range_with_len}
 use Rattle.std.specs.Borrow.{Bor}
 use Rattle.std.specs.Option.{option_copied, unwrap_or}
@@ -17,7 +18,7 @@ use Rattle.definitions.specs.Orders.{has, members}
 use Rattle.definitions.specs.Problems.{TruthTables}
 use Rattle.subfunction_classes.specs.Table.{ClassesOf, classes_of, with_variable}
 use Rattle.subfunction_classes.proofs.LowSets.{low_new}
-use Rattle.compaction.specs.Strips.{AreOfFirstSets, CanTakeLow, low_variables}
+use Rattle.compaction.specs.Strips.{AreKnownTables, AreOfFirstSets, CanTakeLow, low_variables}
 
 -- the table at a place
 pub first_set : (p : TruthTables) (tables : List ClassesOf) (i : ℕ) (d : ClassesOf) → AreOfFirstSets p tables → i < length tables →
@@ -88,3 +89,17 @@ module _ (p : TruthTables) (tables : List ClassesOf) (x : ℕ) (first : AreOfFir
           ∙ (same i (omega arith)
           ∙ sym (get_or-map-range_with_len (classes_of p) (0 + length tables) (length tables) i (length tables + i)
           (with_variable (classes_of p 0) x) (omega arith) (omega arith))))
+
+-- the tables of one more variable
+pub one_more_known : (p : TruthTables) (tables larger : List ClassesOf) (x : ℕ) → AreKnownTables p tables x → x < low_variables p →
+    larger ≡ tables ++ map (λ t. with_variable t x) tables → AreKnownTables p larger (x + 1)
+one_more_known p tables larger x known low is =
+    let n = known.many in
+    let long = ap length is ∙ (length-append tables (map (λ t. with_variable t x) tables)
+    ∙ ap (λ k. length tables + k) (length-map tables (λ t. with_variable t x))) in
+    let next = ap (λ k. 2 ^ k) (add-one x) in
+    record {
+      low = omega arith;
+      many = omega arith;
+      first = subst (AreOfFirstSets p) (sym is) (with_larger p tables x known.first known.many);
+    }

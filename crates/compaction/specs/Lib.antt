@@ -1,6 +1,5 @@
 pub mod Ahead
 pub mod HighBytes
-pub mod Joining
 pub mod Requests
 pub mod Rows
 pub mod Strips

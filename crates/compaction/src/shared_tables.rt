@@ -3,8 +3,7 @@
 ghost use Rattle.std.specs.Prelude.{◌≡◌, ◌%◌, ◌^◌, ◌≤◌, map, IfOk};
 ghost use Rattle.std.specs.List.{All};
 ghost use Rattle.subfunction_classes.specs.Table.{classes_of, with_variable};
-ghost use Rattle.compaction.specs.Strips.{AreKnownTables, CanTakeLow, low_variables as low_of};
-ghost use Rattle.compaction.specs.Joining.{AreJoined};
+ghost use Rattle.compaction.specs.Strips.{CanTakeLow, low_variables as low_of};
 
 use crate::strips::{Strips, low_variables};
 use order_model::{Mask, Problem, VarIx, Workers};
@@ -45,13 +44,14 @@ impl<'a> Model for SharedTables<'a> {
     ghost invariant = { λ b. AreKnownTables b.problem.now b.tables.items b.known };
 }
 
-/// Class tables, or an error if memory was refused.
-type Made<'a> = Result<Vec<Strips<'a>>, AllocError>;
-
 /// For each of `tables`, in their order, the class table of its set with the low variable `x`
 /// added. The only error is that memory is refused. Requires `x` to be a variable of the tables'
 /// problems, and in none of the sets.
-fn with_low<'a>(alloc: Global, tables: &[Strips<'a>], x: VarIx) -> Made<'a>
+fn with_low<'a>(
+    alloc: Global,
+    tables: &[Strips<'a>],
+    x: VarIx,
+) -> Result<Vec<Strips<'a>>, AllocError>
     requires { All (CanTakeLow x) tables.now }
     ensures { IfOk result (λ v. v.items ≡ map (λ t. with_variable t x) tables.now) }
 {
@@ -61,23 +61,6 @@ fn with_low<'a>(alloc: Global, tables: &[Strips<'a>], x: VarIx) -> Made<'a>
         larger.push(table.add_low(&mut memory, x)?)?;
     }
     Ok(larger)
-}
-
-/// Joins the lists of tables that threads made: the tables of `parts[0]`, then those of `parts[1]`,
-/// and so on. Err if some entry of `parts` is, or if memory is refused.
-fn concatenate<'a>(
-    alloc: Global,
-    parts: Vec<Result<Vec<Strips<'a>>, AllocError>>,
-) -> Result<Vec<Strips<'a>>, AllocError>
-    ensures { IfOk result (λ v. AreJoined parts.entry.items v.items) }
-{
-    let mut parts = parts;
-    let mut all = Vec::new(alloc);
-    while !parts.is_empty() {
-        let mut part = parts.remove(0)?;
-        all.append(&mut part)?;
-    }
-    Ok(all)
 }
 
 /// For each of `tables`, in their order, the class table of its set with the low variable `x`
@@ -104,102 +87,12 @@ fn with_low_by_threads<'a, R: Threads + Sync>(
             ensures { IfOk result (λ v. v.items ≡ map (λ t. with_variable t x) part.entry.now) }
         { with_low(alloc, part, x) },
     )?;
-    concatenate(alloc, parts)
-}
-
-/// Who makes the class tables of larger sets: the calling thread, or worker threads.
-trait TableMaker {
-    // What the maker requires.
-    ghost ready: { Self → Type 0 };
-
-    /// For each of `tables`, in their order, the class table of its set with the low variable `x`
-    /// added. The only error is that memory is refused. Requires `x` to be a variable of the
-    /// tables' problems, and in none of the sets.
-    fn with_low<'a>(&self, alloc: Global, tables: &[Strips<'a>], x: VarIx) -> Made<'a>
-        requires ready { ready self.now }
-        requires low { All (CanTakeLow x) tables.now }
-        ensures { IfOk result (λ v. v.items ≡ map (λ t. with_variable t x) tables.now) };
-}
-
-/// The maker that is the calling thread alone.
-#[derive(Drop)]
-struct CallingThread;
-
-/// The maker that shares the tables among the threads of `workers` workers.
-#[derive(Drop)]
-struct WorkerThreads<'r, R> {
-    rt: &'r R,
-    workers: Workers,
-}
-
-impl TableMaker for CallingThread {
-    ghost ready = { λ _. Unit {0} };
-
-    /// For each of `tables`, in their order, the class table of its set with the low variable `x`
-    /// added, made by the calling thread. The only error is that memory is refused. Requires `x` to
-    /// be a variable of the tables' problems, and in none of the sets.
-    fn with_low<'a>(&self, alloc: Global, tables: &[Strips<'a>], x: VarIx) -> Made<'a> {
-        with_low(alloc, tables, x)
+    let mut larger = Vec::with_capacity(alloc, tables.len())?;
+    for part in parts {
+        let mut part = part?;
+        larger.append(&mut part)?;
     }
-}
-
-impl<'r, R: Threads + Sync> TableMaker for WorkerThreads<'r, R> {
-    ghost use Rattle.std.specs.Thread.{IsSync};
-
-    ghost ready = { λ _. IsSync R.row };
-
-    /// For each of `tables`, in their order, the class table of its set with the low variable `x`
-    /// added, made by the threads of the workers. The only error is that memory is refused.
-    /// Requires `x` to be a variable of the tables' problems, and in none of the sets.
-    fn with_low<'a>(&self, alloc: Global, tables: &[Strips<'a>], x: VarIx) -> Made<'a> {
-        with_low_by_threads(self.rt, alloc, tables, x, self.workers)
-    }
-}
-
-/// The class tables of all sets of the lowest `known` variables, by rising mask, made by `maker`.
-/// `empty` is the class table of the empty set. Requires `known` to be at most the number of low
-/// variables.
-fn tables_of_low_sets<'a, M: TableMaker>(
-    maker: &M,
-    alloc: Global,
-    empty: Strips<'a>,
-    known: u8,
-) -> Result<Vec<Strips<'a>>, AllocError>
-    requires ready { M.ready maker.now }
-    requires empty { empty ≡ classes_of empty.problem 0 }
-    requires known { known ≤ low_of empty.problem }
-    ensures { IfOk result (λ v. AreKnownTables empty.entry.problem v.items known) }
-{
-    let mut tables = Vec::new(alloc);
-    tables.push(empty)?;
-    for largest in 0..known {
-        let mut larger = maker.with_low(alloc, &tables, largest)?;
-        tables.append(&mut larger)?;
-    }
-    Ok(tables)
-}
-
-/// The shared tables of `problem`, for several walks. `maker` makes the class tables.
-fn made_by<'a, M: TableMaker>(
-    maker: &M,
-    alloc: Global,
-    problem: &'a Problem,
-) -> Result<SharedTables<'a>, AllocError>
-    requires { M.ready maker.now }
-    ensures { IfOk result (λ b. b ≡ problem.now) }
-{
-    let low = low_variables(problem);
-    let empty = Strips::of_problem(alloc, problem)?;
-    let known = if empty.stored() <= MOST_POINTS {
-        low
-    } else {
-        low.min(FEWEST_KNOWN)
-    };
-    Ok(SharedTables {
-        problem,
-        tables: tables_of_low_sets(maker, alloc, empty, known)?,
-        known,
-    })
+    Ok(larger)
 }
 
 impl<'a> SharedTables<'a> {
@@ -207,7 +100,14 @@ impl<'a> SharedTables<'a> {
     pub(crate) fn of(alloc: Global, problem: &'a Problem) -> Result<SharedTables<'a>, AllocError>
         ensures { IfOk result (λ b. b ≡ problem.now) }
     {
-        made_by(&CallingThread, alloc, problem)
+        let mut shared = SharedTables::bare(alloc, problem)?;
+        let known = shared.most_known();
+        while shared.known < known {
+            let mut larger = with_low(alloc, &shared.tables, shared.known)?;
+            shared.tables.append(&mut larger)?;
+            shared.known += 1;
+        }
+        Ok(shared)
     }
 
     /// A problem's shared tables for several walks, made by the threads of `workers` workers.
@@ -219,7 +119,15 @@ impl<'a> SharedTables<'a> {
     ) -> Result<SharedTables<'a>, AllocError>
         ensures { IfOk result (λ b. b ≡ problem.now) }
     {
-        made_by(&WorkerThreads { rt, workers }, alloc, problem)
+        let mut shared = SharedTables::bare(alloc, problem)?;
+        let known = shared.most_known();
+        while shared.known < known {
+            let x = shared.known;
+            let mut larger = with_low_by_threads(rt, alloc, &shared.tables, x, workers)?;
+            shared.tables.append(&mut larger)?;
+            shared.known += 1;
+        }
+        Ok(shared)
     }
 
     /// A problem's shared tables for a single walk: the class table of the empty set alone.
@@ -233,6 +141,19 @@ impl<'a> SharedTables<'a> {
             tables,
             known: 0,
         })
+    }
+
+    /// For how many of the lowest variables the class tables of all sets are made beforehand if
+    /// several walks share them.
+    fn most_known(&self) -> u8
+        ensures { result ≤ low_of self.now }
+    {
+        let low = low_variables(self.problem);
+        if self.tables[0].stored() <= MOST_POINTS {
+            low
+        } else {
+            low.min(FEWEST_KNOWN)
+        }
     }
 
     /// The problem that the tables are of.
