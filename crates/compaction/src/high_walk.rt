@@ -26,18 +26,6 @@ struct Branch {
 }
 
 impl Branch {
-    /// How many sets of which a width is needed, in this branch of the walk, have the variable `y`.
-    /// 0 if `y` is below 8, or if the branch has decided already whether its sets have `y`.
-    /// Requires `y` < 16.
-    fn count_with(&self, y: VarIx) -> u32
-        requires { y < 16 }
-    {
-        if y < 8 || contains(self.decided, y) {
-            return 0;
-        }
-        self.wanted.with(y % 8).count()
-    }
-
     /// The variable below `inputs` for which this branch of the walk decides next whether its sets
     /// have it; None if all are decided. If at most two are undecided, it is the lowest of these.
     /// Else it is the undecided variable that most of the branch's sets with a needed width have;
@@ -55,22 +43,21 @@ impl Branch {
         let mut next = None;
         let mut most = 0;
         for y in 0..inputs {
-            let count = if few { 0 } else { self.count_with(y) };
-            if !contains(decided, y) && (next.is_none() || count > most) {
+            if contains(decided, y) {
+                continue;
+            }
+            let count = if few {
+                0
+            } else {
+                self.wanted.with(y % 8).count()
+            };
+            if next.is_none() || count > most {
                 next = Some(y);
                 most = count;
             }
         }
         next
     }
-}
-
-/// The set `set` with the variable `y` added. Requires `y` < 16.
-fn with_member(set: Mask, y: VarIx) -> Mask
-    requires { y < 16 }
-    ensures { result ≡ bit_or set (2 ^ y) }
-{
-    set | (1 << y)
 }
 
 /// Writes the row of the set of `table` to `rows[h]`, where h is the set's high byte: at each x in
@@ -124,7 +111,7 @@ fn walk(
         fill_row(memory.alloc, table, request, rows)?;
         return Ok(0);
     };
-    let decided = with_member(branch.decided, y);
+    let decided = branch.decided | (1 << y);
     let without = Branch {
         decided,
         wanted: branch.wanted.without(y % 8),
@@ -170,37 +157,6 @@ fn with_members<'a>(
     Ok(made)
 }
 
-/// If `request.needed[h]` isn't 0, writes to `rows[h]` the needed widths of the set with the high
-/// byte h and the low byte of `request`, and 0 elsewhere. Other rows stay. The walk begins at a
-/// table in `shared`, and first adds the low variables that it lacks. Returns how many class tables
-/// were then made by adding high variables. Requires that `request` has the problem's number of
-/// variables, and that `rows` is as long as `request.needed`. If memory is refused, some rows may
-/// be written. `memory` is working memory.
-fn fill_rows(
-    memory: &mut PairMemory,
-    shared: &SharedTables<'_>,
-    request: &WidthRequest,
-    rows: &mut [WidthRow],
-) -> Result<u32, AllocError>
-    requires inputs { request.now.inputs ≡ shared.now.inputs }
-    requires rows { length rows.old ≡ length request.now.needed.items }
-    ensures rows { OnOk result
-        (AreByteRows shared.now request.now.low request.now.needed.items rows.new) }
-    ensures compactions { IfOk result (λ count. count + 1 ≤ most_walked shared.now) }
-{
-    let low = Mask::from(request.low);
-    let (first, known) = shared.first_table(low);
-    let made = with_members(memory, first, low, known)?;
-    let table = made.as_ref().unwrap_or(&*first);
-    // All sets of this walk have the request's low byte, so every low variable is decided.
-    let branch = Branch {
-        decided: (1 << first.low_variables()) - 1,
-        wanted: HighBytes::wanted(&request.needed),
-    };
-    let count = walk(memory, table, &branch, request, rows)?;
-    Ok(count)
-}
-
 /// The rows of the sets with one low byte, that of `request`: for the set with the high byte h,
 /// `rows[h]` has the widths of those members that the request needs, and 0 elsewhere.
 #[derive(Drop)]
@@ -242,10 +198,18 @@ pub(crate) fn walked_rows(
 {
     prove!(shared.problem().inputs() <= 16);
     let mut rows = vec![in memory.alloc; [0; 16]; request.needed.len()]?;
-    if HighBytes::wanted(&request.needed).is_empty() {
+    let wanted = HighBytes::wanted(&request.needed);
+    if wanted.is_empty() {
         return Ok((ByteRows { request, rows }, 0));
     }
-    let walked = fill_rows(memory, shared, &request, &mut rows)?;
-    let compactions = request.low.count_ones() + walked;
+    let low = Mask::from(request.low);
+    let (first, known) = shared.first_table(low);
+    let made = with_members(memory, first, low, known)?;
+    let table = made.as_ref().unwrap_or(&*first);
+    // All sets of this walk have the request's low byte, so every low variable is decided.
+    let decided = (1 << first.low_variables()) - 1;
+    let branch = Branch { decided, wanted };
+    let walked = walk(memory, table, &branch, &request, &mut rows)?;
+    let compactions = low.count_ones() + walked;
     Ok((ByteRows { request, rows }, compactions))
 }
