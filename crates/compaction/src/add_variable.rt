@@ -1,13 +1,12 @@
 //! Adds one more variable to class tables in strips: strips are paired by it, and the pairs of
 //! their entries are numbered.
 
-ghost use Rattle.std.specs.Prelude.{◌≡◌, ℕ, ◌+◌, ◌*◌, ◌^◌, ◌<◌, ◌≤◌, length, slice_index, IfOk};
-ghost use Rattle.subfunction_classes.specs.PairTables.{AreOwn};
+ghost use Rattle.std.specs.Prelude.{◌<◌, IfOk};
 ghost use Rattle.compaction.specs.Strips.{GrowsStrips};
 
 use order_model::{Mask, VarIx};
 use pair_numbering::{EntryPairs, MaskedPairs, PairKeys, PairMemory, are_in_order, label_pairs};
-use std::alloc::{AllocError, Global};
+use std::alloc::AllocError;
 use std::marker::Model;
 use std::mem;
 
@@ -46,40 +45,6 @@ impl<'a> Model for StripTable<'a> {
     ghost invariant = { λ t. IsStripTable t.outer.now t.rank t.numbers.now t.bits t.masks.now };
 }
 
-/// The `count` numbers 0, 1, 2 and so on. Requires `count` to be at most 2^20.
-fn first_numbers(alloc: Global, count: usize) -> Result<Vec<u32>, AllocError>
-    requires { count ≤ 2 ^ 20 }
-    ensures long { IfOk result (λ v. length v.items ≡ count) }
-    ensures own { IfOk result (λ v. (i : ℕ) → i < count → slice_index v.items i ≡ i) }
-{
-    let mut numbers = Vec::with_capacity(alloc, count)?;
-    for i in 0..count {
-        numbers.push(i as u32)?;
-    }
-    Ok(numbers)
-}
-
-/// Adds the high variable `x` to the set of `table`, a class table in strips with the names 0, 1, 2
-/// and so on in `table.outer`. Returns the strip names of the larger set's class table, which are
-/// again 0, 1, 2 and so on, and its class numbers with their masks. Requires that the set lacks
-/// `x`, that `table.rank` is the number of high variables below `x` outside the set, and that `x`
-/// is below 16. `memory` is working memory.
-fn add_in_order(
-    memory: &mut PairMemory,
-    table: &StripTable<'_>,
-    x: VarIx,
-) -> Result<(Vec<u32>, PairKeys), AllocError>
-    requires variable { x < 16 }
-    requires own { AreOwn table.now.outer }
-    ensures { IfOk result (λ r.
-        GrowsStrips table.now x r.0.items r.1.numbers.items r.1.masks.items) }
-{
-    let pairs = MaskedPairs::of_table(table.numbers, table.bits + table.rank, x, table.masks);
-    let keys = label_pairs(memory, &pairs)?;
-    let outer = first_numbers(memory.alloc, table.outer.len() / 2)?;
-    Ok((outer, keys))
-}
-
 /// Adds the high variable `x` to the set of `table`, a class table in strips. Returns the strip
 /// names of the larger set's class table, and its class numbers with their masks. A new name is the
 /// number, by first occurrence, of a pair of strips that differ in `x` alone. Requires that the set
@@ -95,7 +60,11 @@ pub(crate) fn add_above(
         GrowsStrips table.now x r.0.items r.1.numbers.items r.1.masks.items) }
 {
     if are_in_order(table.outer) {
-        return add_in_order(memory, table, x);
+        // Each strip is named once, so the pairs of strips are all distinct and in order, too.
+        let pairs = MaskedPairs::of_table(table.numbers, table.bits + table.rank, x, table.masks);
+        let keys = label_pairs(memory, &pairs)?;
+        let outer = table.outer[..table.outer.len() / 2].to_vec(memory.alloc)?;
+        return Ok((outer, keys));
     }
     let strips = table.numbers.len() >> table.bits;
     let names = EntryPairs::of_table(table.outer, table.rank);
