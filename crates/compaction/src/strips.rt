@@ -5,7 +5,7 @@ ghost use Rattle.std.specs.Prelude.{◌≡◌, ℕ, ◌^◌, ◌<◌, ◌≤◌,
 ghost use Rattle.std.specs.Int.{bit_at};
 ghost use Rattle.std.specs.List.{filter};
 ghost use Rattle.definitions.specs.Orders.{has};
-ghost use Rattle.subfunction_classes.specs.PairTables.{AllBelow, AreOwn};
+ghost use Rattle.subfunction_classes.specs.PairTables.{AllBelow};
 ghost use Rattle.compaction.specs.Strips.{masks_in_use, low_variables as low_of};
 
 use crate::add_variable::{StripTable, add_above};
@@ -102,34 +102,6 @@ fn used_masks(alloc: Global, numbers: &[u32], masks: &[Mask]) -> Result<Vec<Mask
     Ok(found)
 }
 
-/// Whether all masks are equal to `mask`; true if there are none.
-fn are_all(masks: &[Mask], mask: Mask) -> bool
-    ensures { IsTrue result → (i : ℕ) → i < length masks.now → slice_index masks.now i ≡ mask }
-{
-    for own in masks {
-        if *own != mask {
-            return false;
-        }
-    }
-    true
-}
-
-/// Whether the strip names `outer` are 0, 1, 2 and so on, the class numbers `numbers` are, too, and
-/// `masks` has one mask for each of `numbers`, each equal to `set`. The subfunctions in a class
-/// table of `set` with these parts are then distinct, numbered in order, and depend on the whole
-/// set.
-fn all_distinct(outer: &[u32], numbers: &[u32], masks: &[Mask], set: Mask) -> bool
-    ensures exact { IsTrue result → length masks.now ≡ length numbers.now }
-    ensures outer { IsTrue result → AreOwn outer.now }
-    ensures numbers { IsTrue result → AreOwn numbers.now }
-    ensures full { IsTrue result → (i : ℕ) → i < length masks.now → slice_index masks.now i ≡ set }
-{
-    masks.len() == numbers.len()
-        && are_in_order(outer)
-        && are_in_order(numbers)
-        && are_all(masks, set)
-}
-
 /// The entries of `row` at the variables in `members`, and 0 elsewhere.
 pub(crate) fn members_only(row: WidthRow, members: Mask) -> WidthRow
     ensures { (x : ℕ) → x < 16 →
@@ -163,8 +135,13 @@ impl<'a> Strips<'a> {
             outer.items keys.numbers.items keys.masks.items }
         ensures { result ≡ classes_of problem.now set }
     {
-        if all_distinct(&outer, &keys.numbers, &keys.masks, set) {
-            return Strips::of_count(alloc, problem, set, keys.numbers.len() as u32);
+        let count = keys.numbers.len();
+        if keys.masks.len() == count
+            && are_in_order(&outer)
+            && are_in_order(&keys.numbers)
+            && keys.masks.iter().all(|mask| *mask == set)
+        {
+            return Strips::of_count(alloc, problem, set, count as u32);
         }
         Strips {
             problem,
