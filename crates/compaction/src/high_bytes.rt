@@ -85,10 +85,8 @@ impl HighBytes {
 
     /// How many high bytes there are in `self`.
     pub(crate) fn count(&self) -> u32 {
-        let mut count = 0u32;
-        for word in &self.words {
-            count = count.wrapping_add(word.count_ones());
-        }
-        count
+        self.words
+            .iter()
+            .fold(0, |count, word| count.wrapping_add(word.count_ones()))
     }
 }

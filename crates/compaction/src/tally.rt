@@ -1,6 +1,6 @@
 //! A count of widths that are supplied for cells.
 
-ghost use Rattle.std.specs.Prelude.{◌≡◌, ◌+◌, ◌*◌, ◌^◌, ◌<◌, ◌≤◌, length};
+ghost use Rattle.std.specs.Prelude.{◌≡◌, ◌+◌, ◌^◌, ◌<◌, ◌≤◌, length};
 ghost use Rattle.compaction.specs.Rows.{wanted_count};
 
 use order_model::Mask;
@@ -18,20 +18,6 @@ impl Model for Tally {
     ghost Value = { ℕ };
 
     ghost view = { λ t. t.count };
-}
-
-/// How many widths are needed. `needed` has for each set the mask of the members whose widths are
-/// needed; there may be at most 2^20 sets.
-pub(crate) fn count_wanted(needed: &[Mask]) -> u64
-    requires { length needed.now ≤ 2 ^ 20 }
-    ensures count { result ≡ wanted_count needed.now }
-    ensures few { result ≤ 16 * length needed.now }
-{
-    let mut count = 0;
-    for wanted in needed {
-        count += u64::from(wanted.count_ones());
-    }
-    count
 }
 
 impl Tally {
@@ -56,7 +42,9 @@ impl Tally {
         requires room { self.old + wanted_count needed.now < 2 ^ 64 }
         ensures { self.new ≡ self.old + wanted_count needed.now }
     {
-        self.add(count_wanted(needed));
+        for wanted in needed {
+            self.count += u64::from(wanted.count_ones());
+        }
     }
 
     /// Adds `more` to the count of widths, which must stay below 2^64.
