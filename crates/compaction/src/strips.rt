@@ -1,7 +1,7 @@
 //! Class tables in strips: entries that differ in the low variables alone stand together in a
 //! strip, and equal strips are stored once.
 
-ghost use Rattle.std.specs.Prelude.{◌≡◌, ℕ, ◌^◌, ◌<◌, ◌≤◌, length, slice_index, get_or, if◌then◌else◌, ◌==◌, false, IfOk, IsFalse, IsTrue};
+ghost use Rattle.std.specs.Prelude.{◌≡◌, ℕ, ◌^◌, ◌<◌, ◌≤◌, length, slice_index, if◌then◌else◌, ◌==◌, IfOk, IsFalse, IsTrue};
 ghost use Rattle.std.specs.Int.{bit_at};
 ghost use Rattle.std.specs.List.{filter};
 ghost use Rattle.definitions.specs.Orders.{has};
@@ -71,28 +71,16 @@ fn row_of(masks: &[Mask], wanted: Mask) -> WidthRow
     row
 }
 
-/// For each number below `count`, whether it occurs in `numbers`. Requires all of `numbers` to be
-/// below `count`.
-fn numbers_in_use(alloc: Global, numbers: &[u32], count: usize) -> Result<Vec<bool>, AllocError>
-    requires below { AllBelow numbers.now count }
-    ensures long { IfOk result (λ v. length v.items ≡ count) }
-    ensures labels { IfOk result
-        (λ v. (k : ℕ) → k < count → get_or v.items k false ≡ has numbers.now k) }
-{
-    let mut used = vec![in alloc; false; count]?;
-    for number in numbers {
-        used[*number as usize] = true;
-    }
-    Ok(used)
-}
-
 /// The masks of the class numbers that occur in `numbers`, by rising number. `masks[k]` is the mask
 /// of class number k; there must be one for each number.
 fn used_masks(alloc: Global, numbers: &[u32], masks: &[Mask]) -> Result<Vec<Mask>, AllocError>
     requires below { AllBelow numbers.now (length masks.now) }
     ensures { IfOk result (λ v. v.items ≡ masks_in_use numbers.now masks.now) }
 {
-    let used = numbers_in_use(alloc, numbers, masks.len())?;
+    let mut used = vec![in alloc; false; masks.len()]?;
+    for number in numbers {
+        used[*number as usize] = true;
+    }
     let mut found = Vec::new(alloc);
     for (k, occurs) in used.iter().enumerate() {
         if *occurs {
