@@ -89,31 +89,18 @@ fn numbers_of(alloc: Global, strips: &[[u64; 4]], first: bool) -> Result<Vec<u32
     Ok(numbers)
 }
 
-/// The class numbers of a problem's values, for problems of fewer than eight variables: the strip
-/// of each function is its whole truth table, and is stored even if it is equal to another one. The
-/// value of function 0 at point 0 has the class number 0, and the other value has 1.
-fn whole_strips(alloc: Global, problem: &Problem) -> Result<ValueStrips, AllocError>
-    ensures { IfOk result (λ v. HoldsValues problem.now v.outer.items v.numbers.items
-        (2 ^ problem.now.inputs)) }
-{
-    let numbers = value_numbers(alloc, problem)?;
-    let mut outer = Vec::with_capacity(alloc, usize::from(problem.outputs()))?;
-    for output in 0..problem.outputs() {
-        outer.push(u32::from(output))?;
-    }
-    Ok(ValueStrips { outer, numbers })
-}
-
 /// The class numbers of a problem's values, in strips of the points that differ in the lowest eight
 /// variables alone; equal strips are stored once. The value of function 0 at point 0 has the class
 /// number 0, and the other value has 1. With fewer than eight variables there is a strip for each
-/// function instead, which is its whole truth table.
+/// function instead, which is its whole truth table, and is stored even if it is equal to another.
 pub(crate) fn value_strips(alloc: Global, problem: &Problem) -> Result<ValueStrips, AllocError>
     ensures { IfOk result (λ v. HoldsValues problem.now v.outer.items v.numbers.items
         (2 ^ min problem.now.inputs 8)) }
 {
     if problem.inputs() < 8 {
-        return whole_strips(alloc, problem);
+        let numbers = value_numbers(alloc, problem)?;
+        let outer = (0..u32::from(problem.outputs())).collect(alloc)?;
+        return Ok(ValueStrips { outer, numbers });
     }
     let NamedStrips { outer, strips } = name_strips(alloc, problem)?;
     let numbers = numbers_of(alloc, strips.as_slice(), problem.value(0, 0))?;
