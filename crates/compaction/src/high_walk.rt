@@ -10,7 +10,7 @@ ghost use Rattle.compaction.specs.Walks.{AreWanted, FillsOwn, FillsRows, HasDeci
 use crate::high_bytes::HighBytes;
 use crate::request::WidthRequest;
 use crate::shared_tables::SharedTables;
-use crate::strips::Strips;
+use crate::strips::{Strips, low_variables};
 use order_model::{Mask, VarIx, WidthRow, contains};
 use pair_numbering::PairMemory;
 use std::alloc::{AllocError, Global};
@@ -147,7 +147,7 @@ fn with_members<'a>(
         (λ made. IsNone made → first.now ≡ classes_of first.now.problem low) }
 {
     let mut made: Option<Strips<'a>> = None;
-    for y in from..first.low_variables() {
+    for y in from..8 {
         if contains(low, y) {
             let table = made.as_ref().unwrap_or(&*first);
             let more = table.add_low(memory, y)?;
@@ -207,7 +207,7 @@ pub(crate) fn walked_rows(
     let made = with_members(memory, first, low, known)?;
     let table = made.as_ref().unwrap_or(&*first);
     // All sets of this walk have the request's low byte, so every low variable is decided.
-    let decided = (1 << first.low_variables()) - 1;
+    let decided = (1 << low_variables(shared.problem())) - 1;
     let branch = Branch { decided, wanted };
     let walked = walk(memory, table, &branch, &request, &mut rows)?;
     let compactions = low.count_ones() + walked;

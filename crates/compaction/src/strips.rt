@@ -177,13 +177,6 @@ impl<'a> Strips<'a> {
         Ok(Strips::of_parts(alloc, problem, 0, outer, keys))
     }
 
-    /// How many variables of the problem are low.
-    pub(crate) fn low_variables(&self) -> u8
-        ensures { result ≡ low_variables self.now.problem }
-    {
-        low_variables(self.problem)
-    }
-
     /// How many class numbers are stored in the strips; 0 if only a count of subfunctions is kept.
     pub(crate) fn stored(&self) -> usize {
         self.keys.numbers.len()

@@ -12,10 +12,8 @@ use Rattle.compaction.proofs.DecidedVariables.{within_ones, free_ones}
 use Rattle.compaction.proofs.high_walk.walked_rows.Goals as goal
 
 -- the mask of the low variables
-low_mask : (p : TruthTables) (first : ClassesOf) (set k : ℕ) → first ≡ classes_of p set → k ≡ low_variables first.problem →
-    1 * 2 ^ k % 65536 - 1 ≡ 2 ^ low_variables p - 1
-low_mask p first set k is e =
-    ap (λ m. m - 1) (one_shl k 16 (omega (arith, e))) ∙ ap (λ j. 2 ^ j - 1) (e ∙ ap (λ (t : ClassesOf). low_variables t.problem) is)
+low_mask : (p : TruthTables) (k : ℕ) → k ≡ low_variables p → 1 * 2 ^ k % 65536 - 1 ≡ 2 ^ low_variables p - 1
+low_mask p k e = ap (λ m. m - 1) (one_shl k 16 (omega (arith, e))) ∙ ap (λ j. 2 ^ j - 1) e
 
 pub returns-then-is_empty-clause-rows : goal.returns-then-is_empty-clause-rows
 returns-then-is_empty-clause-rows c =
@@ -44,7 +42,7 @@ walk-requires-clause-decided c =
     let byte = c.args.request.request.byte in
     let i = c.requires in
     let t : c.unwrap_or-table.result.now ≡ classes_of c.args.shared.now c.args.request.low = grind (arith, common_steps) in
-    let d = low_mask c.args.shared.now c.first_table-known.result.0.now _ c.low_variables.result c.first_table-known.ensures.table c.low_variables.ensures in
+    let d = low_mask c.args.shared.now c.low_variables.result (c.low_variables.ensures ∙ ap low_variables c.problem-2.ensures) in
     grind (arith, bit_at_ones, bit_and, within_ones)
 
 pub overflow_add-compactions : goal.overflow_add-compactions
@@ -54,7 +52,7 @@ overflow_add-compactions c =
     let few = c.args.request.few in
     let i = c.requires in
     let own = c.from-low.ensures in
-    let d = low_mask p c.first_table-known.result.0.now _ c.low_variables.result c.first_table-known.ensures.table c.low_variables.ensures in
+    let d = low_mask p c.low_variables.result (c.low_variables.ensures ∙ ap low_variables c.problem-2.ensures) in
     let t : c.unwrap_or-table.result.now ≡ classes_of p c.args.request.low = grind (arith, common_steps) in
     let tables = few_tables p.inputs c.from-low.result c.in_ok-walked.walked (omega (arith, few, i)) (omega (arith, byte, own))
     (few_walked p c.unwrap_or-table.result.now c.args.request.low _ c.in_ok-walked.walked t d c.in_ok-walked.ensures.compactions) in
@@ -65,7 +63,7 @@ returns-clause-rows c =
     let w = c.args.request in
     let p = c.args.shared.now in
     let k = low_variables p in
-    let d = low_mask p c.first_table-known.result.0.now _ c.low_variables.result c.first_table-known.ensures.table c.low_variables.ensures in
+    let d = low_mask p c.low_variables.result (c.low_variables.ensures ∙ ap low_variables c.problem-2.ensures) in
     let t : c.unwrap_or-table.result.now ≡ classes_of p w.low = grind (arith, common_steps) in
     let length_of = c.in_ok-rows.ensures.len in
     let count = c.len.ensures in
@@ -90,7 +88,7 @@ returns-clause-compactions c =
     let few = c.args.request.few in
     let i = c.requires in
     let own = c.from-low.ensures in
-    let d = low_mask p c.first_table-known.result.0.now _ c.low_variables.result c.first_table-known.ensures.table c.low_variables.ensures in
+    let d = low_mask p c.low_variables.result (c.low_variables.ensures ∙ ap low_variables c.problem-2.ensures) in
     let t : c.unwrap_or-table.result.now ≡ classes_of p c.args.request.low = grind (arith, common_steps) in
     few_tables p.inputs c.from-low.result c.in_ok-walked.walked (omega (arith, few, i)) (omega (arith, byte, own))
     (few_walked p c.unwrap_or-table.result.now c.args.request.low _ c.in_ok-walked.walked t d c.in_ok-walked.ensures.compactions)

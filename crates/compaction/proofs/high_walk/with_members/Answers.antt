@@ -1,6 +1,7 @@
-use Rattle.std.proofs.Common.{◌≡◌, ◌%◌, ◌^◌, ◌<◌, Option, None, Some, IfSome, IsNone, sym, ap, ◌∙◌, subst, arith}
-use Rattle.std.proofs.lemmas.Bool.{iff_false, true≢false}
-use Rattle.std.proofs.lemmas.Nat.Bits.{shr_and_one}
+use Rattle.std.proofs.Common.{◌≡◌, ℕ, ◌%◌, ◌^◌, ◌<◌, ◌≤◌, inl, inr, pow_mono, Option, None, Some, IfSome, IsNone, sym, ap, ◌∙◌, subst, arith}
+use Rattle.std.specs.Int.{bit_at}
+use Rattle.std.proofs.lemmas.Bool.{cases_lt, iff_false, true≢false}
+use Rattle.std.proofs.lemmas.Nat.Bits.{bit_at_above, shr_and_one}
 use Rattle.std.proofs.Math.Nat.{mod-eq_of_lt}
 use Rattle.definitions.specs.Orders.{has}
 use Rattle.subfunction_classes.specs.Table.{ClassesOf, classes_of, set_of, with_variable}
@@ -13,6 +14,13 @@ use Rattle.compaction.proofs.high_walk.with_members.Goals.{then-contains+in_ok-m
 pub loop-y-init : goal.loop-y-init
 loop-y-init c = c.requires.first
 
+-- a member of a set of low variables is low
+member_low : (set x k : ℕ) → set < 2 ^ k → bit_at set x ≡ 1 → x < k
+member_low set x k small one = elim (cases_lt x k) [
+  | inl low ↦ low
+  | inr high ↦ absurd (let z = bit_at_above set k x small high in omega arith)
+]
+
 -- the table that x is added to
 table_is : (c : goal.After-add_low-arg-1) → c.unwrap_or-table.result.now ≡ classes_of c.args.first.now.problem (c.args.low % 2 ^ c.loop-y.y)
 table_is c = latest_of c.loop-y.made c.as_ref.result _ c.unwrap_or-table.result c.as_ref.ensures.value c.unwrap_or-table.ensures ∙ c.loop-y.invariant
@@ -20,7 +28,8 @@ table_is c = latest_of c.loop-y.made c.as_ref.result _ c.unwrap_or-table.result 
 pub add_low-requires-clause-low : goal.add_low-requires-clause-low
 add_low-requires-clause-low c =
     subst (λ (t : ClassesOf). c.loop-y.y < low_variables t.problem) (sym (table_is c))
-    (let e = c.low_variables-y-end.ensures in let t = c.loop-y-test.true in omega arith)
+    (member_low c.args.low c.loop-y.y (low_variables c.args.first.now.problem) c.requires.low
+    (c.contains.ensures.0 c.if-contains.true))
 
 pub add_low-requires-clause-new : goal.add_low-requires-clause-new
 add_low-requires-clause-new c = ap (λ (t : ClassesOf). has (set_of t) c.loop-y.y) (table_is c)
@@ -43,11 +52,9 @@ loop-y-preserved c =
 -- all members were added
 all_added : (c : goal.After-loop-y) → latest c.loop-y.made c.args.first.now ≡ classes_of c.args.first.now.problem c.args.low
 all_added c =
-    let e = c.low_variables-y-end.ensures in
-    let last : c.loop-y.y ≡ low_variables c.args.first.now.problem =
-    (let t = c.loop-y-test.false in let u = c.loop-y.auto in let r = c.requires.from in omega arith) in
-    c.loop-y.invariant
-    ∙ ap (classes_of c.args.first.now.problem) (ap (λ k. c.args.low % 2 ^ k) last ∙ mod-eq_of_lt c.requires.low)
+    let p = c.args.first.now.problem in
+    let most : 2 ^ low_variables p ≤ 2 ^ c.loop-y.y = (let t = c.loop-y-test.false in pow_mono {j = c.loop-y.y} (omega arith)) in
+    c.loop-y.invariant ∙ ap (classes_of p) (mod-eq_of_lt (let l = c.requires.low in omega arith))
 
 made_is : (made : Option ClassesOf) (first t : ClassesOf) → latest made first ≡ t → IfSome made (λ m. m ≡ t)
 made_is None first t e = tt
