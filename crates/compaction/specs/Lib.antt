@@ -1,4 +1,3 @@
-pub mod Ahead
 pub mod HighBytes
 pub mod Requests
 pub mod Rows

@@ -3,7 +3,7 @@
 #![tactic(auto)]
 
 mod add_variable;
-mod ahead;
+mod block_rows;
 mod blocks;
 mod found_rows;
 mod high_bytes;
@@ -14,7 +14,6 @@ mod preparation;
 mod request;
 mod requests;
 mod shared_tables;
-mod source;
 mod strips;
 mod tally;
 mod values;
@@ -23,5 +22,4 @@ pub use blocks::{BlockWidths, block_widths};
 pub use low_choice::renaming_of;
 pub use preparation::Preparation;
 pub use requests::Requests;
-pub use source::WidthSource;
 pub use tally::Tally;

@@ -2,21 +2,34 @@
 //! on the bound. Pairs decide only of which sets rows are found; the rows themselves depend on the
 //! functions alone.
 
-ghost use Rattle.std.specs.Prelude.{◌≡◌, ◌<◌, ◌^◌, IfOk};
+ghost use Rattle.std.specs.Prelude.{◌≡◌, ◌<◌, ◌%◌, ◌^◌, [], All, IfOk, IfSome};
 ghost use Rattle.symmetries.specs.Orbits.{TakesWidths};
 ghost use Rattle.symmetries.specs.Renamings.{renamed_of};
-ghost use Rattle.compaction.specs.Ahead.{none_ahead};
+ghost use Rattle.compaction.specs.Rows.{HoldsRows};
 
-use crate::ahead::WidthsAhead;
+use crate::high_walk::ByteRows;
 use crate::request::Wanted;
 use crate::requests::Requests;
 use crate::shared_tables::SharedTables;
-use crate::source::WidthSource;
 use order_model::{Mask, Pairs, Problem, Workers};
 use std::alloc::{AllocError, Global};
 use std::marker::Model;
+use std::sync::atomic::AtomicU64;
 use std::thread::Threads;
 use symmetries::{Image, Orbits, Renaming};
+
+/// For each low byte b, at index b: the place of the last entry with this low byte in a list of
+/// rows; None if there is none.
+type Places = [Option<usize>; 256];
+
+/// The places of low bytes in `found`.
+fn places_of(found: &[ByteRows]) -> Places {
+    let mut places = [None; 256];
+    for (place, byte) in found.iter().enumerate() {
+        places[usize::from(byte.request.low)] = Some(place);
+    }
+    places
+}
 
 /// What serves all layers of a search: the renamed problem, its class tables that walks share, the
 /// orbits of its sets, and the rows of widths that were found so far.
@@ -31,8 +44,13 @@ pub struct Preparation<'a> {
     /// The pairs that orders are likely to keep, of the renamed variables: they say which sets are
     /// lawful.
     pairs: Pairs,
-    /// The rows of widths that were found so far, of sets of the renamed problem.
-    found: WidthsAhead<'a>,
+    /// The rows of widths that were found so far, of sets of the renamed problem, one low byte
+    /// after another. If two entries have the same low byte, the last one counts.
+    found: Vec<ByteRows>,
+    /// The places of low bytes in `found`.
+    places: Places,
+    /// The size of the largest sets of which rows were to be found; 0 if none were.
+    end: u8,
 }
 
 impl<'a> Model for Preparation<'a> {
@@ -43,10 +61,11 @@ impl<'a> Model for Preparation<'a> {
     ghost view = { λ p. record {
       problem = p.renaming.now.problem;
       renamed = p.renaming.now.renamed;
-      found = p.found;
+      found = p.found.items;
+      end = p.end;
     } };
 
-    ghost invariant = { λ p. IsPrepared p.renaming.now p.shared p.orbits p.found };
+    ghost invariant = { λ p. IsPrepared p.renaming.now p.shared p.orbits p.found.items };
 }
 
 impl<'a> Preparation<'a> {
@@ -61,7 +80,8 @@ impl<'a> Preparation<'a> {
     ) -> Result<Preparation<'a>, AllocError>
         requires { shared ≡ renamed_of renaming.now.problem renaming.now.renamed }
         ensures problem { IfOk result (λ p. p.problem ≡ renaming.now.problem) }
-        ensures none { IfOk result (λ p. p.found ≡ none_ahead (renamed_of p.problem p.renamed) 0) }
+        ensures none { IfOk result (λ p. p.found ≡ []) }
+        ensures end { IfOk result (λ p. p.end ≡ 0) }
     {
         let pairs = renaming.pairs(alloc, pairs)?;
         let orbits = Orbits::of(alloc, renaming.renamed(), &pairs)?;
@@ -70,7 +90,9 @@ impl<'a> Preparation<'a> {
             shared,
             orbits,
             pairs,
-            found: WidthsAhead::up_to(alloc, renaming.renamed(), 0),
+            found: Vec::new(alloc),
+            places: [None; 256],
+            end: 0,
         })
     }
 
@@ -83,7 +105,8 @@ impl<'a> Preparation<'a> {
         pairs: &Pairs,
     ) -> Result<Preparation<'a>, AllocError>
         ensures problem { IfOk result (λ p. p.problem ≡ renaming.now.problem) }
-        ensures none { IfOk result (λ p. p.found ≡ none_ahead (renamed_of p.problem p.renamed) 0) }
+        ensures none { IfOk result (λ p. p.found ≡ []) }
+        ensures end { IfOk result (λ p. p.end ≡ 0) }
     {
         let shared = SharedTables::of(alloc, renaming.renamed())?;
         Preparation::with_tables(alloc, renaming, shared, pairs)
@@ -106,9 +129,11 @@ impl<'a> Preparation<'a> {
     {
         let shared = SharedTables::by_threads(rt, alloc, renaming.renamed(), workers)?;
         let mut prepared = Preparation::with_tables(alloc, renaming, shared, pairs)?;
-        let mut requests = prepared.requests(alloc)?;
-        requests.add_sets(&prepared.wanted(1, end), true);
-        prepared.find(rt, alloc, &requests, end, workers)?;
+        if end > 0 {
+            let mut requests = prepared.requests(alloc)?;
+            requests.add_sets(&prepared.wanted(1, end), true);
+            prepared.find(rt, alloc, &requests, end, workers)?;
+        }
         Ok(prepared)
     }
 
@@ -121,17 +146,23 @@ impl<'a> Preparation<'a> {
 
     /// The size of the largest sets of which rows were to be found so far; 0 if none were.
     pub fn end(&self) -> u8
-        ensures { result ≡ self.now.found.end }
+        ensures { result ≡ self.now.end }
     {
-        self.found.end()
+        self.end
     }
 
-    /// The rows of widths that were found so far, of sets of the renamed problem.
-    pub(crate) fn found(&self) -> &WidthsAhead<'a>
-        ensures value { result.now ≡ self.now.found }
-        ensures renamed { result.now.problem ≡ renamed_of self.now.problem self.now.renamed }
+    /// The last rows that were found of sets with the low byte of `set`, a set of the renamed
+    /// problem; None if there are none.
+    pub(crate) fn rows_at(&self, set: Mask) -> Option<&ByteRows>
+        ensures rows { IfSome result
+            (λ b. HoldsRows (renamed_of self.now.problem self.now.renamed) b.now) }
+        ensures low { IfSome result (λ b. b.now.low ≡ set % 256) }
     {
-        &self.found
+        let low = (set % 256) as u8;
+        match self.found.get(self.places[usize::from(low)]?) {
+            Some(byte) if byte.request.low == low => Some(byte),
+            _ => None,
+        }
     }
 
     /// The image of `set`, a set of the problem before the renaming: the renaming takes it to a set
@@ -175,19 +206,23 @@ impl<'a> Preparation<'a> {
         requests.add_sets(&self.wanted(first, last), false);
     }
 
-    /// Takes over the rows in `found`, which must be of the renamed problem. If `found.end()`
-    /// exceeds `self.end()`, they replace the rows that the preparation has, and `self.end()`
-    /// becomes `found.end()`; else they are appended, and `self.end()` stays. If memory is refused
-    /// nothing changes.
-    fn take(&mut self, found: WidthsAhead<'a>) -> Result<(), AllocError>
-        requires { found.problem ≡ renamed_of self.old.problem self.old.renamed }
+    /// Takes over the rows in `found`, which must be of the renamed problem and were to be of sets
+    /// of up to `end` variables. If `end` exceeds `self.end()`, they replace the rows that the
+    /// preparation has, and `self.end()` becomes `end`; else they are appended, and `self.end()`
+    /// stays. If memory is refused nothing changes.
+    fn take(&mut self, found: Vec<ByteRows>, end: u8) -> Result<(), AllocError>
+        requires { All (HoldsRows (renamed_of self.old.problem self.old.renamed)) found.items }
         ensures { self.new.problem ≡ self.old.problem }
     {
-        if found.end() > self.found.end() {
+        let mut found = found;
+        if end > self.end {
             self.found = found;
-            return Ok(());
+            self.end = end;
+        } else {
+            self.found.append(&mut found)?;
         }
-        self.found.append(found)
+        self.places = places_of(&self.found);
+        Ok(())
     }
 
     /// Finds all rows of widths in `requests`, by the calling thread. `end`, the size up to which
@@ -204,15 +239,16 @@ impl<'a> Preparation<'a> {
     ) -> Result<(), AllocError>
         ensures { self.new.problem ≡ self.old.problem }
     {
-        let found = self.shared.rows_alone(alloc, requests, end)?;
-        self.take(found)
+        let taken = AtomicU64::new(0);
+        let found = self.shared.rows_by_turns(alloc, requests, &taken)?;
+        self.take(found, end)
     }
 
-    /// Finds all rows of widths in `requests`, by the threads of `workers` workers; nothing changes
-    /// if `end` is 0. `end`, the size up to which rows are to be found, limits nothing else: rows
-    /// of larger sets are found, too. If `end` exceeds `self.end()`, the new rows replace those of
-    /// the preparation, and `self.end()` becomes `end`; else they are appended, and `self.end()`
-    /// stays. A request for another number of variables than the problem's is skipped. If memory is
+    /// Finds all rows of widths in `requests`, by the threads of `workers` workers. `end`, the size
+    /// up to which rows are to be found, limits nothing: rows of larger sets are found, too, if they
+    /// are in `requests`. If `end` exceeds `self.end()`, the new rows replace those of the
+    /// preparation, and `self.end()` becomes `end`; else they are appended, and `self.end()` stays.
+    /// A request for another number of variables than the problem's is skipped. If memory is
     /// refused nothing changes.
     pub fn find<R: Threads + Sync>(
         &mut self,
@@ -224,16 +260,7 @@ impl<'a> Preparation<'a> {
     ) -> Result<(), AllocError>
         ensures { self.new.problem ≡ self.old.problem }
     {
-        let found = self
-            .shared
-            .rows_by_workers(rt, alloc, requests, end, workers)?;
-        self.take(found)
-    }
-
-    /// The source of the widths of blocks: the rows that were found so far, or else a walk.
-    pub fn source(&self) -> WidthSource<'_>
-        ensures { result ≡ self.now.problem }
-    {
-        WidthSource::new(self)
+        let found = self.shared.rows_by_workers(rt, alloc, requests, workers)?;
+        self.take(found, end)
     }
 }

@@ -70,9 +70,8 @@ fn first_sets_alone_have_rows(rt: HostRuntime) {
     let renaming = Renaming::none(&problem);
     let found = Preparation::by_workers(&rt, rt.alloc(), &renaming, &pairs, 4, workers);
     let prepared = found.expect(&rt, "memory");
-    let source = prepared.source();
     for set in 1..16u16 {
         let is_first = FIRST_SETS[usize::from(set)] == set;
-        assert!(rt; source.is_found(set) == is_first);
+        assert!(rt; prepared.is_found(set) == is_first);
     }
 }

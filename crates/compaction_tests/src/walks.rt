@@ -32,13 +32,12 @@ fn row_found(rt: &impl Abort, alloc: Global, renaming: &Renaming<'_>, block: &Bl
     let image = prepared.image_of(needed);
     let mut requests = prepared.requests(alloc).expect(rt, "memory");
     requests.add_image(&image, needed);
-    assert!(rt; !requests.is_empty() && !prepared.source().is_found(image.set));
+    assert!(rt; !requests.is_empty() && !prepared.is_found(image.set));
     let found = prepared.find_alone(alloc, &requests, 2);
     found.expect(rt, "memory");
-    let source = prepared.source();
-    assert!(rt; source.is_found(image.set));
+    assert!(rt; prepared.is_found(image.set));
     let mut tally = Tally::new();
-    let rows = source
+    let rows = prepared
         .block_rows(alloc, block, &[needed], &mut tally)
         .expect(rt, "memory");
     assert!(rt; rows.len() == 1 && tally.count() == 2);

@@ -60,8 +60,7 @@ pub(crate) fn cells_of_block(
     ensures counts { OnOk result
         (tally.new ≡ tally.old + widths_for context.now.instance (block_masks block.now)) }
 {
-    let source = context.source;
     let needs = needs_of_block(alloc, context.instance, context.before, block)?;
-    let rows = source.block_rows(alloc, block, &needs, tally)?;
+    let rows = context.prepared.block_rows(alloc, block, &needs, tally)?;
     cells_by_rows(alloc, block, context, &rows)
 }

@@ -2,19 +2,19 @@
 
 ghost use Rattle.std.specs.Prelude.{◌≡◌};
 
-use compaction::WidthSource;
+use compaction::Preparation;
 use layer_core::Instance;
 use std::marker::Model;
 use subset_layers::{Costs, Layer};
 
 /// What the workers of a layer read: the problem instance, the layer, the costs `before` of the
-/// layer before (the sets with one variable fewer), and the source of widths.
+/// layer before (the sets with one variable fewer), and the preparation, which gives widths.
 #[derive(Drop)]
 pub struct LayerContext<'a> {
     pub(crate) instance: &'a Instance<'a>,
     pub(crate) layer: &'a Layer,
     pub(crate) before: &'a Costs,
-    pub(crate) source: &'a WidthSource<'a>,
+    pub(crate) prepared: &'a Preparation<'a>,
 }
 
 impl<'a> Model for LayerContext<'a> {
@@ -26,30 +26,30 @@ impl<'a> Model for LayerContext<'a> {
     ghost view = { λ c. context_with c.instance.now c.layer.now c.before.now };
 
     ghost invariant = { λ c. IsContext (context_with c.instance.now c.layer.now c.before.now)
-        × (c.source.now ≡ c.instance.now.problem) };
+        × (c.prepared.now.problem ≡ c.instance.now.problem) };
 }
 
 impl<'a> LayerContext<'a> {
     ghost use Rattle.layer_work.specs.LayerContexts.{context_with, IsContext};
 
     /// What the workers of `layer` read. Requires that `before` has the costs of the sets with one
-    /// variable less than those of `layer`, for `instance`, and that `source` gives widths of the
+    /// variable less than those of `layer`, for `instance`, and that `prepared` is for the
     /// instance's functions.
     pub fn new(
         instance: &'a Instance<'a>,
         layer: &'a Layer,
         before: &'a Costs,
-        source: &'a WidthSource<'a>,
+        prepared: &'a Preparation<'a>,
     ) -> LayerContext<'a>
         requires context { IsContext (context_with instance.now layer.now before.now) }
-        requires source { source.now ≡ instance.now.problem }
+        requires prepared { prepared.now.problem ≡ instance.now.problem }
         ensures { result ≡ context_with instance.now layer.now before.now }
     {
         LayerContext {
             instance,
             layer,
             before,
-            source,
+            prepared,
         }
     }
 
@@ -73,12 +73,5 @@ impl<'a> LayerContext<'a> {
         ensures { result.now ≡ self.now.before }
     {
         self.before
-    }
-
-    /// The source of widths.
-    pub fn source(&self) -> &'a WidthSource<'a>
-        ensures { result.now ≡ self.now.instance.problem }
-    {
-        self.source
     }
 }

@@ -7,7 +7,7 @@ ghost use Rattle.order_solve.specs.LayerSteps.{HasLayers};
 
 use crate::layers::first_layer;
 use crate::look_ahead::look_ahead;
-use compaction::{Preparation, WidthSource, renaming_of};
+use compaction::{Preparation, renaming_of};
 use layer_core::Instance;
 use layer_work::{LayerContext, cells_alone};
 use std::alloc::{AllocError, Global};
@@ -15,20 +15,20 @@ use subset_layers::{Costs, Layer};
 
 /// Computes the layer that comes after those in `done`, with its cells, on the calling thread.
 /// `done[k]` has the costs of the sets of k variables, from k = 0 on; the layer of all variables
-/// must not be there yet. `source` gives widths of the instance's functions.
+/// must not be there yet. `prepared` is for the instance's functions.
 fn next_layer_alone(
     alloc: Global,
     instance: &Instance<'_>,
-    source: &WidthSource<'_>,
+    prepared: &Preparation<'_>,
     done: &[Costs],
 ) -> Result<Costs, AllocError>
-    requires source { source.now ≡ instance.now.problem }
+    requires prepared { prepared.now.problem ≡ instance.now.problem }
     requires done { AreDone instance.now done.now }
     ensures { IfOk result (IsLayerFor instance.now (length done.now)) }
 {
     let layer = Layer::of(alloc, instance.inputs(), done.len() as u8)?;
     let before = &done[done.len() - 1];
-    let context = LayerContext::new(instance, &layer, before, source);
+    let context = LayerContext::new(instance, &layer, before, prepared);
     let cells = cells_alone(alloc, &context)?;
     Ok(Costs::of(layer, cells))
 }
@@ -52,8 +52,7 @@ fn add_layer_alone(
     if let Some(ahead) = look_ahead(alloc, instance, prepared, layers)? {
         prepared.find_alone(alloc, &ahead.requests, ahead.end)?;
     }
-    let source = prepared.source();
-    let next = next_layer_alone(alloc, instance, &source, layers)?;
+    let next = next_layer_alone(alloc, instance, prepared, layers)?;
     layers.push(next)?;
     Ok(())
 }

@@ -6,7 +6,7 @@ ghost use Rattle.order_solve.specs.LayerSteps.{HasLayers};
 
 use crate::crews::cells_of_layer;
 use crate::look_ahead::look_ahead;
-use compaction::{Preparation, WidthSource};
+use compaction::Preparation;
 use layer_core::Instance;
 use layer_work::LayerContext;
 use order_model::{Crew, Gate};
@@ -26,21 +26,21 @@ pub(crate) fn first_layer(alloc: Global, instance: &Instance<'_>) -> Result<Vec<
 
 /// Computes the layer that comes after those in `done`, with its cells, by the workers of `crew`.
 /// `done[k]` has the costs of the sets of k variables, from k = 0 on; the layer of all variables
-/// must not be there yet. `source` gives widths of the instance's functions.
+/// must not be there yet. `prepared` is for the instance's functions.
 fn next_layer<R: Threads + Sync, G: Gate>(
     crew: &Crew<'_, R, G>,
     alloc: Global,
     instance: &Instance<'_>,
-    source: &WidthSource<'_>,
+    prepared: &Preparation<'_>,
     done: &[Costs],
 ) -> Result<Costs, AllocError>
-    requires source { source.now ≡ instance.now.problem }
+    requires prepared { prepared.now.problem ≡ instance.now.problem }
     requires done { AreDone instance.now done.now }
     ensures { IfOk result (IsLayerFor instance.now (length done.now)) }
 {
     let layer = Layer::of(alloc, instance.inputs(), done.len() as u8)?;
     let before = &done[done.len() - 1];
-    let context = LayerContext::new(instance, &layer, before, source);
+    let context = LayerContext::new(instance, &layer, before, prepared);
     let cells = cells_of_layer(crew, alloc, &context)?;
     Ok(Costs::of(layer, cells))
 }
@@ -65,8 +65,7 @@ fn add_layer<R: Threads + Sync, G: Gate>(
     if let Some(ahead) = look_ahead(alloc, instance, prepared, layers)? {
         prepared.find(crew.rt, alloc, &ahead.requests, ahead.end, crew.workers)?;
     }
-    let source = prepared.source();
-    let next = next_layer(crew, alloc, instance, &source, layers)?;
+    let next = next_layer(crew, alloc, instance, prepared, layers)?;
     layers.push(next)?;
     Ok(())
 }

@@ -11,7 +11,7 @@ mod look_ahead;
 mod preparation;
 mod solver;
 
-pub use compaction::{Preparation, WidthSource, renaming_of};
+pub use compaction::{Preparation, renaming_of};
 pub use layer_core::Instance;
 pub use layer_work::{LayerContext, WorkerResult, work_layer};
 pub use preparation::{SearchStart, prepare};

@@ -6,7 +6,7 @@ ghost use Rattle.subset_layers.specs.Layers.{layer_of};
 ghost use Rattle.layer_core.specs.LayerCosts.{AreDone};
 
 use crate::guesses::likely_end;
-use compaction::{Preparation, Requests, WidthSource};
+use compaction::{Preparation, Requests};
 use layer_core::{Instance, needs_of_block};
 use layer_work::LayerContext;
 use std::alloc::{AllocError, Global};
@@ -20,17 +20,16 @@ pub(crate) struct LookAhead {
     pub(crate) end: u8,
 }
 
-/// Whether the source of widths in `context` has, for each lawful set in `block`, a row with the
-/// widths of all members of the set's image, the set to which `prepared` takes it. The block is one
-/// of the layer of `context`.
+/// Whether `prepared` has, for each lawful set in `block`, a row with the widths of all members of
+/// the set's image, the set to which `prepared` takes it. The block is one of the layer of
+/// `context`.
 fn is_found(context: &LayerContext<'_>, prepared: &Preparation<'_>, block: &Block) -> bool
     requires prepared { prepared.now.problem ≡ context.now.instance.problem }
     requires layer { layer_of block.now ≡ context.now.layer }
 {
     let instance = context.instance();
-    let source = context.source();
     for set in block.masks() {
-        if instance.lawful(*set) && !source.is_found(prepared.image_of(*set).set) {
+        if instance.lawful(*set) && !prepared.is_found(prepared.image_of(*set).set) {
             return false;
         }
     }
@@ -38,9 +37,9 @@ fn is_found(context: &LayerContext<'_>, prepared: &Preparation<'_>, block: &Bloc
 }
 
 /// Adds to `requests` the widths that the cells of the sets of `block` take, as widths of each
-/// set's image, the set to which `prepared` takes it. Leaves out images of which the source of
-/// widths in `context` has a row with the widths of all members. The block is one of the layer of
-/// `context`. If memory is refused nothing changes.
+/// set's image, the set to which `prepared` takes it. Leaves out images of which `prepared` has a
+/// row with the widths of all members. The block is one of the layer of `context`. If memory is
+/// refused nothing changes.
 fn add_needs(
     alloc: Global,
     context: &LayerContext<'_>,
@@ -53,10 +52,9 @@ fn add_needs(
 {
     let instance = context.instance();
     let needs = needs_of_block(alloc, instance, context.costs_before(), block)?;
-    let source = context.source();
     for (i, set) in block.masks().iter().enumerate() {
         let image = prepared.image_of(*set);
-        if needs[i] != 0 && !source.is_found(image.set) {
+        if needs[i] != 0 && !prepared.is_found(image.set) {
             requests.add_image(&image, needs[i]);
         }
     }
@@ -65,21 +63,19 @@ fn add_needs(
 
 /// Requests for the widths that the cells of the layer after those in `done` take, as widths of the
 /// sets' images, which `prepared` gives. Leaves out sets whose image has a row with the widths of
-/// all its members in `source`. `done[k]` has the costs of the sets of k variables, from k = 0 on.
+/// all its members. `done[k]` has the costs of the sets of k variables, from k = 0 on.
 fn requests_of_layer(
     alloc: Global,
     instance: &Instance<'_>,
     prepared: &Preparation<'_>,
-    source: &WidthSource<'_>,
     done: &[Costs],
 ) -> Result<Requests, AllocError>
     requires prepared { prepared.now.problem ≡ instance.now.problem }
-    requires source { source.now ≡ instance.now.problem }
     requires done { AreDone instance.now done.now }
 {
     let layer = Layer::of(alloc, instance.inputs(), done.len() as u8)?;
     let before = &done[done.len() - 1];
-    let context = LayerContext::new(instance, &layer, before, source);
+    let context = LayerContext::new(instance, &layer, before, prepared);
     let mut requests = prepared.requests(alloc)?;
     for place in 0..layer.blocks() {
         let block = layer.block(place);
@@ -104,8 +100,7 @@ pub(crate) fn look_ahead(
     requires prepared { prepared.now.problem ≡ instance.now.problem }
     requires done { AreDone instance.now done.now }
 {
-    let source = prepared.source();
-    let mut requests = requests_of_layer(alloc, instance, prepared, &source, done)?;
+    let mut requests = requests_of_layer(alloc, instance, prepared, done)?;
     if requests.is_empty() {
         return Ok(None);
     }

@@ -11,7 +11,7 @@ use crate::boards::{error_of_closing, is_stranger, lone_board};
 use crate::searches::tables_of;
 use layer_board::{Board, BoardSeat, CloseError, PostRefused};
 use order_model::{Limit, LowerBound, Mask, NoGate, Pairs, Workers};
-use order_solve::{Instance, LayerContext, Preparation, WidthSource, renaming_of, work_layer};
+use order_solve::{Instance, LayerContext, Preparation, renaming_of, work_layer};
 use std::alloc::Global;
 use std::process::Abort;
 use std::thread;
@@ -47,13 +47,13 @@ fn cells_by_one(
     instance: &Instance<'_>,
     layer: &Layer,
     before: &Costs,
-    source: &WidthSource<'_>,
+    prepared: &Preparation<'_>,
 ) -> Vec<Cell>
     requires context { IsContext (context_with instance.now layer.now before.now) }
-    requires source { source.now ≡ instance.now.problem }
+    requires prepared { prepared.now.problem ≡ instance.now.problem }
     ensures { map pair_of result.items ≡ map (cell_for instance.now) (masks_of layer.now) }
 {
-    let context = LayerContext::new(instance, layer, before, source);
+    let context = LayerContext::new(instance, layer, before, prepared);
     let limit = instance.limit();
     let (board, seat) = lone_board(
         rt,
@@ -73,14 +73,14 @@ fn first_cells(
     alloc: Global,
     instance: &Instance<'_>,
     layer: &Layer,
-    source: &WidthSource<'_>,
+    prepared: &Preparation<'_>,
 ) -> Vec<Cell>
     requires layer { layer.now ≡ layer_with instance.now.problem.inputs 1 }
-    requires source { source.now ≡ instance.now.problem }
+    requires prepared { prepared.now.problem ≡ instance.now.problem }
     ensures { map pair_of result.items ≡ map (cell_for instance.now) (masks_of layer.now) }
 {
     let start = Costs::start(alloc, instance.inputs()).expect(rt, "memory");
-    cells_by_one(rt, alloc, instance, layer, &start, source)
+    cells_by_one(rt, alloc, instance, layer, &start, prepared)
 }
 
 /// The costs of the sets of one variable.
@@ -88,13 +88,13 @@ fn first_costs(
     rt: &impl Abort,
     alloc: Global,
     instance: &Instance<'_>,
-    source: &WidthSource<'_>,
+    prepared: &Preparation<'_>,
 ) -> Costs
-    requires { source.now ≡ instance.now.problem }
+    requires { prepared.now.problem ≡ instance.now.problem }
     ensures { IsLayerFor instance.now 1 result }
 {
     let layer = Layer::of(alloc, instance.inputs(), 1).expect(rt, "memory");
-    let cells = first_cells(rt, alloc, instance, &layer, source);
+    let cells = first_cells(rt, alloc, instance, &layer, prepared);
     Costs::of(layer, cells)
 }
 
@@ -114,13 +114,13 @@ fn first_cell(
     instance: &Instance<'_>,
     layer: &Layer,
     before: &Costs,
-    source: &WidthSource<'_>,
+    prepared: &Preparation<'_>,
 ) -> (Mask, Cell)
     requires context { IsContext (context_with instance.now layer.now before.now) }
-    requires source { source.now ≡ instance.now.problem }
+    requires prepared { prepared.now.problem ≡ instance.now.problem }
     ensures { pair_of result.1 ≡ cell_for instance.now result.0 }
 {
-    let cells = cells_by_one(rt, alloc, instance, layer, before, source);
+    let cells = cells_by_one(rt, alloc, instance, layer, before, prepared);
     first_of(rt, instance, layer, &cells)
 }
 
@@ -329,13 +329,13 @@ fn hold_claims<R: Abort + Threads + Sync>(
     instance: &Instance<'_>,
     layer: &Layer,
     before: &Costs,
-    source: &WidthSource<'_>,
+    prepared: &Preparation<'_>,
 )
     requires context { IsContext (context_with instance.now layer.now before.now) }
-    requires source { source.now ≡ instance.now.problem }
+    requires prepared { prepared.now.problem ≡ instance.now.problem }
 {
-    let (mask, cell) = first_cell(rt, alloc, instance, layer, before, source);
-    let context = LayerContext::new(instance, layer, before, source);
+    let (mask, cell) = first_cell(rt, alloc, instance, layer, before, prepared);
+    let context = LayerContext::new(instance, layer, before, prepared);
     hold_and_leave(rt, alloc, instance, layer, &context, mask, cell);
     hold_and_post(rt, alloc, instance, layer, &context, mask, cell);
 }
@@ -345,13 +345,13 @@ fn hold_in_second_layer<R: Abort + Threads + Sync>(
     rt: &R,
     alloc: Global,
     instance: &Instance<'_>,
-    source: &WidthSource<'_>,
+    prepared: &Preparation<'_>,
 )
-    requires { source.now ≡ instance.now.problem }
+    requires { prepared.now.problem ≡ instance.now.problem }
 {
-    let before = first_costs(rt, alloc, instance, source);
+    let before = first_costs(rt, alloc, instance, prepared);
     let layer = Layer::of(alloc, instance.inputs(), 2).expect(rt, "memory");
-    hold_claims(rt, alloc, instance, &layer, &before, source);
+    hold_claims(rt, alloc, instance, &layer, &before, prepared);
 }
 
 #[test]
@@ -366,5 +366,5 @@ fn a_held_claim_is_missing_or_posted(rt: HostRuntime) {
     let renaming = renaming_of(rt.alloc(), problem).expect(&rt, "memory");
     let prepared = Preparation::of(rt.alloc(), &renaming, &pairs).expect(&rt, "memory");
     let instance = Instance::new(problem, &pairs, limit);
-    hold_in_second_layer(&rt, rt.alloc(), &instance, &prepared.source());
+    hold_in_second_layer(&rt, rt.alloc(), &instance, &prepared);
 }

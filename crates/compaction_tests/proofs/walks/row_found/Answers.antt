@@ -7,7 +7,7 @@ use Rattle.compaction_tests.proofs.walks.row_found.Goals as goal
 
 pub block_rows-requires-clause-asked : goal.block_rows-requires-clause-asked
 block_rows-requires-clause-asked g c =
-    let p = c.source-source.result in
+    let p = c.find_alone-found.new.self.problem in
     let b = c.args.block.now in
     let l = c.len.ensures.value in
     let inputs : b.inputs ≡ p.inputs = grind arith in

@@ -1,6 +1,6 @@
 use Rattle.std.proofs.Common.{◌<◌, ◌^◌, ℕ, List, get_or, length, subst, sym}
 use Rattle.compaction.proofs.BlockRows.{block_of_byte}
-use Rattle.compaction.proofs.source.WidthSource.rows_found.Goals as goal
+use Rattle.compaction.proofs.preparation.Preparation.rows_found.Goals as goal
 
 pub row_of-requires-clause-set : goal.row_of-requires-clause-set
 row_of-requires-clause-set c =

@@ -1,4 +1,4 @@
-//! Where the widths of a layer's blocks come from.
+//! The widths of a layer's blocks: from rows that were found ahead, or else by a walk.
 
 ghost use Rattle.std.specs.Prelude.{◌≡◌, ◌+◌, ◌^◌, ◌<◌, ◌≤◌, IfOk, IfSome, OnOk, OnErr};
 ghost use Rattle.subset_layers.specs.Layers.{block_masks};
@@ -6,46 +6,17 @@ ghost use Rattle.compaction.specs.Requests.{AreMembersOf};
 ghost use Rattle.compaction.specs.Rows.{AreWidthRows, IsWidthRow, wanted_count};
 ghost use Rattle.compaction.specs.Walks.{AreAsked, AreRowsOf};
 
-use crate::ahead::Places;
 use crate::blocks::block_widths;
 use crate::preparation::Preparation;
 use crate::tally::Tally;
 use order_model::{Mask, WidthRow};
 use std::alloc::{AllocError, Global};
-use std::marker::Model;
 use subset_layers::Block;
 
-/// Where the widths of a layer's blocks come from: rows that were found ahead, or else a walk. A
-/// row that was found ahead belongs to one set, and serves every set whose image that set is.
-#[derive(Drop)]
-pub struct WidthSource<'a> {
-    prepared: &'a Preparation<'a>,
-    /// Where each low byte's rows stand in the list of rows that `prepared` has found.
-    places: Places,
-}
-
-impl<'a> Model for WidthSource<'a> {
-    ghost use Rattle.definitions.specs.Problems.{TruthTables};
-
-    ghost Value = { TruthTables };
-
-    ghost view = { λ w. w.prepared.now.problem };
-}
-
-impl<'a> WidthSource<'a> {
-    /// The source of widths for the problem of `prepared`, with the rows that `prepared` has found.
-    pub(crate) fn new(prepared: &'a Preparation<'a>) -> WidthSource<'a>
-        ensures { result ≡ prepared.now.problem }
-    {
-        WidthSource {
-            prepared,
-            places: prepared.found().places(),
-        }
-    }
-
+impl<'a> Preparation<'a> {
     /// Whether the widths of all members of `set`, a set of the renamed problem, were found ahead.
     pub fn is_found(&self, set: Mask) -> bool {
-        match self.prepared.found().rows_at(&self.places, set) {
+        match self.rows_at(set) {
             Some(byte) => byte.is_whole(set),
             None => false,
         }
@@ -56,16 +27,16 @@ impl<'a> WidthSource<'a> {
     /// the renamed problem. None if one of these widths was not found ahead. Requires that `needed`
     /// is a subset of `set`, and `set` a set of the problem.
     fn row_of(&self, set: Mask, needed: Mask) -> Option<WidthRow>
-        requires set { set < 2 ^ self.now.inputs }
-        requires members { AreMembersOf self.now.inputs set needed }
-        ensures { IfSome result (IsWidthRow self.now set needed) }
+        requires set { set < 2 ^ self.now.problem.inputs }
+        requires members { AreMembersOf self.now.problem.inputs set needed }
+        ensures { IfSome result (IsWidthRow self.now.problem set needed) }
     {
         if needed == 0 {
             return Some([0; 16]);
         }
-        prove!(self.prepared.problem().inputs() <= 16);
-        let image = self.prepared.image_of(set);
-        let byte = self.prepared.found().rows_at(&self.places, image.set)?;
+        prove!(self.problem().inputs() <= 16);
+        let image = self.image_of(set);
+        let byte = self.rows_at(image.set)?;
         byte.row_by_image(&image, needed)
     }
 
@@ -79,9 +50,9 @@ impl<'a> WidthSource<'a> {
         block: &Block,
         needed: &[Mask],
     ) -> Result<Option<Vec<WidthRow>>, AllocError>
-        requires asked { AreAsked self.now block.now needed.now }
+        requires asked { AreAsked self.now.problem block.now needed.now }
         ensures { IfOk result (λ found. IfSome found
-            (λ rows. AreWidthRows self.now (block_masks block.now) needed.now rows.items)) }
+            (λ rows. AreWidthRows self.now.problem (block_masks block.now) needed.now rows.items)) }
     {
         let mut rows = Vec::with_capacity(alloc, block.len())?;
         for (i, mask) in block.masks().iter().enumerate() {
@@ -106,9 +77,9 @@ impl<'a> WidthSource<'a> {
         needed: &[Mask],
         tally: &mut Tally,
     ) -> Result<Vec<WidthRow>, AllocError>
-        requires asked { AreAsked self.now block.now needed.now }
+        requires asked { AreAsked self.now.problem block.now needed.now }
         requires room { tally.old + wanted_count needed.now ≤ 2 ^ 32 }
-        ensures rows { IfOk result (λ rows. AreRowsOf self.now block.now needed.now rows.items) }
+        ensures rows { IfOk result (λ rows. AreRowsOf self.now.problem block.now needed.now rows.items) }
         ensures ok { OnOk result (tally.new ≡ tally.old + wanted_count needed.now) }
         ensures err { OnErr result (tally.new ≡ tally.old) }
     {
@@ -117,7 +88,7 @@ impl<'a> WidthSource<'a> {
             tally.add_wanted(needed);
             return Ok(rows);
         }
-        let problem = self.prepared.problem();
+        let problem = self.problem();
         let widths = block_widths(alloc, problem, block, needed, tally)?;
         Ok(widths.into_rows())
     }
