@@ -12,7 +12,7 @@ use crate::indexed_pairs::number_by;
 use crate::scratch::Scratch;
 use compaction::Tally;
 use order_model::{Mask, Problem, VarIx, contains};
-use pair_numbering::MaskedPairs;
+use pair_numbering::{EntryPairs, MaskedPairs};
 use std::alloc::{AllocError, Global};
 use std::marker::Model;
 use subfunction_classes::{count_with, no_dependence, rank_of, value_numbers};
@@ -130,7 +130,11 @@ impl<'a> Classes<'a> {
         ensures scratch { scratch.new ≡ scratch.old }
     {
         let rank = rank_of(self.set, x);
-        let pairs = MaskedPairs::of_table(&self.numbers, rank, x, &self.masks);
+        let pairs = MaskedPairs {
+            entries: EntryPairs::of_table(&self.numbers, rank),
+            masks: &self.masks,
+            x,
+        };
         let width = scratch.count_joined(&pairs);
         tally.add(1);
         width
@@ -182,7 +186,11 @@ impl<'a> Classes<'a> {
         ensures { IfOk result (λ c. c ≡ with_variable self.now x) }
     {
         let rank = rank_of(self.set, x);
-        let pairs = MaskedPairs::of_table(&self.numbers, rank, x, &self.masks);
+        let pairs = MaskedPairs {
+            entries: EntryPairs::of_table(&self.numbers, rank),
+            masks: &self.masks,
+            x,
+        };
         let numbered = number_by(alloc, &pairs, indexed)?;
         Ok(Classes {
             problem: self.problem,

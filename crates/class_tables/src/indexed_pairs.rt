@@ -18,7 +18,7 @@ fn number_pairs_by_index(
 ) -> Result<MaskedNumbers, AllocError>
     ensures { IfOk result (λ v. NumbersMasked pairs.now v.numbers.items v.masks.items) }
 {
-    prove!(pairs.rank() < 16);
+    prove!(pairs.entries.rank() < 16);
     let indexed = index_entries(alloc, &pairs.entries)?;
     let NumberedPairs {
         numbers,

@@ -100,7 +100,7 @@ fn count_in(
     ensures { CountsMasks pairs.now.masks.now pairs.now.x
         (places.pairs pairs.now.entries.numbers (2 ^ pairs.now.entries.rank)) result }
 {
-    prove!(pairs.rank() < 16);
+    prove!(pairs.entries.rank() < 16);
     let classes = pairs.masks.len();
     let half = pairs.entries.len();
     let heads = &mut heads[..classes];
@@ -120,7 +120,7 @@ fn count_firsts(pairs: &MaskedPairs<'_>, first: &[u32]) -> u32
     ensures { CountsMasks pairs.now.masks.now pairs.now.x
         (places.pairs pairs.now.entries.numbers (2 ^ pairs.now.entries.rank)) result }
 {
-    prove!(pairs.rank() < 16);
+    prove!(pairs.entries.rank() < 16);
     let masks = pairs.masks;
     let x = pairs.x;
     let mut count = 0;

@@ -61,7 +61,11 @@ pub(crate) fn add_above(
 {
     if are_in_order(table.outer) {
         // Each strip is named once, so the pairs of strips are all distinct and in order, too.
-        let pairs = MaskedPairs::of_table(table.numbers, table.bits + table.rank, x, table.masks);
+        let pairs = MaskedPairs {
+            entries: EntryPairs::of_table(table.numbers, table.bits + table.rank),
+            masks: table.masks,
+            x,
+        };
         let keys = label_pairs(memory, &pairs)?;
         let outer = table.outer[..table.outer.len() / 2].to_vec(memory.alloc)?;
         return Ok((outer, keys));
@@ -73,7 +77,11 @@ pub(crate) fn add_above(
     // The entries are numbered in the same memory while the pairs of strips are still read.
     let spare = mem::replace(&mut memory.spare, Vec::new(memory.alloc));
     let strip_pairs = mem::replace(&mut memory.pairs, spare);
-    let pairs = MaskedPairs::of_strips(&strip_pairs, table.numbers, table.bits, x, table.masks);
+    let pairs = MaskedPairs {
+        entries: EntryPairs::of_strips(&strip_pairs, table.numbers, table.bits),
+        masks: table.masks,
+        x,
+    };
     let keys = label_pairs(memory, &pairs)?;
     memory.spare = strip_pairs;
     Ok((outer, keys))

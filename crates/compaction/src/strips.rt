@@ -11,7 +11,7 @@ ghost use Rattle.compaction.specs.Strips.{masks_in_use, low_variables as low_of}
 use crate::add_variable::{StripTable, add_above};
 use crate::values::{ValueStrips, value_strips};
 use order_model::{Mask, Problem, VarIx, WidthRow, contains};
-use pair_numbering::{MaskedPairs, PairKeys, PairMemory, are_in_order, label_pairs};
+use pair_numbering::{EntryPairs, MaskedPairs, PairKeys, PairMemory, are_in_order, label_pairs};
 use std::alloc::{AllocError, Global};
 use std::marker::Model;
 use subfunction_classes::{count_with, rank_of};
@@ -205,7 +205,11 @@ impl<'a> Strips<'a> {
             Some(count) => Ok(Strips::of_count(memory.alloc, self.problem, set, count / 2)),
             None => {
                 let rank = rank_of(self.set, x);
-                let pairs = MaskedPairs::of_table(&self.keys.numbers, rank, x, &self.keys.masks);
+                let pairs = MaskedPairs {
+                    entries: EntryPairs::of_table(&self.keys.numbers, rank),
+                    masks: &self.keys.masks,
+                    x,
+                };
                 let keys = label_pairs(memory, &pairs)?;
                 let outer = self.outer.to_vec(memory.alloc)?;
                 Ok(Strips::of_parts(memory.alloc, self.problem, set, outer, keys))

@@ -12,7 +12,9 @@ ghost use Rattle.edge_walks.specs.Tables.{HoldsRows, classes_at, rows_at, rows_w
 use crate::lower_classes::are_wide;
 use crate::repeats::without_repeats;
 use order_model::{Mask, Problem, VarIx, contains};
-use pair_numbering::{MaskedNumbers, MaskedPairs, PairMemory, are_in_order, number_with_masks};
+use pair_numbering::{
+    EntryPairs, MaskedNumbers, MaskedPairs, PairMemory, are_in_order, number_with_masks,
+};
 use std::alloc::{AllocError, Global};
 use std::marker::Model;
 use subfunction_classes::{count_with, no_dependence, value_numbers};
@@ -193,7 +195,11 @@ impl<'a> ClassTable<'a> {
                 masks: Vec::new(memory.alloc),
             }),
             None => {
-                let pairs = MaskedPairs::of_table(&self.numbers, u32::from(x), x, &self.masks);
+                let pairs = MaskedPairs {
+                    entries: EntryPairs::of_table(&self.numbers, u32::from(x)),
+                    masks: &self.masks,
+                    x,
+                };
                 let numbered = number_with_masks(memory, &pairs)?;
                 Ok(table_of(memory.alloc, self.problem, set, x, numbered))
             }

@@ -4,12 +4,14 @@
 --     listed_inside      the pair is listed
 --     place_small      a place among the pairs is small
 --     pair_inside      both halves of a pair are classes
+--     masked_table      pairs with masks are those of a class table
 use Rattle.std.proofs.Common.{◌≡◌, ℕ, ◌+◌, ◌*◌, ◌/◌, ◌%◌, ◌^◌, ◌<◌, ◌≤◌, List, length, sym, ap, ◌∙◌, subst, arith}
 use Rattle.std.proofs.lemmas.Nat.{one_shl, pow_pos}
-use Rattle.subfunction_classes.specs.PairTables.{AllBelow, IsPaired}
+use Rattle.subfunction_classes.specs.PairTables.{AllBelow, IsPaired, IsPairTable}
 use Rattle.subfunction_classes.specs.Places.{pairs, pair_at, low_place}
 use Rattle.subfunction_classes.proofs.BlockPlaces.{block_all, block_inside}
 use Rattle.subfunction_classes.proofs.Index.{length-pairs, pair_within}
+use Rattle.pair_numbering.specs.declared.masks.MaskedPairs.{MaskedPairs}
 
 pub place_small : (numbers : List ℕ) (step n place : ℕ) → place < n → n ≡ length (pairs numbers step) → length numbers < 2 ^ 32 → place < 2 ^ 31
 place_small numbers step n place l e f = omega (arith, length-pairs numbers step)
@@ -48,3 +50,7 @@ module _ {numbers : List ℕ} {rank : ℕ} (paired : IsPaired numbers rank) wher
       let w = pair_within (2 ^ rank) paired.whole.0 (length numbers) j (pow_pos rank) paired.whole.1 small in
       let low : low_place (2 ^ rank) j < length numbers = omega arith in
       subst (λ (q : ℕ × ℕ). (q.0 < classes) × (q.1 < classes)) (sym e) (below (low_place (2 ^ rank) j) low, below (low_place (2 ^ rank) j + 2 ^ rank) w)
+
+-- pairs with masks are those of a class table
+pub masked_table : (p : MaskedPairs) → IsPaired p.entries.numbers p.entries.rank → IsPairTable p.entries.numbers p.entries.rank (length p.masks.now)
+masked_table p paired = record { paired = paired; few = p.few_entries; below = p.below }

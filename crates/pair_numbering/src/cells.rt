@@ -43,7 +43,7 @@ fn number_block<const EVENLY: bool>(
     let masks = pairs.masks;
     let x = pairs.x;
     let classes = masks.len();
-    let step = 1usize << pairs.rank();
+    let step = 1usize << pairs.entries.rank();
     let BlockHalves { low, high } = pairs.entries.block(block);
     let mut count = from;
     for i in 0..step {
@@ -83,7 +83,7 @@ fn number_blocks(
     requires joined { length joined.old ≡ length pairs.now.entries.numbers / 2 }
     ensures { IfSome result (λ count. NumbersMasked pairs.now out.new (take count joined.new)) }
 {
-    let rank = pairs.rank();
+    let rank = pairs.entries.rank();
     let step = 1usize << rank;
     let mut count = 0u32;
     for block in 0..pairs.entries.len() >> rank {

@@ -2,11 +2,10 @@
 //! blocks of 2^rank: the entries of a block at which the variable is 0 stand one behind the other,
 //! and so do those at which it is 1. The blocks of a layer are something else.
 
-ghost use Rattle.std.specs.Prelude.{◌≡◌, ℕ, ◌+◌, ◌*◌, ◌/◌, ◌^◌, ◌<◌, ◌≤◌, length, slice_index, get_or, IfSome, IsTrue};
+ghost use Rattle.std.specs.Prelude.{◌≡◌, ℕ, ◌+◌, ◌*◌, ◌/◌, ◌^◌, ◌<◌, ◌≤◌, length, slice_index, get_or, IsTrue};
 ghost use Rattle.subfunction_classes.specs.Places as places;
 ghost use Rattle.subfunction_classes.specs.PairTables.{AreOwn, IsPaired};
 ghost use Rattle.subfunction_classes.specs.Strips.{AreNamed, names_of, unrolled};
-ghost use Rattle.pair_numbering.specs.Strips.{strips_at};
 
 use crate::numbers::are_in_order;
 use std::marker::Model;
@@ -43,24 +42,6 @@ impl<'a> Model for EntryPairs<'a> {
 pub(crate) struct BlockHalves<'a> {
     pub(crate) low: &'a [u32],
     pub(crate) high: &'a [u32],
-}
-
-/// The numbers of the two strips that have the entries of block `block`, counted from 0, of the
-/// pairs: where the variable is 0, and where it is 1. They are `names[block]`, which has to exist.
-/// If `names` is None, the strips stand side by side: they are `2 * block` and `2 * block + 1`.
-#[inline(always)]
-fn strips_of(names: Option<&[(u32, u32)]>, block: usize) -> (usize, usize)
-    requires named { IfSome names (λ r. block < length r.now) }
-    requires few { block < 2 ^ 32 }
-    ensures { result ≡ strips_at (λ r. r.now) names.entry block }
-{
-    match names {
-        None => (2 * block, 2 * block + 1),
-        Some(names) => {
-            let (low, high) = names[block];
-            (low as usize, high as usize)
-        }
-    }
 }
 
 /// Strip number `name`, counted from 0, of `numbers`, in which strips of 2^rank entries stand one
@@ -101,11 +82,7 @@ impl<'a> EntryPairs<'a> {
     /// have these strips, `bits` to be below 16, and at most 2^20 entries in `numbers` and in the
     /// table.
     #[inline(always)]
-    pub(crate) fn of_strips(
-        names: &'a [(u32, u32)],
-        numbers: &'a [u32],
-        bits: u32,
-    ) -> EntryPairs<'a>
+    pub fn of_strips(names: &'a [(u32, u32)], numbers: &'a [u32], bits: u32) -> EntryPairs<'a>
         requires named { AreNamed (names_of names.now) numbers.now (2 ^ bits) }
         requires bits { bits < 16 }
         requires few { length numbers.now ≤ 2 ^ 20 }
@@ -123,7 +100,7 @@ impl<'a> EntryPairs<'a> {
     /// The rank r. Each 2^r pairs are a block: their entries where the variable is 0 stand one
     /// behind the other, and so do those where it is 1.
     #[inline(always)]
-    pub(crate) fn rank(&self) -> u32
+    pub fn rank(&self) -> u32
         ensures rank { result ≡ self.now.rank }
         ensures paired { IsPaired self.now.numbers self.now.rank }
     {
@@ -166,7 +143,13 @@ impl<'a> EntryPairs<'a> {
             ≡ get_or (places.pairs self.now.numbers (2 ^ self.now.rank))
             (block * 2 ^ self.now.rank + i) (0, 0) }
     {
-        let (low, high) = strips_of(self.names, block);
+        let (low, high) = match self.names {
+            None => (2 * block, 2 * block + 1),
+            Some(names) => {
+                let (low, high) = names[block];
+                (low as usize, high as usize)
+            }
+        };
         BlockHalves {
             low: strip_at(self.numbers, self.rank, low),
             high: strip_at(self.numbers, self.rank, high),

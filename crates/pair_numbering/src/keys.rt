@@ -106,7 +106,7 @@ pub fn label_pairs(memory: &mut PairMemory, pairs: &MaskedPairs<'_>) -> Result<P
         (places.pairs pairs.now.entries.numbers (2 ^ pairs.now.entries.rank)) v.numbers.items
         v.masks.items) }
 {
-    prove!(pairs.rank() < 16);
+    prove!(pairs.entries.rank() < 16);
     let base = pairs.masks.len();
     if base <= MOST_JOINED && base * base <= 2 * pairs.entries.len() {
         let keys = join_keys(memory.alloc, &pairs.entries, base as u32)?;

@@ -84,7 +84,7 @@ impl PairMemory {
     ) -> Result<(), AllocError>
         ensures { OnOk result (NumbersMasked pairs.now to.new.numbers.items to.new.masks.items) }
     {
-        prove!(pairs.rank() < 16);
+        prove!(pairs.entries.rank() < 16);
         let classes = pairs.masks.len();
         // with fewer classes than entries some are equal
         if classes == 2 * pairs.entries.len() && pairs.entries.are_places() {

@@ -3,7 +3,6 @@
 
 ghost use Rattle.std.specs.Prelude.{◌≡◌, ◌<◌, ◌^◌, ◌≤◌, ℕ, length, slice_index, IfOk, IsTrue, OnOk};
 ghost use Rattle.subfunction_classes.specs.PairTables.{AreOwn, IsPairTable};
-ghost use Rattle.subfunction_classes.specs.Places as places;
 ghost use Rattle.pair_numbering.specs.Numbers.{ArePairsNumbered};
 ghost use Rattle.pair_numbering.specs.MaskedNumbers.{NumbersMasked};
 
@@ -53,19 +52,6 @@ pub fn number_with_masks(
     Ok(to)
 }
 
-/// The place of pair j's entry where the variable is 0, in a table without strips; the other entry
-/// stands 2^rank further on. `rank`, below 16, is how many variables outside the table's set are
-/// below the variable. Requires j, counted from 0, to be below 2^32.
-#[inline(always)]
-fn low_place(rank: u32, j: usize) -> usize
-    requires rank { rank < 16 }
-    requires place { j < 2 ^ 32 }
-    ensures { result ≡ places.low_place (2 ^ rank) j }
-{
-    let below = (1usize << rank) - 1;
-    2 * j - (j & below)
-}
-
 /// Overwrites `to` with the numbers of the pairs, which are 0, 1, 2 and so on, and for each pair
 /// the mask of the function whose cofactors are the pair. Requires the table's entries to be 0, 1,
 /// 2 and so on: a pair is then the two places of its entries, so no two pairs are equal, and no
@@ -79,13 +65,14 @@ pub(crate) fn number_distinct_pairs(
 {
     let masks = pairs.masks;
     let x = pairs.x;
-    let rank = pairs.rank();
+    let step = 1usize << pairs.entries.rank();
     let half = pairs.entries.len();
     to.numbers.resize(half, 0)?;
     to.masks.resize(half, 0)?;
     for j in 0..half {
-        let low = low_place(rank, j);
-        let pair = (low as u32, (low + (1usize << rank)) as u32);
+        // The entries of a pair stand `step` apart.
+        let low = 2 * j - (j & (step - 1));
+        let pair = (low as u32, (low + step) as u32);
         to.numbers[j] = j as u32;
         to.masks[j] = join_mask(masks, x, pair);
     }

@@ -2,7 +2,7 @@
 //! pair whose lower class no other pair has is new, and takes no slot.
 
 ghost use Rattle.std.specs.Prelude.{◌≡◌, ℕ, ◌+◌, ◌*◌, ◌/◌, ◌^◌, ◌<◌, ◌≤◌, length, slice_index, take, IfOk, IfSome, IsTrue};
-ghost use Rattle.pair_numbering.specs.Slots.{AreSlotted, IsSlot, home_of};
+ghost use Rattle.pair_numbering.specs.Slots.{IsSlot, home_of};
 ghost use Rattle.subfunction_classes.specs.PairTables.{IsPairTable};
 ghost use Rattle.pair_numbering.specs.Numbers.{ArePairsNumbered};
 
@@ -59,49 +59,6 @@ fn find_slot(
     None
 }
 
-/// Numbers the 2^rank pairs of block `block`, counted from 0, after those of the blocks before it,
-/// by first occurrence. `count` is how many numbers there were before; returns how many there are
-/// then. Of pair j, counted over all blocks, `out[j]` becomes the number, and if it is a new number
-/// k, `keys[k]` the pair; both have an entry for each pair, at most 2^15 in all. `slots` is a hash
-/// table of numbers: `SLOTS_PER_PAIR` slots for each pair and `TRIES` more, `out.len()` in free
-/// ones. None if others have all `TRIES` slots of a pair; then the three have no meaning.
-#[inline(always)]
-fn number_block(
-    pairs: &CountedPairs<'_>,
-    block: usize,
-    slots: &mut [u16],
-    keys: &mut [(u32, u32)],
-    out: &mut [u32],
-    count: u32,
-) -> Option<u32>
-    requires few { length pairs.now.entries.now.numbers ≤ 2 ^ 16 }
-    requires block { block <
-        length pairs.now.entries.now.numbers / 2 / 2 ^ pairs.now.entries.now.rank }
-    requires before { AreSlotted pairs.now block slots.old keys.old out.old count }
-    ensures { IfSome result
-        (λ more. AreSlotted pairs.now (block + 1) slots.new keys.new out.new more) }
-{
-    let homes = slots.len() - TRIES;
-    let step = 1usize << pairs.entries.rank();
-    let BlockHalves { low, high } = pairs.entries.block(block);
-    let mut count = count;
-    for i in 0..step {
-        let pair = (low[i], high[i]);
-        keys[count as usize] = pair;
-        let mut number = count;
-        if pairs.counts[pair.0 as usize] != 1 {
-            let at = find_slot(slots, keys, count, pair, home(homes, pair))?;
-            number = u32::from(slots[at]).min(count);
-            slots[at] = number as u16;
-        }
-        out[block * step + i] = number;
-        if number == count {
-            count += 1;
-        }
-    }
-    Some(count)
-}
-
 /// Numbers the pairs by first occurrence: writes the number of pair j to `out[j]`, and the pair of
 /// number k to `keys[k]`. Both have an entry for each of the at most 2^15 pairs. `slots` is working
 /// memory: `SLOTS_PER_PAIR` entries for each pair and `TRIES` more, which all have to be
@@ -123,9 +80,26 @@ fn number_blocks(
     ensures { IfSome result (λ count. ArePairsNumbered pairs.now.entries.now.numbers
         pairs.now.entries.now.rank out.new (take count keys.new)) }
 {
+    let homes = slots.len() - TRIES;
+    let rank = pairs.entries.rank();
+    let step = 1usize << rank;
     let mut count = 0u32;
-    for block in 0..pairs.entries.len() >> pairs.entries.rank() {
-        count = number_block(pairs, block, slots, keys, out, count)?;
+    for block in 0..pairs.entries.len() >> rank {
+        let BlockHalves { low, high } = pairs.entries.block(block);
+        for i in 0..step {
+            let pair = (low[i], high[i]);
+            keys[count as usize] = pair;
+            let mut number = count;
+            if pairs.counts[pair.0 as usize] != 1 {
+                let at = find_slot(slots, keys, count, pair, home(homes, pair))?;
+                number = u32::from(slots[at]).min(count);
+                slots[at] = number as u16;
+            }
+            out[block * step + i] = number;
+            if number == count {
+                count += 1;
+            }
+        }
     }
     Some(count)
 }
@@ -152,7 +126,9 @@ pub(crate) fn number_pairs_by_slots(
     if half > MOST_PAIRS {
         return Ok(false);
     }
-    count_lowers(entries, classes, &mut memory.counts)?;
+    memory.counts.clear();
+    memory.counts.resize(classes, 0)?;
+    count_lowers(entries, &mut memory.counts);
     memory.slots.clear();
     memory
         .slots

@@ -14,7 +14,7 @@ use crate::classes::{ClassMemory, number_values};
 use crate::instance::SmallSearch;
 use crate::values::{join_values, push_points};
 use order_model::{Mask, VarIx};
-use pair_numbering::{MaskedNumbers, MaskedPairs, PairMemory};
+use pair_numbering::{EntryPairs, MaskedNumbers, MaskedPairs, PairMemory};
 use std::alloc::{AllocError, Global};
 
 /// Over at most so many variables a subfunction is kept as its value, the truth table in a byte;
@@ -104,7 +104,11 @@ fn add_below(
     requires { IsReady from.now x }
     ensures { OnOk result (IsNumbered from.now to.new x) }
 {
-    let pairs = MaskedPairs::of_table(&from.numbers, u32::from(x), x, &from.masks);
+    let pairs = MaskedPairs {
+        entries: EntryPairs::of_table(&from.numbers, u32::from(x)),
+        masks: &from.masks,
+        x,
+    };
     memory.write_numbers(&pairs, to)?;
     Ok(())
 }

@@ -10,7 +10,7 @@ join_masks-requires-clause-classes c =
     let p = c.args.pairs.now in
     let n = c.in_ok-indexed.ensures in
     subst (λ us. ArePairsBelow us (length p.masks.now)) (sym c.deref.ensures.value)
-    (met_classes p.entries.numbers p.entries.rank (length p.masks.now) c.rank.ensures.table.paired.whole c.rank.ensures.table.below
+    (met_classes p.entries.numbers p.entries.rank (length p.masks.now) c.rank.ensures.paired.whole p.below
     c.in_ok-indexed.indexed.numbers.items c.in_ok-indexed.indexed.pairs.items n.numbered_are n.many n.labels)
 
 pub returns : goal.returns

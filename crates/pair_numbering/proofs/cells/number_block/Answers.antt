@@ -1,6 +1,6 @@
 use Rattle.std.proofs.Common.{◌≡◌, ◌+◌, ◌*◌, ◌^◌, ◌<◌, length, sym, subst, ◌∙◌, arith}
 use Rattle.subfunction_classes.proofs.Index.{length-pairs}
-use Rattle.pair_numbering.proofs.InBlocks.{in_step, place_is, place_small, step_is}
+use Rattle.pair_numbering.proofs.InBlocks.{in_step, masked_table, place_is, place_small, step_is}
 use Rattle.pair_numbering.proofs.CellSteps.{fronted_block, pair_classes, place_inside, cell_inside, fronted_new, fronted_again, fronted_old}
 use Rattle.pair_numbering.proofs.cells.number_block.Goals as goal
 use Rattle.pair_numbering.proofs.cells.number_block.Goals.{then-next-eq0, else-next-eq0, then-this-ne0, else-this-ne0+else-next-eq0-2, then-next-eq0-3, else-next-eq0-3}
@@ -12,49 +12,49 @@ loop-i-init g c =
 
 pub bounds-cells-cell : goal.bounds-cells-cell
 bounds-cells-cell g c =
-    let w = in_step c.rank.ensures.table.paired c.rank.ensures.rank c.requires.block c.loop-i-test.true in
-    cell_inside c.rank.ensures.table c.loop-i.invariant.fronted w (c.block.ensures.pairs c.loop-i.i w.early)
+    let w = in_step c.rank.ensures.paired c.rank.ensures.rank c.requires.block c.loop-i-test.true in
+    cell_inside (masked_table c.args.pairs.now c.rank.ensures.paired) c.loop-i.invariant.fronted w (c.block.ensures.pairs c.loop-i.i w.early)
 
 pub bounds-cells-cell-then-this-ne0 : goal.bounds-cells-cell-then-this-ne0
 bounds-cells-cell-then-this-ne0 g c =
-    let w = in_step c.rank.ensures.table.paired c.rank.ensures.rank c.requires.block c.loop-i-test.true in
-    cell_inside c.rank.ensures.table c.loop-i.invariant.fronted w (c.block.ensures.pairs c.loop-i.i w.early)
+    let w = in_step c.rank.ensures.paired c.rank.ensures.rank c.requires.block c.loop-i-test.true in
+    cell_inside (masked_table c.args.pairs.now c.rank.ensures.paired) c.loop-i.invariant.fronted w (c.block.ensures.pairs c.loop-i.i w.early)
 
 pub join_mask-requires-clause-lower : goal.join_mask-requires-clause-lower
 join_mask-requires-clause-lower g c =
-    let w = in_step c.rank.ensures.table.paired c.rank.ensures.rank c.requires.block c.loop-i-test.true in
-    (pair_classes c.rank.ensures.table c.loop-i.invariant.fronted w (c.block.ensures.pairs c.loop-i.i w.early)).0
+    let w = in_step c.rank.ensures.paired c.rank.ensures.rank c.requires.block c.loop-i-test.true in
+    (pair_classes (masked_table c.args.pairs.now c.rank.ensures.paired) c.loop-i.invariant.fronted w (c.block.ensures.pairs c.loop-i.i w.early)).0
 
 pub join_mask-requires-clause-upper : goal.join_mask-requires-clause-upper
 join_mask-requires-clause-upper g c =
-    let w = in_step c.rank.ensures.table.paired c.rank.ensures.rank c.requires.block c.loop-i-test.true in
-    (pair_classes c.rank.ensures.table c.loop-i.invariant.fronted w (c.block.ensures.pairs c.loop-i.i w.early)).1
+    let w = in_step c.rank.ensures.paired c.rank.ensures.rank c.requires.block c.loop-i-test.true in
+    (pair_classes (masked_table c.args.pairs.now c.rank.ensures.paired) c.loop-i.invariant.fronted w (c.block.ensures.pairs c.loop-i.i w.early)).1
 
 pub bounds-out-block : goal.bounds-out-block
 bounds-out-block g c =
-    let w = in_step c.rank.ensures.table.paired c.rank.ensures.rank c.requires.block c.loop-i-test.true in
-    let k = place_inside c.rank.ensures.table c.loop-i.invariant.fronted w (c.block.ensures.pairs c.loop-i.i w.early) in
-    subst (λ z. z < length c.loop-i.out) (sym (place_is c.rank.ensures.table.paired c.args.block c.loop-i.i c.rank.ensures.rank)) k
+    let w = in_step c.rank.ensures.paired c.rank.ensures.rank c.requires.block c.loop-i-test.true in
+    let k = place_inside (masked_table c.args.pairs.now c.rank.ensures.paired) c.loop-i.invariant.fronted w (c.block.ensures.pairs c.loop-i.i w.early) in
+    subst (λ z. z < length c.loop-i.out) (sym (place_is c.rank.ensures.paired c.args.block c.loop-i.i c.rank.ensures.rank)) k
 
 pub overflow_mul-out : goal.overflow_mul-out
 overflow_mul-out g c =
-    let w = place_small _ _ _ _ (bounds-out-block g c) c.loop-i.invariant.fronted.celled.made.long c.rank.ensures.table.paired.short in
+    let w = place_small _ _ _ _ (bounds-out-block g c) c.loop-i.invariant.fronted.celled.made.long c.rank.ensures.paired.short in
     omega arith
 
 pub overflow_add-out : goal.overflow_add-out
 overflow_add-out g c =
-    let w = place_small _ _ _ _ (bounds-out-block g c) c.loop-i.invariant.fronted.celled.made.long c.rank.ensures.table.paired.short in
+    let w = place_small _ _ _ _ (bounds-out-block g c) c.loop-i.invariant.fronted.celled.made.long c.rank.ensures.paired.short in
     omega arith
 
 pub offset_bounds-out-block : goal.offset_bounds-out-block
 offset_bounds-out-block g c =
-    let w = place_small _ _ _ _ (bounds-out-block g c) c.loop-i.invariant.fronted.celled.made.long c.rank.ensures.table.paired.short in
+    let w = place_small _ _ _ _ (bounds-out-block g c) c.loop-i.invariant.fronted.celled.made.long c.rank.ensures.paired.short in
     omega arith
 
 pub bounds-joined-count : goal.bounds-joined-count
 bounds-joined-count g c =
-    let w = in_step c.rank.ensures.table.paired c.rank.ensures.rank c.requires.block c.loop-i-test.true in
-    let k = place_inside c.rank.ensures.table c.loop-i.invariant.fronted w (c.block.ensures.pairs c.loop-i.i w.early) in
+    let w = in_step c.rank.ensures.paired c.rank.ensures.rank c.requires.block c.loop-i-test.true in
+    let k = place_inside (masked_table c.args.pairs.now c.rank.ensures.paired) c.loop-i.invariant.fronted w (c.block.ensures.pairs c.loop-i.i w.early) in
     let few = c.loop-i.invariant.fronted.few in
     let long = c.loop-i.invariant.fronted.long in
     let made = c.loop-i.invariant.fronted.celled.made.long in
@@ -63,7 +63,7 @@ bounds-joined-count g c =
 
 pub overflow_add-count : goal.overflow_add-count
 overflow_add-count g c =
-    let w = in_step c.rank.ensures.table.paired c.rank.ensures.rank c.requires.block c.loop-i-test.true in
+    let w = in_step c.rank.ensures.paired c.rank.ensures.rank c.requires.block c.loop-i-test.true in
     let early = w.early in
     let few = c.loop-i.invariant.few in
     let room = c.requires.room in
@@ -71,15 +71,15 @@ overflow_add-count g c =
 
 pub loop-i-preserved : goal.loop-i-preserved
 loop-i-preserved g c =
-    let w = in_step c.rank.ensures.table.paired c.rank.ensures.rank c.requires.block c.loop-i-test.true in
+    let w = in_step c.rank.ensures.paired c.rank.ensures.rank c.requires.block c.loop-i-test.true in
     let is = c.block.ensures.pairs c.loop-i.i w.early in
-    let e = place_is c.rank.ensures.table.paired c.args.block c.loop-i.i c.rank.ensures.rank in
+    let e = place_is c.rank.ensures.paired c.args.block c.loop-i.i c.rank.ensures.rank in
     elim c.if-next-eq0.branch [
       | then-next-eq0 v ↦ elim c.if-next-eq0-3.branch [
         | then-next-eq0-3 u ↦ elim c.if-this-ne0.branch [
           | then-this-ne0 t ↦ record {
             fronted = rw (e, t.cells-is, t.joined-is, v.number-is, u.count-is)
-                (fronted_new c.rank.ensures.table c.loop-i.invariant.fronted w is t.join_mask.result t.join_mask.ensures
+                (fronted_new (masked_table c.args.pairs.now c.rank.ensures.paired) c.loop-i.invariant.fronted w is t.join_mask.result t.join_mask.ensures
                 (sym c.from-next.ensures ∙ v.if-next-eq0.true));
             few = omega (arith, u.count-is, c.loop-i.invariant.few);
           }
@@ -92,12 +92,12 @@ loop-i-preserved g c =
         | else-next-eq0-3 u ↦ elim c.if-this-ne0.branch [
           | then-this-ne0 t ↦ record {
             fronted = rw (e, t.cells-is, t.joined-is, v.number-is, u.count-is, c.from-next.ensures)
-                (fronted_again c.rank.ensures.table c.loop-i.invariant.fronted w is t.join_mask.result (λ z. v.if-next-eq0.false (c.from-next.ensures ∙ z)));
+                (fronted_again (masked_table c.args.pairs.now c.rank.ensures.paired) c.loop-i.invariant.fronted w is t.join_mask.result (λ z. v.if-next-eq0.false (c.from-next.ensures ∙ z)));
             few = omega (arith, u.count-is, c.loop-i.invariant.few);
           }
           | else-this-ne0+else-next-eq0-2 t ↦ record {
             fronted = rw (e, t.cells-is, t.joined-is, v.number-is, u.count-is, c.from-next.ensures)
-                (fronted_old c.rank.ensures.table c.loop-i.invariant.fronted w is (λ z. v.if-next-eq0.false (c.from-next.ensures ∙ z)));
+                (fronted_old (masked_table c.args.pairs.now c.rank.ensures.paired) c.loop-i.invariant.fronted w is (λ z. v.if-next-eq0.false (c.from-next.ensures ∙ z)));
             few = omega (arith, u.count-is, c.loop-i.invariant.few);
           }
         ]

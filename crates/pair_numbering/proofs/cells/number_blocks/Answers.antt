@@ -24,7 +24,7 @@ returns c =
     let j = c.loop-block.block * 2 ^ rank in
     let made = c.loop-block.invariant.celled.made in
     let l = length-pairs c.args.pairs.now.entries.numbers (2 ^ rank) in
-    let a = all_pairs c.rank-rank.ensures.table.paired c.loop-block.block c.len.ensures.count c.rank-rank.ensures.rank c.loop-block-test.false in
+    let a = all_pairs c.rank-rank.ensures.paired c.loop-block.block c.len.ensures.count c.rank-rank.ensures.rank c.loop-block-test.false in
     let all : length ps ≤ j = subst (λ n. n ≤ j) (sym l) a in
     record {
       numbers_are = made_numbers 0 ps join c.loop-block.out joined j all made;

@@ -6,11 +6,17 @@ use Rattle.subfunction_classes.specs.Table.{ClassesOf, HoldsClasses, classes_of,
 use Rattle.subfunction_classes.proofs.OneMoreVariable.{is_ready, ready_table, holds_more}
 use Rattle.class_tables.proofs.classes.Classes.compact_by.Goals as goal
 
-pub of_table-pairs-requires-clause-table : goal.of_table-pairs-requires-clause-table
-of_table-pairs-requires-clause-table c = grind (arith, is_ready, ready_table)
+pub of_table-requires : goal.of_table-requires
+of_table-requires c = grind (arith, is_ready, ready_table)
 
-pub of_table-pairs-requires-clause-few : goal.of_table-pairs-requires-clause-few
-of_table-pairs-requires-clause-few c = grind (arith, is_ready)
+pub invariant_of-pairs : goal.invariant_of-pairs
+invariant_of-pairs c =
+    record {
+      few_entries = grind (arith, is_ready, ready_table);
+      below = grind (arith, is_ready, ready_table);
+      few = grind (arith, is_ready);
+      variable = grind (arith, is_ready);
+    }
 
 pub invariant_of-result : goal.invariant_of-result
 invariant_of-result c =
@@ -19,11 +25,11 @@ invariant_of-result c =
     let n = c.requires.inside in
     let m = h.few_inputs in
     let s = one_shl c.args.x 16 (omega arith) in
-    let t = c.of_table-pairs.ensures in
+    let t = c.of_table.ensures in
     let v = t.numbers ∙ c.deref.ensures.value in
-    let w = t.masks ∙ c.deref-2.ensures.value in
+    let w = c.deref-2.ensures.value in
     let q = subst (λ z. z)
-    (λ i. NumbersPairs (w i) (t.variable i) (places.pairs (v i) (2 ^ (t.rank ∙ e) i)) c.in_ok-numbered.numbered.numbers.items
+    (λ i. NumbersPairs (w i) c.args.x (places.pairs (v i) (2 ^ (t.rank ∙ e) i)) c.in_ok-numbered.numbered.numbers.items
     c.in_ok-numbered.numbered.masks.items)
     c.in_ok-numbered.ensures in
     let k = holds_more c.args.self.now c.args.x c.requires.inside c.requires.new c.self.inside.numbers.items c.self.inside.masks.items

@@ -19,8 +19,17 @@ width_counted t x inside new numbers masks count h q =
     let w = width_into t x inside new in
     q.counted ∙ sym (width_is_dependent_classes t.problem.inputs (functions_of t) (set_of (with_variable t x)) q.joined x inside w.0 k.masks_are) ∙ w.1
 
-pub of_table-pairs-requires-clause-table : goal.of_table-pairs-requires-clause-table
-of_table-pairs-requires-clause-table c = grind (arith, is_ready, ready_table)
+pub of_table-requires : goal.of_table-requires
+of_table-requires c = grind (arith, is_ready, ready_table)
+
+pub invariant_of-pairs : goal.invariant_of-pairs
+invariant_of-pairs c =
+    record {
+      few_entries = grind (arith, is_ready, ready_table);
+      below = grind (arith, is_ready, ready_table);
+      few = grind (arith, is_ready);
+      variable = grind (arith, is_ready);
+    }
 
 pub count_joined-width-requires-clause-few : goal.count_joined-width-requires-clause-few
 count_joined-width-requires-clause-few c = grind (arith, few_masks)
@@ -32,13 +41,10 @@ pub returns-clause-width : goal.returns-clause-width
 returns-clause-width c =
     let h = subst (λ (z : ClassesOf). HoldsClasses z c.self.inside.numbers.items c.self.inside.masks.items) c.self.view_is c.self.invariant in
     let e = c.rank_of-rank.ensures ∙ ap (λ (z : ClassesOf). free_below z.set c.args.x) c.self.view_is in
-    let t = c.of_table-pairs.ensures in
+    let t = c.of_table.ensures in
     width_counted c.args.self.now c.args.x c.requires.inside c.requires.new c.self.inside.numbers.items c.self.inside.masks.items c.count_joined-width.result h
     (subst (λ z. z)
-    (λ i. CountsMasks ((t.masks ∙ c.deref-2.ensures.value) i) (t.variable i)
+    (λ i. CountsMasks (c.deref-2.ensures.value i) c.args.x
     (places.pairs ((t.numbers ∙ c.deref.ensures.value) i) (2 ^ (t.rank ∙ e) i))
     c.count_joined-width.result)
     c.count_joined-width.ensures.count)
-
-pub of_table-pairs-requires-clause-few : goal.of_table-pairs-requires-clause-few
-of_table-pairs-requires-clause-few c = grind (arith, is_ready)

@@ -7,14 +7,17 @@ use Rattle.edge_walks.proofs.Full.{full_more}
 use Rattle.edge_walks.proofs.ShortenedTables.{pair_table, ready, rows_more}
 use Rattle.edge_walks.proofs.class_table.ClassTable.with_variable.Goals as goal
 
-pub of_table-pairs-requires-clause-table : goal.of_table-pairs-requires-clause-table
-of_table-pairs-requires-clause-table c = grind (arith, pair_table, ready)
+pub of_table-requires : goal.of_table-requires
+of_table-requires c = grind (arith, pair_table, ready)
 
-pub of_table-pairs-requires-clause-few : goal.of_table-pairs-requires-clause-few
-of_table-pairs-requires-clause-few c = grind (arith, pair_table, ready)
-
-pub of_table-pairs-requires-clause-variable : goal.of_table-pairs-requires-clause-variable
-of_table-pairs-requires-clause-variable c = grind (arith, pair_table, ready)
+pub invariant_of-pairs : goal.invariant_of-pairs
+invariant_of-pairs c =
+    record {
+      few_entries = grind (arith, pair_table, ready);
+      below = grind (arith, pair_table, ready);
+      few = grind (arith, pair_table, ready);
+      variable = grind (arith, pair_table, ready);
+    }
 
 pub table_of-requires : goal.table_of-requires
 table_of-requires c =
@@ -27,11 +30,11 @@ table_of-requires c =
     let free = subst (λ (z : TableOf). z.set % 2 ^ (c.args.x + 1) ≡ 0) (sym c.self.view_is) c.requires.free in
     let out = c.in_ok-numbered-in-None.numbered.numbers.items in
     let joined = c.in_ok-numbered-in-None.numbered.masks.items in
-    let t' = c.of_table-pairs.ensures in
-    let masks = t'.masks ∙ c.deref-in-None.ensures.value in
+    let t' = c.of_table.ensures in
+    let masks = c.deref-in-None.ensures.value in
     let numbers = t'.numbers ∙ c.deref.ensures.value in
     let rank = t'.rank ∙ c.from.ensures in
-    let made = subst (λ z. z) (λ i. NumbersPairs (masks i) (t'.variable i) (pairs (numbers i) (2 ^ rank i)) out joined)
+    let made = subst (λ z. z) (λ i. NumbersPairs (masks i) c.args.x (pairs (numbers i) (2 ^ rank i)) out joined)
     c.in_ok-numbered-in-None.ensures in
     let s = one_shl c.args.x 16 (omega arith) in
     subst (λ k. HoldsRows (table_at c.self.inside.problem.now (bit_or c.self.inside.set k) c.args.x) out joined) (sym s)

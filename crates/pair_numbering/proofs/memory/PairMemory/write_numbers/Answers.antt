@@ -10,7 +10,7 @@ join_masks-requires-clause-classes c =
     let n = c.in_ok-number.ensures in
     subst (λ us. ArePairsBelow us (length c.args.pairs.now.masks.now)) (sym c.deref.ensures.value)
     (met_classes c.args.pairs.now.entries.numbers c.args.pairs.now.entries.rank (length c.args.pairs.now.masks.now)
-    c.rank.ensures.table.paired.whole c.rank.ensures.table.below
+    c.rank.ensures.paired.whole c.args.pairs.now.below
     c.number.new.numbers.items c.number.new.self.pairs.items n.numbered_are n.many n.labels)
 
 pub returns : goal.returns
