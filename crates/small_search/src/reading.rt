@@ -10,52 +10,12 @@ use crate::instance::SmallSearch;
 use order_model::{Mask, VarIx};
 use subset_layers::Cell;
 
-/// Writes to `order`, which has a place for each variable, the order that `cells` gives, top first:
-/// the variable in the cell of the set of all variables, then the one in the cell of the set
-/// without it, and so on. `cells[m]` is the cell of the set with the mask m, for the problem of
-/// `search`.
-fn read_variables(search: &SmallSearch<'_>, cells: &[Cell], order: &mut [VarIx])
-    requires cells { AreFlatCells search.now cells.now }
-    requires long { length order.old ≡ search.now.problem.inputs }
-    ensures read { IsReadOff search.now order.new }
-    ensures long { length order.new ≡ length order.old }
-{
-    prove!(search.inputs() <= 16);
-    let mut set = (cells.len() - 1) as Mask;
-    for place in 0..order.len() {
-        let x = cells[set as usize].variable;
-        order[place] = x;
-        set -= 1 << x;
-    }
-}
-
-/// Writes to `levels` the level counts of `order`, top first: for each variable the cost of the set
-/// of it and all below it, less the cost of the set of those below it. `cells[m]` is the cell of
-/// the set with the mask m, for the problem of `search`. Requires that `order` is the one that
-/// these cells give, and that `levels` is as long.
-fn count_levels(search: &SmallSearch<'_>, cells: &[Cell], order: &[VarIx], levels: &mut [u32])
-    requires cells { AreFlatCells search.now cells.now }
-    requires read { IsReadOff search.now order.now }
-    requires long { length order.now ≡ search.now.problem.inputs }
-    requires counts { length levels.old ≡ length order.now }
-    ensures { levels.new ≡ level_counts search.now.problem.inputs (functions search.now.problem)
-        order.now }
-{
-    prove!(search.inputs() <= 16);
-    let mut set = (cells.len() - 1) as Mask;
-    let mut cost = cells[set as usize].cost;
-    for place in 0..order.len() {
-        set -= 1 << order[place];
-        let below = cells[set as usize].cost;
-        levels[place] = cost - below;
-        cost = below;
-    }
-}
-
 /// Writes the first order of the fewest nodes, among those that keep the pairs of `search`, to
 /// `order`, top first, and its level counts to `levels`; both have a place for each variable.
 /// Returns its size, the number of nodes. `cells[m]` is the cell of the set with the mask m, for
-/// the problem of `search`.
+/// the problem of `search`. The order is the variable in the cell of the set of all variables, then
+/// the one in the cell of the set without it, and so on; a level count is the cost of the set of a
+/// variable and all below it, less the cost of the set of those below it.
 pub(crate) fn read_optimum(
     search: &SmallSearch<'_>,
     cells: &[Cell],
@@ -71,7 +31,16 @@ pub(crate) fn read_optimum(
     ensures counts { length levels.new ≡ length levels.old }
 {
     prove!(search.inputs() <= 16);
-    read_variables(search, cells, order);
-    count_levels(search, cells, order, levels);
-    cells[cells.len() - 1].cost
+    let mut set = (cells.len() - 1) as Mask;
+    let size = cells[set as usize].cost;
+    let mut cost = size;
+    for place in 0..order.len() {
+        let x = cells[set as usize].variable;
+        order[place] = x;
+        set -= 1 << x;
+        let below = cells[set as usize].cost;
+        levels[place] = cost - below;
+        cost = below;
+    }
+    size
 }
