@@ -1,14 +1,12 @@
 -- The members of a set, taken off one after the other from the lowest.
 --     lowest_taken      the lowest one of some that are left
---     below_all      members are below the number of variables
-use Rattle.std.proofs.Common.{◌≡◌, ℕ, zero, suc, ◌+◌, ◌-◌, ◌^◌, ◌<◌, inl, inr, List, [], ◌∷◌, length, get_or, ap, ◌∙◌, arith, w16}
+use Rattle.std.proofs.Common.{◌≡◌, ℕ, ◌+◌, ◌-◌, ◌^◌, ◌<◌, inl, inr, ◌∷◌, length, ap, ◌∙◌, arith, w16}
 use Rattle.std.specs.Int.{trailing_zeros}
 use Rattle.std.proofs.lemmas.Bool.{cases_eq, cases_lt}
 use Rattle.std.proofs.lemmas.Nat.Bits.{bit_at_above}
 use Rattle.definitions.specs.Orders.{members}
 use Rattle.definitions.proofs.Widths.Cells.{members_zero}
 use Rattle.small_search.proofs.LowestVariables.{lowest, parent_back}
-use Rattle.small_search.proofs.ValueLaws.{AreFresh}
 use Rattle.small_search.proofs.ValueSteps.{members_lowest}
 
 pub record IsTaken (rest : ℕ) : Type 0 where
@@ -26,8 +24,3 @@ lowest_taken rest small some =
     ]) small in
     let inside : x < 16 = elim (cases_lt x 16) [ inl l ↦ l | inr g ↦ absurd (omega (arith, bit_at_above rest 16 x small g, low.bit)) ] in
     record { small = inside; back = parent_back rest x low; members_are = members_lowest 16 rest x low inside }
-
-pub below_all : (n : ℕ) (S : List ℕ) → AreFresh n S → (i : ℕ) → i < length S → get_or S i 0 < n
-below_all n [] fresh i l = absurd (omega arith)
-below_all n (x ∷ S) fresh zero l = fresh.0
-below_all n (x ∷ S) fresh (suc i) l = below_all n S fresh.2 i (omega arith)

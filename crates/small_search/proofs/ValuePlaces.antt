@@ -1,7 +1,7 @@
 -- The variables that values depend on, by their places.
 --     mask_inside      a value over S depends on variables of S alone
 --     place_bit      bit j stands for the variable at place j from the end of S
---     joined_bits, four_places      the places of a joined value over four variables, and their mask
+--     joined_bits      the places of a joined value over four variables
 --     mask_of_places      the mask of a value's places is what it depends on
 --     places_small, places_below      bits at k and above are 0, so the places are a small number
 --     places_none, places_more      the value 0 depends on nothing; a smaller value over more variables
@@ -229,17 +229,3 @@ pub joined_bits : (low high : ℕ) → low < 256 → high < 256 →
 unfolding places
 joined_bits low high l m =
     ap₂ (λ i j. bit_or (bit_or (places 3 i) (places 3 j)) (cond (nat_eq i j) 0 8)) (low_half low high 256 l) (high_half low high 256 l)
-
--- the mask of places of four variables
-pub four_places : (S : List ℕ) (q : ℕ) → length S ≡ 4 →
-    mask_at S q ≡ bit_or (bit_or (bit_or (cond (eqb (bit_at q 0) 1) (2 ^ get_or S 3 0) 0) (cond (eqb (bit_at q 1) 1) (2 ^ get_or S 2 0) 0))
-    (cond (eqb (bit_at q 2) 1) (2 ^ get_or S 1 0) 0)) (cond (eqb (bit_at q 3) 1) (2 ^ get_or S 0 0) 0)
-unfolding mask_at
-four_places [] q e = absurd (omega (arith, e))
-four_places (a ∷ []) q e = absurd (omega (arith, e))
-four_places (a ∷ b ∷ []) q e = absurd (omega (arith, e))
-four_places (a ∷ b ∷ c ∷ []) q e = absurd (omega (arith, e))
-four_places (a ∷ b ∷ c ∷ d ∷ []) q e =
-    ap (λ m. bit_or (bit_or (bit_or m (cond (eqb (bit_at q 1) 1) (2 ^ c) 0)) (cond (eqb (bit_at q 2) 1) (2 ^ b) 0)) (cond (eqb (bit_at q 3) 1) (2 ^ a) 0))
-    (or_zero_l (cond (eqb (bit_at q 0) 1) (2 ^ d) 0))
-four_places (a ∷ b ∷ c ∷ d ∷ f ∷ S) q e = absurd (omega (arith, e))

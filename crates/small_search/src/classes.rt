@@ -61,74 +61,36 @@ fn joined_places(pair: (u32, u32)) -> u8
     if pair.0 == pair.1 { halves } else { halves | 8 }
 }
 
-/// The four variables of `set`, the lowest first. Requires that it has four.
-fn variables_of(set: Mask) -> [VarIx; 4]
+/// For each mask q of places, from 0 to 15, the mask of the variables of `set` at these places. The
+/// lowest variable has place 3, the highest place 0. Requires that `set` has four variables.
+fn masks_by_places(set: Mask) -> [Mask; 16]
     requires { count_ones set ≡ 4 }
-    ensures { result ≡ members 16 set }
-{
-    let mut variables = [0; 4];
-    let mut rest = set;
-    for i in 0..4 {
-        let x = rest.trailing_zeros() as VarIx;
-        variables[i] = x;
-        rest -= 1 << x;
-    }
-    variables
-}
-
-/// The mask of the variable x if bit `place` of `places` is 1, else 0. Requires `place` to be below
-/// 8.
-#[inline(always)]
-fn variable_at(places: u8, place: u32, x: VarIx) -> Mask
-    requires place { place < 8 }
-    requires variable { x < 16 }
-    ensures { result ≡ (if bit_at places place == 1 then 2 ^ x else 0) }
-{
-    Mask::from((places >> place) & 1) << x
-}
-
-/// The mask of those of the four variables whose places are in the mask `places`: bit 3 stands for
-/// `variables[0]`, bit 2 for `variables[1]`, bit 1 for `variables[2]` and bit 0 for `variables[3]`.
-#[inline(always)]
-fn mask_of_places(variables: &[VarIx; 4], places: u8) -> Mask
-    requires { AllBelow variables.now 16 }
-    ensures { result ≡ mask_at variables.now places }
-{
-    variable_at(places, 0, variables[3])
-        | variable_at(places, 1, variables[2])
-        | variable_at(places, 2, variables[1])
-        | variable_at(places, 3, variables[0])
-}
-
-/// For each mask q of places, from 0 to 15, the mask of the variables at these places. The places
-/// of `variables[0]` to `variables[3]` are 3, 2, 1 and 0.
-fn masks_by_places(variables: &[VarIx; 4]) -> [Mask; 16]
-    requires { AllBelow variables.now 16 }
-    ensures { (q : ℕ) → q < 16 → slice_index result q ≡ mask_at variables.now q }
+    ensures { (q : ℕ) → q < 16 → slice_index result q ≡ mask_at (members 16 set) q }
 {
     let mut masks = [0; 16];
-    for places in 0..16u8 {
-        masks[places as usize] = mask_of_places(variables, places);
+    let mut rest = set;
+    for i in 0..4u32 {
+        let x = rest.trailing_zeros();
+        for q in 0..16u16 {
+            masks[q as usize] |= ((q >> (3 - i)) & 1) << x;
+        }
+        rest -= 1 << x;
     }
     masks
 }
 
-/// Overwrites `masks`: entry k becomes the mask of those of the four `variables`, lowest first, on
-/// which the function of pair k depends. The pair is the function's cofactors where the lowest
-/// variable is 0 and where it is 1, as truth tables of the other three, below 256. If memory is
-/// refused, `masks` has no meaning.
-fn write_masks(
-    pairs: &[(u32, u32)],
-    variables: &[VarIx; 4],
-    masks: &mut Vec<Mask>,
-) -> Result<(), AllocError>
-    requires variables { AllBelow variables.now 16 }
+/// Overwrites `masks`: entry k becomes the mask of those of the four variables of `set` on which
+/// the function of pair k depends. The pair is the function's cofactors where the lowest variable
+/// is 0 and where it is 1, as truth tables of the other three, below 256. If memory is refused,
+/// `masks` has no meaning.
+fn write_masks(pairs: &[(u32, u32)], set: Mask, masks: &mut Vec<Mask>) -> Result<(), AllocError>
+    requires four { count_ones set ≡ 4 }
     requires lower { (k : ℕ) → k < length pairs.now → (get_or pairs.now k (0, 0)).0 < 256 }
     requires upper { (k : ℕ) → k < length pairs.now → (get_or pairs.now k (0, 0)).1 < 256 }
     ensures { OnOk result (masks.new.items
-        ≡ map (λ p. mask_at variables.now (places 4 (p.0 + p.1 * 256))) pairs.now) }
+        ≡ map (λ p. mask_at (members 16 set) (places 4 (p.0 + p.1 * 256))) pairs.now) }
 {
-    let by_places = masks_by_places(variables);
+    let by_places = masks_by_places(set);
     let count = pairs.len();
     masks.resize(count, 0)?;
     for k in 0..count {
@@ -169,6 +131,6 @@ pub(crate) fn number_values(
     widen(values, &mut memory.values)?;
     let entries = EntryPairs::of_table(&memory.values, u32::from(x));
     memory.pairs.number(&entries, 256, &mut to.numbers)?;
-    write_masks(&memory.pairs.pairs, &variables_of(set), &mut to.masks)?;
+    write_masks(&memory.pairs.pairs, set, &mut to.masks)?;
     Ok(())
 }

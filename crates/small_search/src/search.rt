@@ -93,34 +93,6 @@ fn subfunctions_in<'a>(
     }
 }
 
-/// The cell of `set`, which isn't empty. `cells[m]` is the cell of the set with the mask m, for all
-/// m below `set`. Requires `tables` to be those for the set with the mask `set - 1`, and turns them
-/// into those for `set`: for each k, the table of the subfunctions over its k highest variables. If
-/// memory is refused, `tables` has no meaning. If `all_lawful` is true the set counts as lawful;
-/// this requires that there are no pairs to keep.
-#[inline(always)]
-fn next_cell(
-    search: &SmallSearch<'_>,
-    tables: &mut PathTables,
-    cells: &[Cell],
-    set: Mask,
-    all_lawful: bool,
-) -> Result<Cell, AllocError>
-    requires some { 0 < set }
-    requires within { set < 2 ^ search.now.problem.inputs }
-    requires path { HoldPath search.now.problem (set - 1) tables.old }
-    requires cells { AreFirstCells search.now set cells.now }
-    requires lawful { IsTrue all_lawful → search.now.pairs.pairs ≡ [] }
-    ensures path { OnOk result (HoldPath search.now.problem set tables.new) }
-    ensures cell { IfOk result (λ c. pair_of c ≡ cell_for search.now set) }
-    ensures few { IfOk result (λ c. IsFew search.now set c.cost) }
-{
-    tables.add_lowest(search, set)?;
-    let lawful = all_lawful || search.lawful(set);
-    let subfunctions = subfunctions_in(search, tables, set);
-    Ok(cell_of_set(search, cells, &subfunctions, set, lawful))
-}
-
 /// Overwrites `cells` with the cells of all sets: `cells[m]` becomes that of the set with the mask
 /// m, and `cells[0]` gets the cost 0. `tables` is working memory; what it has before doesn't
 /// matter. If memory is refused, `cells` has no meaning.
@@ -142,7 +114,11 @@ fn find_cells(
         variable: 0,
     })?;
     for number in 1..sets {
-        let cell = next_cell(search, tables, cells, number as Mask, all_lawful)?;
+        let set = number as Mask;
+        tables.add_lowest(search, set)?;
+        let lawful = all_lawful || search.lawful(set);
+        let subfunctions = subfunctions_in(search, tables, set);
+        let cell = cell_of_set(search, cells, &subfunctions, set, lawful);
         cells.push(cell)?;
     }
     Ok(())

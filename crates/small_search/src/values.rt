@@ -84,32 +84,6 @@ pub(crate) fn join_values(before: &[u8], x: VarIx, shift: u32, values: &mut [u8]
     }
 }
 
-/// Which numbers occur in `values`: bit v % 64 of word v / 64 is 1 if v occurs. Requires that all
-/// of them are below 64.
-#[inline(always)]
-fn few_occurring(values: &[u8]) -> [u64; 4]
-    requires { AllBelow values.now 64 }
-    ensures { AreOccurring values.now result }
-{
-    let mut found = 0;
-    for value in values {
-        found |= 1u64 << (*value & 63);
-    }
-    [found, 0, 0, 0]
-}
-
-/// Which numbers occur in `values`: bit v % 64 of word v / 64 is 1 if v occurs.
-#[inline(always)]
-fn all_occurring(values: &[u8]) -> [u64; 4]
-    ensures { AreOccurring values.now result }
-{
-    let mut found = [0; 4];
-    for value in values {
-        found[(*value >> 6) as usize] |= 1u64 << (*value & 63);
-    }
-    found
-}
-
 /// Which numbers occur in `values`, the truth tables of functions of `size` variables: bit v % 64
 /// of word v / 64 is 1 if v occurs. Requires that all of them are below 64 if `size` is at most 2.
 pub(crate) fn occurring(values: &[u8], size: u32) -> [u64; 4]
@@ -117,8 +91,15 @@ pub(crate) fn occurring(values: &[u8], size: u32) -> [u64; 4]
     ensures { AreOccurring values.now result }
 {
     if size <= 2 {
-        few_occurring(values)
-    } else {
-        all_occurring(values)
+        let mut first = 0;
+        for value in values {
+            first |= 1u64 << (*value & 63);
+        }
+        return [first, 0, 0, 0];
     }
+    let mut found = [0; 4];
+    for value in values {
+        found[(*value >> 6) as usize] |= 1u64 << (*value & 63);
+    }
+    found
 }

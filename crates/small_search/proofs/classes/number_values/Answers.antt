@@ -1,4 +1,4 @@
-use Rattle.std.proofs.Common.{◌≡◌, ℕ, ◌+◌, ◌*◌, ◌<◌, ◌^◌, List, map, length, get_or, sym, ap, subst, ◌∙◌, arith}
+use Rattle.std.proofs.Common.{◌≡◌, ℕ, ◌+◌, ◌*◌, ◌^◌, List, map, length, get_or, sym, ap, subst, ◌∙◌, arith}
 use Rattle.definitions.specs.Orders.{members}
 use Rattle.definitions.proofs.Bits.Ones.{ones-members}
 use Rattle.definitions.proofs.Lists.Maps.{map_same}
@@ -6,13 +6,11 @@ use Rattle.subfunction_classes.specs.Places as places_of_pairs
 use Rattle.subfunction_classes.proofs.DistinctPairs.{met_classes, masks_many, masks_told}
 use Rattle.pair_numbering.specs.Numbers.{ArePairsBelow, ArePairsNumbered}
 use Rattle.small_search.specs.Values.{mask_at, mask_over, places}
-use Rattle.small_search.proofs.FourVariables.{below_all}
 use Rattle.small_search.proofs.ValuePlaces.{mask_of_places}
-use Rattle.small_search.proofs.ValueSteps.{fresh_members}
 use Rattle.small_search.proofs.classes.number_values.Goals as goal
 
 -- the numbers are those of pairs of values
-numbered : (c : goal.After-write_masks-arg-2-1) →
+numbered : (c : goal.After-write_masks-arg-1) →
     ArePairsNumbered c.args.values.now c.args.x c.number.new.numbers.items c.number.new.self.pairs.items
 numbered c =
     let e = c.of_table-entries.ensures in
@@ -21,17 +19,12 @@ numbered c =
     subst (λ z. z) (λ i. ArePairsNumbered (values i) (rank i) c.number.new.numbers.items c.number.new.self.pairs.items) c.in_ok-number.ensures
 
 -- both values of each pair
-bytes : (c : goal.After-write_masks-arg-2-1) → ArePairsBelow c.deref-2.result.now 256
+bytes : (c : goal.After-write_masks-arg-1) → ArePairsBelow c.deref-2.result.now 256
 bytes c =
     let n = numbered c in
     subst (λ ps. ArePairsBelow ps 256) (sym c.deref-2.ensures.value)
     (met_classes c.args.values.now c.args.x 256 c.requires.paired.whole c.requires.below c.number.new.numbers.items c.number.new.self.pairs.items
     n.numbered_are n.many n.labels)
-
-pub write_masks-requires-clause-variables : goal.write_masks-requires-clause-variables
-write_masks-requires-clause-variables c =
-    subst (λ (us : List ℕ). (i : ℕ) → i < length us → get_or us i 0 < 16) (sym c.variables_of.ensures)
-    (below_all 16 (members 16 c.args.set) (fresh_members 16 c.args.set))
 
 pub write_masks-requires-clause-lower : goal.write_masks-requires-clause-lower
 write_masks-requires-clause-lower c = λ k l. (bytes c k l).0
@@ -54,7 +47,6 @@ returns c =
     let four = c.requires.four in
     let size : length S ≡ 4 = omega (arith, o, four) in
     let masks = c.in_ok-write_masks.ensures
-    ∙ ap (λ (vs : List ℕ). map (λ (p : ℕ × ℕ). mask_at vs (places 4 (p.0 + p.1 * 256))) c.deref-2.result.now) c.variables_of.ensures
     ∙ ap (λ (us : List (ℕ × ℕ)). map (λ (p : ℕ × ℕ). mask_at S (places 4 (p.0 + p.1 * 256))) us) c.deref-2.ensures.value
     ∙ map_same (λ (p : ℕ × ℕ). mask_at S (places 4 (p.0 + p.1 * 256))) join pairs
     (λ p a. ap (λ k. mask_at S (places k (p.0 + p.1 * 256))) (sym size) ∙ mask_of_places S (p.0 + p.1 * 256)) in

@@ -1,13 +1,16 @@
-use Rattle.std.proofs.Common.{◌≡◌, ℕ, ◌+◌, ◌-◌, ◌*◌, ◌%◌, ◌^◌, ◌≤◌, inl, inr, List, [], ◌∷◌, ◌++◌, sym, ap, ◌∙◌, subst, arith, pow_mono}
+use Rattle.std.proofs.Common.{◌≡◌, ℕ, ◌+◌, ◌-◌, ◌*◌, ◌%◌, ◌^◌, ◌≤◌, true, refl, inl, inr, List, [], ◌∷◌, ◌++◌, sym, ap, ◌∙◌, subst, arith, pow_mono}
 use Rattle.std.proofs.lemmas.Bool.{cases_lt}
 use Rattle.std.proofs.lemmas.List.{length-append, get_or_append_left, get_or_push}
 use Rattle.std.proofs.lemmas.Nat.{one_shl, pow_pos}
+use Rattle.definitions.specs.Orders.{members}
+use Rattle.definitions.specs.Pairs.{Pair, is_lawful}
 use Rattle.subset_layers.specs.declared.costs.Cell.{Cell}
 use Rattle.layer_core.specs.Pairing.{no_cell, pair_of}
 use Rattle.layer_core.specs.Instances.{InstanceOf, cell_for}
 use Rattle.small_search.specs.FirstCells.{AreFirstCells, IsFew}
 use Rattle.small_search.specs.Paths.{HoldPath}
 use Rattle.small_search.proofs.search.find_cells.Goals as goal
+use Rattle.small_search.proofs.search.find_cells.Goals.{then-all_lawful, else-all_lawful}
 
 -- how many sets there are
 sets_are : (n m : ℕ) → n ≡ m → n ≤ 16 → (1 * 2 ^ n % 2 ^ 32 ≡ 2 ^ m) × (2 ^ m ≤ 65536)
@@ -15,12 +18,28 @@ sets_are n m e few =
     let s = one_shl n 32 (omega (arith, few)) in
     (s ∙ ap (λ k. 2 ^ k) e, let b : m ≤ 16 = omega (arith, e, few) in pow_mono b)
 
-pub overflow_cast-number : goal.overflow_cast-number
-overflow_cast-number c =
+pub overflow_cast-set : goal.overflow_cast-set
+overflow_cast-set c =
     let i = c.inputs.ensures in
     let s = sets_are _ _ i.value i.few in
     let t = c.loop-number-test.true in
     record { fits = omega (arith, s.0, s.1, t) }
+
+-- no pairs are kept by all sets
+all : (S : List ℕ) → is_lawful [] S ≡ true
+unfolding is_lawful
+all S = refl
+
+pub cell_of_set-cell-requires-clause-lawful : goal.cell_of_set-cell-requires-clause-lawful
+cell_of_set-cell-requires-clause-lawful c =
+    let t = c.args.search.now in
+    let S = members t.problem.inputs c.loop-number.number in
+    elim c.if-all_lawful.branch [
+      | then-all_lawful w ↦
+          w.lawful-is ∙ w.if-all_lawful.true
+          ∙ sym (ap (λ (P : List Pair). is_lawful P S) (c.has_no_pairs-all_lawful.ensures w.if-all_lawful.true) ∙ all S)
+      | else-all_lawful w ↦ w.lawful-is ∙ w.lawful-lawful.ensures
+    ]
 
 -- one cell more
 cells_more : (t : InstanceOf) (number : ℕ) (cells : List Cell) (cell : Cell) → 1 ≤ number → AreFirstCells t number cells → pair_of cell ≡ cell_for t number →
@@ -50,11 +69,10 @@ pub loop-number-preserved : goal.loop-number-preserved
 loop-number-preserved c =
     let t = c.args.search.now in
     let number = c.loop-number.number in
-    let h = c.in_ok-cell.ensures in
-    let d = c.deref.ensures.value in
-    let more = cells_more t number c.loop-number.cells.items c.in_ok-cell.cell c.loop-number.auto.number c.loop-number.invariant.first h.cell h.few in
+    let h = c.cell_of_set-cell.ensures in
+    let more = cells_more t number c.loop-number.cells.items c.cell_of_set-cell.result c.loop-number.auto.number c.loop-number.invariant.first h.cell h.few in
     record {
-      path = subst (λ (k : ℕ). HoldPath t.problem k c.next_cell.new.tables) (let e : number ≡ number + 1 - 1 = omega arith in e) h.path;
+      path = subst (λ (k : ℕ). HoldPath t.problem k c.add_lowest.new.self) (let e : number ≡ number + 1 - 1 = omega arith in e) c.in_ok-add_lowest.ensures;
       first = subst (λ (us : List Cell). AreFirstCells t (number + 1) us) (sym c.in_ok-push-2.ensures.items) more;
     }
 

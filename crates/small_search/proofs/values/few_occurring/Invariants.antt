@@ -1,6 +1,0 @@
-use Rattle.std.proofs.Common.{[], ◌∷◌, take}
-use Rattle.small_search.specs.Counting.{AreOccurring}
-use Rattle.small_search.proofs.values.few_occurring.Given as goal
-
-abbrev pub invariant-loop-value : goal.invariant-loop-value
-invariant-loop-value l = AreOccurring (take l.value-index l.values) (l.found ∷ 0 ∷ 0 ∷ 0 ∷ [])
