@@ -30,12 +30,20 @@ fn labels_strip_pairs(rt: &impl Abort, alloc: Global) -> bool {
     let mut memory = PairMemory::new(alloc);
     let four = label_pairs(
         &mut memory,
-        &MaskedPairs::of_strips(&names, &[0, 1, 2, 0], 1, 3, &[1, 2, 4]),
+        &MaskedPairs {
+            entries: EntryPairs::of_strips(&names, &[0, 1, 2, 0], 1),
+            masks: &[1, 2, 4],
+            x: 3,
+        },
     );
     let is_four = have_keys(four.expect(rt, "memory"), &[0, 1, 2, 3], &[13, 11, 4, 1]);
     let two = label_pairs(
         &mut memory,
-        &MaskedPairs::of_strips(&names, &[0, 1, 1, 0], 1, 3, &[1, 2]),
+        &MaskedPairs {
+            entries: EntryPairs::of_strips(&names, &[0, 1, 1, 0], 1),
+            masks: &[1, 2],
+            x: 3,
+        },
     );
     let is_two = have_keys(two.expect(rt, "memory"), &[2, 1, 3, 0], &[1, 11, 11, 2]);
     is_four && is_two
@@ -43,7 +51,11 @@ fn labels_strip_pairs(rt: &impl Abort, alloc: Global) -> bool {
 
 /// Whether the pairs of the entries 0 to 3 have the numbers 0 and 1, and their masks.
 fn numbers_distinct_entries(rt: &impl Abort, alloc: Global) -> bool {
-    let pairs = MaskedPairs::of_table(&[0, 1, 2, 3], 1, 3, &[1, 2, 4, 1]);
+    let pairs = MaskedPairs {
+        entries: EntryPairs::of_table(&[0, 1, 2, 3], 1),
+        masks: &[1, 2, 4, 1],
+        x: 3,
+    };
     let found = number_with_masks(&mut PairMemory::new(alloc), &pairs).expect(rt, "memory");
     found.numbers.as_slice() == [0, 1].as_slice() && found.masks.as_slice() == [13, 11].as_slice()
 }

@@ -71,6 +71,7 @@ overflow_add-count g c =
 
 pub loop-i-preserved : goal.loop-i-preserved
 loop-i-preserved g c =
+    let table = masked_table c.args.pairs.now c.rank.ensures.paired in
     let w = in_step c.rank.ensures.paired c.rank.ensures.rank c.requires.block c.loop-i-test.true in
     let is = c.block.ensures.pairs c.loop-i.i w.early in
     let e = place_is c.rank.ensures.paired c.args.block c.loop-i.i c.rank.ensures.rank in
@@ -79,7 +80,7 @@ loop-i-preserved g c =
         | then-next-eq0-3 u ↦ elim c.if-this-ne0.branch [
           | then-this-ne0 t ↦ record {
             fronted = rw (e, t.cells-is, t.joined-is, v.number-is, u.count-is)
-                (fronted_new (masked_table c.args.pairs.now c.rank.ensures.paired) c.loop-i.invariant.fronted w is t.join_mask.result t.join_mask.ensures
+                (fronted_new table c.loop-i.invariant.fronted w is t.join_mask.result t.join_mask.ensures
                 (sym c.from-next.ensures ∙ v.if-next-eq0.true));
             few = omega (arith, u.count-is, c.loop-i.invariant.few);
           }
@@ -92,12 +93,12 @@ loop-i-preserved g c =
         | else-next-eq0-3 u ↦ elim c.if-this-ne0.branch [
           | then-this-ne0 t ↦ record {
             fronted = rw (e, t.cells-is, t.joined-is, v.number-is, u.count-is, c.from-next.ensures)
-                (fronted_again (masked_table c.args.pairs.now c.rank.ensures.paired) c.loop-i.invariant.fronted w is t.join_mask.result (λ z. v.if-next-eq0.false (c.from-next.ensures ∙ z)));
+                (fronted_again table c.loop-i.invariant.fronted w is t.join_mask.result (λ z. v.if-next-eq0.false (c.from-next.ensures ∙ z)));
             few = omega (arith, u.count-is, c.loop-i.invariant.few);
           }
           | else-this-ne0+else-next-eq0-2 t ↦ record {
             fronted = rw (e, t.cells-is, t.joined-is, v.number-is, u.count-is, c.from-next.ensures)
-                (fronted_old (masked_table c.args.pairs.now c.rank.ensures.paired) c.loop-i.invariant.fronted w is (λ z. v.if-next-eq0.false (c.from-next.ensures ∙ z)));
+                (fronted_old table c.loop-i.invariant.fronted w is (λ z. v.if-next-eq0.false (c.from-next.ensures ∙ z)));
             few = omega (arith, u.count-is, c.loop-i.invariant.few);
           }
         ]

@@ -25,32 +25,37 @@ loop-place-init c =
 pub overflow_shl-set : goal.overflow_shl-set
 overflow_shl-set c =
     let e = c.inputs.ensures in
-    variable_small c.args.search.now e.plain (few_inputs _ _ e.value e.few) c.args.cells.now c.requires.cells c.loop-place.set c.loop-place.cost c.loop-place.order
-    c.loop-place.levels c.loop-place.place c.loop-place.invariant (shorter _ _ c.loop-place.place _ c.requires.places c.loop-place.invariant.many c.loop-place-test.true)
+    variable_small c.args.search.now e.plain (few_inputs _ _ e.value e.few) c.args.cells.now c.requires.cells c.loop-place.set c.loop-place.cost
+    c.loop-place.order c.loop-place.levels c.loop-place.place c.loop-place.invariant
+    (shorter _ _ c.loop-place.place _ c.requires.places c.loop-place.invariant.many c.loop-place-test.true)
 
 pub overflow_sub-set-in-loop-place : goal.overflow_sub-set-in-loop-place
 overflow_sub-set-in-loop-place c =
     let e = c.inputs.ensures in
-    variable_fits c.args.search.now e.plain (few_inputs _ _ e.value e.few) c.args.cells.now c.requires.cells c.loop-place.set c.loop-place.cost c.loop-place.order
-    c.loop-place.levels c.loop-place.place c.loop-place.invariant (shorter _ _ c.loop-place.place _ c.requires.places c.loop-place.invariant.many c.loop-place-test.true)
+    variable_fits c.args.search.now e.plain (few_inputs _ _ e.value e.few) c.args.cells.now c.requires.cells c.loop-place.set c.loop-place.cost
+    c.loop-place.order c.loop-place.levels c.loop-place.place c.loop-place.invariant
+    (shorter _ _ c.loop-place.place _ c.requires.places c.loop-place.invariant.many c.loop-place-test.true)
 
 pub bounds-cells-set-in-loop-place-2 : goal.bounds-cells-set-in-loop-place-2
 bounds-cells-set-in-loop-place-2 c =
     let e = c.inputs.ensures in
-    cell_there c.args.search.now e.plain (few_inputs _ _ e.value e.few) c.args.cells.now c.requires.cells c.loop-place.set c.loop-place.cost c.loop-place.order
-    c.loop-place.levels c.loop-place.place c.loop-place.invariant (shorter _ _ c.loop-place.place _ c.requires.places c.loop-place.invariant.many c.loop-place-test.true)
+    cell_there c.args.search.now e.plain (few_inputs _ _ e.value e.few) c.args.cells.now c.requires.cells c.loop-place.set c.loop-place.cost
+    c.loop-place.order c.loop-place.levels c.loop-place.place c.loop-place.invariant
+    (shorter _ _ c.loop-place.place _ c.requires.places c.loop-place.invariant.many c.loop-place-test.true)
 
 pub overflow_sub-levels : goal.overflow_sub-levels
 overflow_sub-levels c =
     let e = c.inputs.ensures in
-    cost_falls c.args.search.now e.plain (few_inputs _ _ e.value e.few) c.args.cells.now c.requires.cells c.loop-place.set c.loop-place.cost c.loop-place.order
-    c.loop-place.levels c.loop-place.place c.loop-place.invariant (shorter _ _ c.loop-place.place _ c.requires.places c.loop-place.invariant.many c.loop-place-test.true)
+    cost_falls c.args.search.now e.plain (few_inputs _ _ e.value e.few) c.args.cells.now c.requires.cells c.loop-place.set c.loop-place.cost
+    c.loop-place.order c.loop-place.levels c.loop-place.place c.loop-place.invariant
+    (shorter _ _ c.loop-place.place _ c.requires.places c.loop-place.invariant.many c.loop-place-test.true)
 
 pub loop-place-preserved : goal.loop-place-preserved
 loop-place-preserved c =
     let e = c.inputs.ensures in
-    both_next c.args.search.now e.plain (few_inputs _ _ e.value e.few) c.args.cells.now c.requires.cells c.loop-place.set c.loop-place.cost c.loop-place.order
-    c.loop-place.levels c.loop-place.place c.loop-place.invariant (shorter _ _ c.loop-place.place _ c.requires.places c.loop-place.invariant.many c.loop-place-test.true)
+    both_next c.args.search.now e.plain (few_inputs _ _ e.value e.few) c.args.cells.now c.requires.cells c.loop-place.set c.loop-place.cost
+    c.loop-place.order c.loop-place.levels c.loop-place.place c.loop-place.invariant
+    (shorter _ _ c.loop-place.place _ c.requires.places c.loop-place.invariant.many c.loop-place-test.true)
 
 pub returns-clause-optimum : goal.returns-clause-optimum
 returns-clause-optimum c =
