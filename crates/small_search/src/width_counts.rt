@@ -45,16 +45,6 @@ const DEPENDENT: [[u64; 4]; 3] = [
     ],
 ];
 
-/// The truth tables of three variables, as numbers below 256, that depend on the variable at
-/// `place`: bit v % 64 of word v / 64 is 1 if v does. The highest variable has place 0, the lowest
-/// place 2.
-fn dependent_values(place: u32) -> [u64; 4]
-    requires { place < 3 }
-    ensures { AreDependent place result }
-{
-    DEPENDENT[place as usize]
-}
-
 /// How many of the truth tables in `occurring`, of at most three variables, depend on the variable
 /// at `place`. Bit v % 64 of word v / 64 of `occurring` is 1 if the truth table with the number v
 /// is one of them. Places are 0 to 2, and the highest variable has place 0.
@@ -64,7 +54,7 @@ pub(crate) fn count_dependent(occurring: &[u64; 4], place: u32) -> u32
     ensures dependents { result ≡ dependents_in occurring.now place }
     ensures few { result ≤ 256 }
 {
-    let dependent = dependent_values(place);
+    let dependent = &DEPENDENT[place as usize];
     let mut count = 0;
     for i in 0..4 {
         count += (occurring[i] & dependent[i]).count_ones();
