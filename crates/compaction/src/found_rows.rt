@@ -42,8 +42,8 @@ impl<'a> SharedTables<'a> {
         Ok(found)
     }
 
-    /// Computes all rows of widths in `requests`, by the threads of `workers` workers. A request for
-    /// another number of variables than the problem's is skipped.
+    /// Computes all rows of widths in `requests`, by the threads of `workers` workers. A request
+    /// for another number of variables than the problem's is skipped.
     pub(crate) fn rows_by_workers<R: Threads + Sync>(
         &self,
         rt: &R,

@@ -245,8 +245,8 @@ impl<'a> Preparation<'a> {
     }
 
     /// Finds all rows of widths in `requests`, by the threads of `workers` workers. `end`, the size
-    /// up to which rows are to be found, limits nothing: rows of larger sets are found, too, if they
-    /// are in `requests`. If `end` exceeds `self.end()`, the new rows replace those of the
+    /// up to which rows are to be found, limits nothing: rows of larger sets are found, too, if
+    /// they are in `requests`. If `end` exceeds `self.end()`, the new rows replace those of the
     /// preparation, and `self.end()` becomes `end`; else they are appended, and `self.end()` stays.
     /// A request for another number of variables than the problem's is skipped. If memory is
     /// refused nothing changes.
