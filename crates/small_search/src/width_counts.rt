@@ -6,7 +6,7 @@ ghost use Rattle.definitions.specs.Orders.{without};
 ghost use Rattle.definitions.specs.Problems.{functions};
 ghost use Rattle.definitions.specs.Widths.{width};
 ghost use Rattle.subfunction_classes.specs.Table.{ClassesOf, set_of};
-ghost use Rattle.small_search.specs.Counting.{AreDependent, dependents_in};
+ghost use Rattle.small_search.specs.Counting.{dependents_in};
 ghost use Rattle.small_search.specs.Occurrences.{AreOf, CanBeCounted, IsAtPlace};
 
 use order_model::{Mask, VarIx};

@@ -12,7 +12,7 @@ use Rattle.layer_core.specs.Pairing.{no_cell}
 use Rattle.small_search.proofs.MemberPlaces.{member_parts, members_next, members_none}
 use Rattle.definitions.specs.Pairs.{is_lawful}
 use Rattle.small_search.specs.Searches.{IsPlainSearch}
-use Rattle.small_search.specs.Occurrences.{AreOf, CanBeCounted}
+use Rattle.small_search.specs.Occurrences.{AreOf, CanBeCounted, IsAtPlace}
 use Rattle.small_search.specs.declared.width_counts.Subfunctions.TheVariants.{Values, Classes}
 use Rattle.small_search.specs.declared.width_counts.Subfunctions.{Subfunctions}
 use Rattle.std.proofs.lemmas.Bool.{cases_lt}
@@ -114,32 +114,27 @@ loop-x-preserved c =
     let first : Cell = record { cost = 33554433; variable = trailing_zeros w16 mask } in
     let most = count_ones mask * 2 ^ 20 in
     let few = few_most n mask c.inputs.result c.requires.within c.inputs.ensures.value c.inputs.ensures.few in
+    let below_cost = (get_or cells (mask - 1 * 2 ^ x % 65536) no_cell).cost in
+    let stands : IsAtPlace (classes_of t.problem mask) x (c.loop-x.place - 1) =
+    record { inside = below; within = c.requires.within; member = member; above = omega (arith, above, one) } in
+    let step = λ (v : ℕ) (r : Cell) (is : v ≡ width_without t mask x) (most_width : v ≤ 2 ^ 20) (within : below_cost ≤ 33554432)
+    (new : below_cost + v < c.loop-x.best.cost → r ≡ record { cost = below_cost + v; variable = x })
+    (old : c.loop-x.best.cost ≤ below_cost + v → r ≡ c.loop-x.best).
+    kept_next S t.bound (cost_without t mask) (width_without t mask) x (below_cost + v) most c.loop-x.invariant.kept.0 first c.loop-x.best
+    (record { cost = below_cost + v; variable = x }) r few before c.loop-x.invariant.kept.2 member (omega (arith, cost, within, bound))
+    (omega (arith, cost, is))
+    (few_sum t mask cells c.requires.cells c.requires.within x member below_cost v (ap (λ k. (get_or cells (mask - k) no_cell).cost) shift)
+    (omega (arith, within, bound)) most_width) refl new old in
     record {
       small = omega (arith, small);
       above = omega (arith, above, one, next);
       kept = elim c.if-below-le-NO_BOUND.branch [
         | then-below-le-NO_BOUND+then-cost-best w ↦
-            let width : w.width.result ≡ width_without t mask x =
-            w.width.ensures.width (classes_of t.problem mask) c.requires.subfunctions
-            (record { inside = below; within = c.requires.within; member = member; above = omega (arith, above, one) }) in
-            let within = w.if-below-le-NO_BOUND.true in
-            kept_next S t.bound (cost_without t mask) (width_without t mask) x _ most c.loop-x.invariant.kept.0 first c.loop-x.best _ _ few before
-            c.loop-x.invariant.kept.2 member (omega (arith, cost, within, bound)) (omega (arith, cost, width))
-            (few_sum t mask cells c.requires.cells c.requires.within x member _ w.width.result
-            (ap (λ k. (get_or cells (mask - k) no_cell).cost) shift) (omega (arith, within, bound)) w.width.ensures.few) refl (λ lt. w.best-is)
-            (λ le. absurd (let l = w.if-cost-best.true in omega (arith, l, le)))
+            step w.width.result _ (w.width.ensures.width (classes_of t.problem mask) c.requires.subfunctions stands) w.width.ensures.few
+            w.if-below-le-NO_BOUND.true (λ lt. w.best-is) (λ le. absurd (let l = w.if-cost-best.true in omega (arith, l, le)))
         | then-below-le-NO_BOUND+else-cost-best w ↦
-            let width : w.width.result ≡ width_without t mask x =
-            w.width.ensures.width (classes_of t.problem mask) c.requires.subfunctions
-            (record { inside = below; within = c.requires.within; member = member; above = omega (arith, above, one) }) in
-            let within = w.if-below-le-NO_BOUND.true in
-            kept_next S t.bound (cost_without t mask) (width_without t mask) x
-            ((get_or cells (mask - 1 * 2 ^ x % 65536) no_cell).cost + w.width.result) most c.loop-x.invariant.kept.0 first c.loop-x.best
-            (record { cost = (get_or cells (mask - 1 * 2 ^ x % 65536) no_cell).cost + w.width.result; variable = x }) _ few before
-            c.loop-x.invariant.kept.2 member (omega (arith, cost, within, bound)) (omega (arith, cost, width))
-            (few_sum t mask cells c.requires.cells c.requires.within x member _ w.width.result
-            (ap (λ k. (get_or cells (mask - k) no_cell).cost) shift) (omega (arith, within, bound)) w.width.ensures.few) refl
-            (λ lt. absurd (let l = w.if-cost-best.false in omega (arith, l, lt))) (λ le. w.best-is)
+            step w.width.result _ (w.width.ensures.width (classes_of t.problem mask) c.requires.subfunctions stands) w.width.ensures.few
+            w.if-below-le-NO_BOUND.true (λ lt. absurd (let l = w.if-cost-best.false in omega (arith, l, lt))) (λ le. w.best-is)
         | else-below-le-NO_BOUND w ↦
             let over = w.if-below-le-NO_BOUND.false in (
               c.loop-x.invariant.kept.0,

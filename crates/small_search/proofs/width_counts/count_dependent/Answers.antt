@@ -4,7 +4,7 @@ use Rattle.std.specs.List.{filter, range_with_len}
 use Rattle.std.proofs.lemmas.List.FromFn.{length-range_with_len}
 use Rattle.std.proofs.lemmas.Nat.{and_le_r}
 use Rattle.definitions.proofs.Lists.Ranges.{filter_at_most}
-use Rattle.small_search.specs.Counting.{AreDependent, dependents_in, is_dependent_in, is_in}
+use Rattle.small_search.specs.Counting.{dependents_in, is_dependent_in, is_in}
 use Rattle.small_search.specs.Values.{places}
 use Rattle.small_search.proofs.ValueSets.{at_all, depends_at, words_more}
 use Rattle.small_search.proofs.width_counts.count_dependent.Goals as goal
@@ -32,10 +32,10 @@ third_bits : map (is_in third) (range_with_len 0 256) ≡ map (λ v. eqb (bit_at
 unfolding places
 third_bits = refl
 
-dependent : (place : ℕ) → place < 3 → AreDependent place (get_or (first ∷ second ∷ third ∷ []) place [])
-dependent zero l = record { four = refl; each = at_all (is_in first) (λ v. eqb (bit_at (places 3 v) 0) 1) 256 first_bits }
-dependent (suc zero) l = record { four = refl; each = at_all (is_in second) (λ v. eqb (bit_at (places 3 v) 1) 1) 256 second_bits }
-dependent (suc (suc zero)) l = record { four = refl; each = at_all (is_in third) (λ v. eqb (bit_at (places 3 v) 2) 1) 256 third_bits }
+dependent : (place : ℕ) → place < 3 → (v : ℕ) → v < 256 → is_in (get_or (first ∷ second ∷ third ∷ []) place []) v ≡ eqb (bit_at (places 3 v) place) 1
+dependent zero l = at_all (is_in first) (λ v. eqb (bit_at (places 3 v) 0) 1) 256 first_bits
+dependent (suc zero) l = at_all (is_in second) (λ v. eqb (bit_at (places 3 v) 1) 1) 256 second_bits
+dependent (suc (suc zero)) l = at_all (is_in third) (λ v. eqb (bit_at (places 3 v) 2) 1) 256 third_bits
 dependent (suc (suc (suc p))) l = absurd (omega arith)
 
 row : (a b c d i : ℕ) → a < 2 ^ 64 → b < 2 ^ 64 → c < 2 ^ 64 → d < 2 ^ 64 → get_or (a ∷ b ∷ c ∷ d ∷ []) i 0 < 2 ^ 64
@@ -61,7 +61,7 @@ more : (occurring : List ℕ) (place i count : ℕ) → length occurring ≡ 4 �
 more occurring place i count four few lt fits h =
     let words = get_or (first ∷ second ∷ third ∷ []) place [] in
     let l = and_le_r (get_or occurring i 0) (get_or words i 0) in
-    words_more (depends_at place) occurring words i count (dependent place few).each lt (omega (arith, l, fits)) h
+    words_more (depends_at place) occurring words i count (dependent place few) lt (omega (arith, l, fits)) h
 
 pub overflow_add-count : goal.overflow_add-count
 overflow_add-count c =
