@@ -1,19 +1,14 @@
 -- The subfunctions over the sets on the way to a set.
---     without_lowest set      a set without its lowest variable
 --     HoldValues p set tables size      the values over `set` stand at `size` in `tables`, if it has up to three variables
 --     HoldNumbers p set classes size d      the class table of `set` stands at `size` in `classes`, if it has more
 --     HoldPath p set tables      HoldValues and HoldNumbers hold of each set that has the variables of `set` from some bound on, at its size
 use Rattle.std.specs.Prelude.{◌≡◌, ℕ, ◌+◌, ◌-◌, ◌*◌, ◌/◌, ◌^◌, ◌<◌, ◌≤◌, List, count_ones, length, slice_index_or}
-use Rattle.std.specs.Int.{trailing_zeros, w16}
 use Rattle.definitions.specs.Problems.{TruthTables}
 use Rattle.pair_numbering.specs.declared.numbers.MaskedNumbers.{MaskedNumbers}
 use Rattle.subfunction_classes.specs.Table.{HoldsClasses, classes_of}
 use Rattle.small_search.specs.ValuePlaces.{values_at}
 use Rattle.small_search.specs.Values.{set_values}
 use Rattle.small_search.specs.declared.tables.PathTables.{PathTables}
-
-abbrev pub without_lowest : ℕ → ℕ
-without_lowest set = set - 2 ^ trailing_zeros w16 set
 
 abbrev pub HoldValues : TruthTables → ℕ → PathTables → ℕ → Type 0
 HoldValues p set tables size = count_ones set ≤ 3 → values_at tables.entries tables.values.items size ≡ set_values p set
