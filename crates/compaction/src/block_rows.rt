@@ -1,4 +1,5 @@
-//! The widths of a layer's blocks: from rows that were found ahead, or else by a walk.
+//! The widths of a layer's blocks: from rows that were found ahead, or else by a walk. A row that
+//! was found ahead belongs to one set, and serves every set whose image that set is.
 
 ghost use Rattle.std.specs.Prelude.{◌≡◌, ◌+◌, ◌^◌, ◌<◌, ◌≤◌, IfOk, IfSome, OnOk, OnErr};
 ghost use Rattle.subset_layers.specs.Layers.{block_masks};
@@ -79,7 +80,8 @@ impl<'a> Preparation<'a> {
     ) -> Result<Vec<WidthRow>, AllocError>
         requires asked { AreAsked self.now.problem block.now needed.now }
         requires room { tally.old + wanted_count needed.now ≤ 2 ^ 32 }
-        ensures rows { IfOk result (λ rows. AreRowsOf self.now.problem block.now needed.now rows.items) }
+        ensures rows { IfOk result
+            (λ rows. AreRowsOf self.now.problem block.now needed.now rows.items) }
         ensures ok { OnOk result (tally.new ≡ tally.old + wanted_count needed.now) }
         ensures err { OnErr result (tally.new ≡ tally.old) }
     {

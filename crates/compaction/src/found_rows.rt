@@ -13,16 +13,51 @@ use std::sync::atomic::{AtomicU64, Ordering};
 use std::thread;
 use std::thread::Threads;
 
+/// The low bytes, which threads take one after another: those with the largest tables first.
+#[derive(Drop)]
+pub(crate) struct Turns {
+    /// All low bytes, in the order in which they are taken.
+    bytes: [u8; 256],
+    /// How often a thread came for a byte, counting those times when all were taken.
+    taken: AtomicU64,
+}
+
+impl Turns {
+    /// A queue of all 256 low bytes, none of which is taken: those with fewer bits that are 1 come
+    /// first, and of those with equally many the smaller.
+    pub(crate) fn new() -> Turns {
+        let mut bytes = [0; 256];
+        let mut count = 0usize;
+        for size in 0..9u32 {
+            for byte in 0..256u16 {
+                if byte.count_ones() == size && count < 256 {
+                    bytes[count] = byte as u8;
+                    count += 1;
+                }
+            }
+        }
+        Turns {
+            bytes,
+            taken: AtomicU64::new(0),
+        }
+    }
+
+    /// Takes the next low byte off the queue, and returns it; None if all 256 are taken.
+    fn next(&self) -> Option<u8> {
+        let turn = self.taken.fetch_add(1, Ordering::SeqCst);
+        self.bytes.get(turn as usize).copied()
+    }
+}
+
 impl<'a> SharedTables<'a> {
-    /// Takes low bytes, the lowest first, until all are taken, and for each one computes the rows
-    /// that the request for it in `requests` needs, if there is one. `taken` is how often a thread
-    /// has come for a low byte, counting those times when all were taken. A request for another
-    /// number of variables than the problem's is skipped.
+    /// Takes low bytes from `turns` until none is left, and for each one computes the rows that the
+    /// request for it in `requests` needs, if there is one. A request for another number of
+    /// variables than the problem's is skipped.
     pub(crate) fn rows_by_turns(
         &self,
         alloc: Global,
         requests: &Requests,
-        taken: &AtomicU64,
+        turns: &Turns,
     ) -> Result<Vec<ByteRows>, AllocError>
         ensures { IfOk result (λ found. All (HoldsRows self.now) found.items) }
     {
@@ -30,9 +65,10 @@ impl<'a> SharedTables<'a> {
         let inputs = self.problem().inputs();
         let mut memory = PairMemory::new(alloc);
         for _turn in 0..256u32 {
-            let low = taken.fetch_add(1, Ordering::SeqCst);
-            if low < 256
-                && let Some(request) = requests.of_byte(low as u8)
+            let Some(low) = turns.next() else {
+                break;
+            };
+            if let Some(request) = requests.of_byte(low)
                 && request.inputs == inputs
             {
                 let (byte, _) = walked_rows(&mut memory, self, request.try_clone(alloc)?)?;
@@ -53,14 +89,14 @@ impl<'a> SharedTables<'a> {
     ) -> Result<Vec<ByteRows>, AllocError>
         ensures { IfOk result (λ found. All (HoldsRows self.now) found.items) }
     {
-        let taken = AtomicU64::new(0);
+        let turns = Turns::new();
         let mut parts = thread::map_indices(
             rt,
             alloc,
             usize::from(workers.count()),
             &|_worker: usize| -> Result<Vec<ByteRows>, AllocError>
                 ensures { IfOk result (λ found. All (HoldsRows self.entry.now) found.items) }
-            { self.rows_by_turns(alloc, requests, &taken) },
+            { self.rows_by_turns(alloc, requests, &turns) },
         )?;
         let mut found = Vec::new(alloc);
         while let Some(part) = parts.pop() {

@@ -1,9 +1,9 @@
 //! A walk over the high variables, from the class table of a low byte.
 
-ghost use Rattle.std.specs.Prelude.{◌≡◌, ℕ, ◌+◌, ◌%◌, ◌^◌, ◌<◌, ◌≤◌, length, IfOk, IfSome, IsNone, OnOk, bit_or};
+ghost use Rattle.std.specs.Prelude.{◌≡◌, ℕ, ◌+◌, ◌%◌, ◌^◌, ◌<◌, ◌≤◌, length, IfOk, IfSome, IsNone, OnOk};
 ghost use Rattle.std.specs.Int.{bit_at};
 ghost use Rattle.subfunction_classes.specs.Table.{classes_of, free_below};
-ghost use Rattle.compaction.specs.Rows.{AreByteRows, HoldsRows, most_compactions, most_walked};
+ghost use Rattle.compaction.specs.Rows.{HoldsRows, most_compactions};
 ghost use Rattle.compaction.specs.Strips.{low_variables as low_of};
 ghost use Rattle.compaction.specs.Walks.{AreWanted, FillsOwn, FillsRows, HasDecided};
 

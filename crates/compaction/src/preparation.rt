@@ -7,6 +7,7 @@ ghost use Rattle.symmetries.specs.Orbits.{TakesWidths};
 ghost use Rattle.symmetries.specs.Renamings.{renamed_of};
 ghost use Rattle.compaction.specs.Rows.{HoldsRows};
 
+use crate::found_rows::Turns;
 use crate::high_walk::ByteRows;
 use crate::request::Wanted;
 use crate::requests::Requests;
@@ -14,7 +15,6 @@ use crate::shared_tables::SharedTables;
 use order_model::{Mask, Pairs, Problem, Workers};
 use std::alloc::{AllocError, Global};
 use std::marker::Model;
-use std::sync::atomic::AtomicU64;
 use std::thread::Threads;
 use symmetries::{Image, Orbits, Renaming};
 
@@ -206,10 +206,10 @@ impl<'a> Preparation<'a> {
         requests.add_sets(&self.wanted(first, last), false);
     }
 
-    /// Takes over the rows in `found`, which must be of the renamed problem and were to be of sets
-    /// of up to `end` variables. If `end` exceeds `self.end()`, they replace the rows that the
-    /// preparation has, and `self.end()` becomes `end`; else they are appended, and `self.end()`
-    /// stays. If memory is refused nothing changes.
+    /// Takes over the rows in `found`, of sets of the renamed problem. If `end`, the size up to
+    /// which rows were to be found, exceeds `self.end()`, they replace the rows that the preparation
+    /// has, and `self.end()` becomes `end`; else they are appended, and `self.end()` stays. If
+    /// memory is refused nothing changes.
     fn take(&mut self, found: Vec<ByteRows>, end: u8) -> Result<(), AllocError>
         requires { All (HoldsRows (renamed_of self.old.problem self.old.renamed)) found.items }
         ensures { self.new.problem ≡ self.old.problem }
@@ -239,8 +239,7 @@ impl<'a> Preparation<'a> {
     ) -> Result<(), AllocError>
         ensures { self.new.problem ≡ self.old.problem }
     {
-        let taken = AtomicU64::new(0);
-        let found = self.shared.rows_by_turns(alloc, requests, &taken)?;
+        let found = self.shared.rows_by_turns(alloc, requests, &Turns::new())?;
         self.take(found, end)
     }
 

@@ -33,8 +33,8 @@ impl<'a> LayerContext<'a> {
     ghost use Rattle.layer_work.specs.LayerContexts.{context_with, IsContext};
 
     /// What the workers of `layer` read. Requires that `before` has the costs of the sets with one
-    /// variable less than those of `layer`, for `instance`, and that `prepared` is for the
-    /// instance's functions.
+    /// variable less than those of `layer`, for `instance`, and that `prepared`, which
+    /// gives widths, is for the instance's functions.
     pub fn new(
         instance: &'a Instance<'a>,
         layer: &'a Layer,

@@ -15,7 +15,7 @@ use subset_layers::{Costs, Layer};
 
 /// Computes the layer that comes after those in `done`, with its cells, on the calling thread.
 /// `done[k]` has the costs of the sets of k variables, from k = 0 on; the layer of all variables
-/// must not be there yet. `prepared` is for the instance's functions.
+/// must not be there yet. `prepared`, for the instance's functions, gives widths.
 fn next_layer_alone(
     alloc: Global,
     instance: &Instance<'_>,

@@ -26,7 +26,7 @@ pub(crate) fn first_layer(alloc: Global, instance: &Instance<'_>) -> Result<Vec<
 
 /// Computes the layer that comes after those in `done`, with its cells, by the workers of `crew`.
 /// `done[k]` has the costs of the sets of k variables, from k = 0 on; the layer of all variables
-/// must not be there yet. `prepared` is for the instance's functions.
+/// must not be there yet. `prepared`, for the instance's functions, gives widths.
 fn next_layer<R: Threads + Sync, G: Gate>(
     crew: &Crew<'_, R, G>,
     alloc: Global,

@@ -10,8 +10,9 @@ use definitions::{Mask, VarIx};
 use std::alloc::AllocError;
 use subfunction_classes::join_mask;
 
-/// The pairs of a class table's entries that differ in variable `x`. `masks` has for each class the
-/// variables that it depends on.
+/// The pairs of a class table's entries that differ in variable `x`, below 16. `masks` has for each
+/// class the variables that it depends on, and all entries are below their number. There are at
+/// most 2^20 entries and 2^20 masks.
 #[derive(Drop)]
 pub struct MaskedPairs<'e> {
     pub entries: EntryPairs<'e>,

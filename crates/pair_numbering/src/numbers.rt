@@ -70,7 +70,7 @@ pub(crate) fn number_distinct_pairs(
     to.numbers.resize(half, 0)?;
     to.masks.resize(half, 0)?;
     for j in 0..half {
-        // The entries of a pair stand `step` apart.
+        // The entry where the variable is 0: j with a bit 0 put in at the variable's place.
         let low = 2 * j - (j & (step - 1));
         let pair = (low as u32, (low + step) as u32);
         to.numbers[j] = j as u32;

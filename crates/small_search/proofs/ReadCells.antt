@@ -1,7 +1,6 @@
 -- The order and its level counts, read off the cells of all sets in one walk.
 --     ReadBoth t mask top order levels place      the first variables are read, and their level counts, whatever is read from the set that is left
 --     both_start      none is read
---     a step of the code: the cell's variable is a member, the cost falls, and one more is read
 --     both_read, both_counted      all are read
 use Rattle.std.proofs.Common.{◌≡◌, ℕ, zero, suc, ◌+◌, ◌-◌, ◌*◌, ◌%◌, ◌^◌, ◌<◌, ◌≤◌, true, length, set, take, get_or, List, [], ◌∷◌, ◌++◌, refl, sym, ap, ◌∙◌, subst, arith}
 use Rattle.std.proofs.Math.Seq.{get_or-append_seam}

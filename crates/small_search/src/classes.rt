@@ -2,8 +2,7 @@
 //! table of a subfunction as a number. The variables of a set have places, from 0 on: the highest
 //! variable has place 0, and the lowest one the highest place.
 
-ghost use Rattle.std.specs.Prelude.{◌≡◌, ◌<◌, ◌+◌, ◌*◌, ◌^◌, ◌≤◌, count_ones, get_or, if◌then◌else◌, ◌==◌, length, map, slice_index, ℕ, OnOk};
-ghost use Rattle.std.specs.Int.{bit_at};
+ghost use Rattle.std.specs.Prelude.{◌≡◌, ◌<◌, ◌+◌, ◌*◌, ◌^◌, ◌≤◌, count_ones, get_or, length, map, slice_index, ℕ, OnOk};
 ghost use Rattle.definitions.specs.Orders.{members};
 ghost use Rattle.subfunction_classes.specs.PairTables.{AllBelow, IsPaired};
 ghost use Rattle.small_search.specs.ClassesOfValues.{NumbersValues};

@@ -1,10 +1,9 @@
 //! Reads the first order of the fewest nodes, and its level counts, off the cells of all sets.
 
 ghost use Rattle.std.specs.Prelude.{◌≡◌, length};
-ghost use Rattle.definitions.specs.Levels.{level_counts};
 ghost use Rattle.definitions.specs.Problems.{functions};
 ghost use Rattle.solutions.specs.FlatCells.{AreFlatCells};
-ghost use Rattle.solutions.specs.Solutions.{IsFirstFewest, IsReadOff};
+ghost use Rattle.solutions.specs.Solutions.{IsFirstFewest};
 
 use crate::instance::SmallSearch;
 use order_model::{Mask, VarIx};

@@ -2,9 +2,6 @@
 
 ghost use Rattle.std.specs.Prelude.{◌≡◌, ◌*◌, ◌+◌, ◌-◌, ◌^◌, ◌<◌, ◌≤◌, ◌↔◌, [], length, IfOk, IsTrue, OnOk, OnErr};
 ghost use Rattle.definitions.specs.Problems.{functions, outputs_of};
-ghost use Rattle.layer_core.specs.Pairing.{pair_of};
-ghost use Rattle.layer_core.specs.Instances.{cell_for};
-ghost use Rattle.small_search.specs.FirstCells.{AreFirstCells, IsFew};
 ghost use Rattle.small_search.specs.Occurrences.{AreOf};
 ghost use Rattle.small_search.specs.Paths.{HoldPath};
 ghost use Rattle.subfunction_classes.specs.Table.{classes_of};

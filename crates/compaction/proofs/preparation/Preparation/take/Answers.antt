@@ -1,4 +1,4 @@
-use Rattle.std.proofs.Common.{◌≡◌, ◌++◌, All, sym, ap, ◌∙◌, subst}
+use Rattle.std.proofs.Common.{◌≡◌, All, sym, ap, ◌∙◌, subst}
 use Rattle.std.proofs.lemmas.List.Elements.{All-append}
 use Rattle.symmetries.specs.Renamings.{renamed_of}
 use Rattle.compaction.specs.Preparations.{IsPrepared, PreparedOf}
