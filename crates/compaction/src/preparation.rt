@@ -207,9 +207,9 @@ impl<'a> Preparation<'a> {
     }
 
     /// Takes over the rows in `found`, of sets of the renamed problem. If `end`, the size up to
-    /// which rows were to be found, exceeds `self.end()`, they replace the rows that the preparation
-    /// has, and `self.end()` becomes `end`; else they are appended, and `self.end()` stays. If
-    /// memory is refused nothing changes.
+    /// which rows were to be found, exceeds `self.end()`, they replace the rows that the
+    /// preparation has, and `self.end()` becomes `end`; else they are appended, and `self.end()`
+    /// stays. If memory is refused nothing changes.
     fn take(&mut self, found: Vec<ByteRows>, end: u8) -> Result<(), AllocError>
         requires { All (HoldsRows (renamed_of self.old.problem self.old.renamed)) found.items }
         ensures { self.new.problem ≡ self.old.problem }

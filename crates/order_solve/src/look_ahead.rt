@@ -63,7 +63,8 @@ fn add_needs(
 
 /// Requests for the widths that the cells of the layer after those in `done` take, as widths of the
 /// sets' images, which `prepared` gives. Leaves out sets whose image has a row with the widths of
-/// all its members in `prepared`. `done[k]` has the costs of the sets of k variables, from k = 0 on.
+/// all its members in `prepared`. `done[k]` has the costs of the sets of k variables, from k = 0
+/// on.
 fn requests_of_layer(
     alloc: Global,
     instance: &Instance<'_>,
