@@ -1,6 +1,6 @@
 -- Pairs by blocks, as a loop over the blocks comes to them.
 --     InBlock numbers rank block i      pair i of a block is one of the table
---     in_step, in_block, step_is, place_is, all_pairs      the block, its length, the place and the end, as the code has them
+--     in_half, in_block, step_is, place_is, all_pairs      the block, its length, the place and the end, as the code has them
 --     listed_inside      the pair is listed
 --     place_small      a place among the pairs is small
 --     pair_inside      both halves of a pair are classes
@@ -26,12 +26,12 @@ module _ {numbers : List ℕ} {rank : ℕ} (paired : IsPaired numbers rank) wher
   pub step_is : {r : ℕ} → r ≡ rank → 1 * 2 ^ r % 2 ^ 64 ≡ 2 ^ rank
   step_is {r = r} e = one_shl r 64 (omega arith) ∙ ap (λ k. 2 ^ k) e
 
-  pub in_step : {r block i : ℕ} → r ≡ rank → block < length numbers / 2 / 2 ^ rank → i < 1 * 2 ^ r % 2 ^ 64 → InBlock numbers rank block i
-  in_step {i = i} e inside m = record { inside = inside; early = subst (λ z. i < z) (step_is e) m }
+  pub in_half : {long block i : ℕ} → long ≡ 2 ^ rank → block < length numbers / 2 / 2 ^ rank → i < long → InBlock numbers rank block i
+  in_half {i = i} is inside l = record { inside = inside; early = subst (λ z. i < z) is l }
 
-  pub in_block : {half r block i : ℕ} → half ≡ length numbers / 2 → r ≡ rank → block < half / 2 ^ r → i < 1 * 2 ^ r % 2 ^ 64 →
+  pub in_block : {half r long block i : ℕ} → half ≡ length numbers / 2 → r ≡ rank → long ≡ 2 ^ rank → block < half / 2 ^ r → i < long →
       InBlock numbers rank block i
-  in_block {block = block} h e l m = in_step e (subst (λ z. z) (λ t. block < h t / 2 ^ e t) l) m
+  in_block {block = block} h e is l m = in_half is (subst (λ z. z) (λ t. block < h t / 2 ^ e t) l) m
 
   pub place_is : {r : ℕ} (block i : ℕ) → r ≡ rank → block * (1 * 2 ^ r % 2 ^ 64) + i ≡ block * 2 ^ rank + i
   place_is block i e = ap (λ z. block * z + i) (step_is e)

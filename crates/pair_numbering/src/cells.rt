@@ -46,7 +46,7 @@ fn number_block<const EVENLY: bool>(
     let step = 1usize << pairs.entries.rank();
     let BlockHalves { low, high } = pairs.entries.block(block);
     let mut count = from;
-    for i in 0..step {
+    for i in 0..low.len() {
         let pair = (low[i], high[i]);
         let cell = pair.0 as usize * classes + pair.1 as usize;
         let next = u32::from(cells[cell]);

@@ -38,6 +38,8 @@ impl<'a> Model for EntryPairs<'a> {
 }
 
 /// The entries of a block of pairs: those at which the variable is 0, and those at which it is 1.
+/// A loop over the block ends at `low.len()`: if it ended at 2^rank, which is the same, the
+/// compiler would shift once for each pair, and make no vectors.
 #[derive(Clone, Copy, Debug)]
 pub(crate) struct BlockHalves<'a> {
     pub(crate) low: &'a [u32],

@@ -2,11 +2,11 @@
 //! pair, low + base * high, costs less than a number by first occurrence. Pairs get joined numbers
 //! if there are few of these.
 
-ghost use Rattle.std.specs.Prelude.{◌≡◌, ℕ, ◌+◌, ◌*◌, ◌/◌, ◌^◌, ◌<◌, ◌≤◌, map, length, IfOk, IsTrue};
+ghost use Rattle.std.specs.Prelude.{◌≡◌, ◌*◌, ◌^◌, ◌<◌, ◌≤◌, map, length, IfOk, IsTrue};
 ghost use Rattle.std.specs.List.{range_with_len};
 ghost use Rattle.subfunction_classes.specs.Places as places;
 ghost use Rattle.pair_numbering.specs.Keys.{AreUsed, TellsPairs, joined_key, joined_key_mask};
-ghost use Rattle.subfunction_classes.specs.PairTables.{AllBelow, IsPaired};
+ghost use Rattle.subfunction_classes.specs.PairTables.{AllBelow};
 
 use crate::entries::{BlockHalves, EntryPairs};
 use crate::masks::MaskedPairs;
@@ -32,28 +32,6 @@ pub struct PairKeys {
     ghost used: { IsTrue all_used → AreUsed numbers.items masks.items },
 }
 
-/// Writes the joined number of each pair j, low + base * high, to `joined[j]`: low is the pair's
-/// entry where the variable is 0, and high that where it is 1. Requires an entry of `joined` for
-/// each pair, `rank` to be the rank of `entries`, all entries to be below `base`, and `base` to be
-/// at most 256.
-#[inline(always)]
-fn join_blocks(entries: &EntryPairs<'_>, rank: u32, base: u32, joined: &mut [u32])
-    requires rank { rank ≡ entries.now.rank }
-    requires paired { IsPaired entries.now.numbers rank }
-    requires below { AllBelow entries.now.numbers base }
-    requires base { base ≤ 256 }
-    requires long { length joined.old ≡ length entries.now.numbers / 2 }
-    ensures { joined.new ≡ map (joined_key base) (places.pairs entries.now.numbers (2 ^ rank)) }
-{
-    let step = 1usize << rank;
-    for block in 0..joined.len() >> rank {
-        let BlockHalves { low, high } = entries.block(block);
-        for i in 0..step {
-            joined[block * step + i] = low[i] + high[i] * base;
-        }
-    }
-}
-
 /// The joined number of each pair j, low + base * high, at entry j: low is the pair's entry where
 /// the variable is 0, and high that where it is 1. Requires all entries to be below `base`, and
 /// `base` to be at most 256.
@@ -63,14 +41,15 @@ fn join_keys(alloc: Global, entries: &EntryPairs<'_>, base: u32) -> Result<Vec<u
     ensures { IfOk result (λ v. v.items ≡
         map (joined_key base) (places.pairs entries.now.numbers (2 ^ entries.now.rank))) }
 {
-    let mut joined = vec![in alloc; 0u32; entries.len()]?;
-    // Blocks of 1, 2, 4 and 8 pairs are frequent: each has a loop that the compiler unrolls.
-    match entries.rank() {
-        0 => join_blocks(entries, 0, base, &mut joined),
-        1 => join_blocks(entries, 1, base, &mut joined),
-        2 => join_blocks(entries, 2, base, &mut joined),
-        3 => join_blocks(entries, 3, base, &mut joined),
-        rank => join_blocks(entries, rank, base, &mut joined),
+    let half = entries.len();
+    let rank = entries.rank();
+    let step = 1usize << rank;
+    let mut joined = vec![in alloc; 0u32; half]?;
+    for block in 0..half >> rank {
+        let BlockHalves { low, high } = entries.block(block);
+        for i in 0..low.len() {
+            joined[block * step + i] = low[i] + high[i] * base;
+        }
     }
     Ok(joined)
 }

@@ -32,10 +32,9 @@ pub(crate) fn count_lowers(entries: &EntryPairs<'_>, counts: &mut [u8])
         return;
     }
     let rank = entries.rank();
-    let step = 1usize << rank;
     for block in 0..entries.len() >> rank {
         let low = entries.block(block).low;
-        for i in 0..step {
+        for i in 0..low.len() {
             let lower = low[i] as usize;
             counts[lower] = if counts[lower] == 0 { 1 } else { 2 };
         }

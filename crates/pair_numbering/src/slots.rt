@@ -86,7 +86,7 @@ fn number_blocks(
     let mut count = 0u32;
     for block in 0..pairs.entries.len() >> rank {
         let BlockHalves { low, high } = pairs.entries.block(block);
-        for i in 0..step {
+        for i in 0..low.len() {
             let pair = (low[i], high[i]);
             keys[count as usize] = pair;
             let mut number = count;

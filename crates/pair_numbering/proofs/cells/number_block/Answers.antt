@@ -1,6 +1,6 @@
 use Rattle.std.proofs.Common.{◌≡◌, ◌+◌, ◌*◌, ◌^◌, ◌<◌, length, sym, subst, ◌∙◌, arith}
 use Rattle.subfunction_classes.proofs.Index.{length-pairs}
-use Rattle.pair_numbering.proofs.InBlocks.{in_step, masked_table, place_is, place_small, step_is}
+use Rattle.pair_numbering.proofs.InBlocks.{in_half, masked_table, place_is, place_small}
 use Rattle.pair_numbering.proofs.CellSteps.{fronted_block, pair_classes, place_inside, cell_inside, fronted_new, fronted_again, fronted_old}
 use Rattle.pair_numbering.proofs.cells.number_block.Goals as goal
 use Rattle.pair_numbering.proofs.cells.number_block.Goals.{then-next-eq0, else-next-eq0, then-this-ne0, else-this-ne0+else-next-eq0-2, then-next-eq0-3, else-next-eq0-3}
@@ -12,27 +12,27 @@ loop-i-init g c =
 
 pub bounds-cells-cell : goal.bounds-cells-cell
 bounds-cells-cell g c =
-    let w = in_step c.rank.ensures.paired c.rank.ensures.rank c.requires.block c.loop-i-test.true in
+    let w = in_half c.rank.ensures.paired c.block.ensures.low_len c.requires.block c.loop-i-test.true in
     cell_inside (masked_table c.args.pairs.now c.rank.ensures.paired) c.loop-i.invariant.fronted w (c.block.ensures.pairs c.loop-i.i w.early)
 
 pub bounds-cells-cell-then-this-ne0 : goal.bounds-cells-cell-then-this-ne0
 bounds-cells-cell-then-this-ne0 g c =
-    let w = in_step c.rank.ensures.paired c.rank.ensures.rank c.requires.block c.loop-i-test.true in
+    let w = in_half c.rank.ensures.paired c.block.ensures.low_len c.requires.block c.loop-i-test.true in
     cell_inside (masked_table c.args.pairs.now c.rank.ensures.paired) c.loop-i.invariant.fronted w (c.block.ensures.pairs c.loop-i.i w.early)
 
 pub join_mask-requires-clause-lower : goal.join_mask-requires-clause-lower
 join_mask-requires-clause-lower g c =
-    let w = in_step c.rank.ensures.paired c.rank.ensures.rank c.requires.block c.loop-i-test.true in
+    let w = in_half c.rank.ensures.paired c.block.ensures.low_len c.requires.block c.loop-i-test.true in
     (pair_classes (masked_table c.args.pairs.now c.rank.ensures.paired) c.loop-i.invariant.fronted w (c.block.ensures.pairs c.loop-i.i w.early)).0
 
 pub join_mask-requires-clause-upper : goal.join_mask-requires-clause-upper
 join_mask-requires-clause-upper g c =
-    let w = in_step c.rank.ensures.paired c.rank.ensures.rank c.requires.block c.loop-i-test.true in
+    let w = in_half c.rank.ensures.paired c.block.ensures.low_len c.requires.block c.loop-i-test.true in
     (pair_classes (masked_table c.args.pairs.now c.rank.ensures.paired) c.loop-i.invariant.fronted w (c.block.ensures.pairs c.loop-i.i w.early)).1
 
 pub bounds-out-block : goal.bounds-out-block
 bounds-out-block g c =
-    let w = in_step c.rank.ensures.paired c.rank.ensures.rank c.requires.block c.loop-i-test.true in
+    let w = in_half c.rank.ensures.paired c.block.ensures.low_len c.requires.block c.loop-i-test.true in
     let k = place_inside (masked_table c.args.pairs.now c.rank.ensures.paired) c.loop-i.invariant.fronted w (c.block.ensures.pairs c.loop-i.i w.early) in
     subst (λ z. z < length c.loop-i.out) (sym (place_is c.rank.ensures.paired c.args.block c.loop-i.i c.rank.ensures.rank)) k
 
@@ -53,7 +53,7 @@ offset_bounds-out-block g c =
 
 pub bounds-joined-count : goal.bounds-joined-count
 bounds-joined-count g c =
-    let w = in_step c.rank.ensures.paired c.rank.ensures.rank c.requires.block c.loop-i-test.true in
+    let w = in_half c.rank.ensures.paired c.block.ensures.low_len c.requires.block c.loop-i-test.true in
     let k = place_inside (masked_table c.args.pairs.now c.rank.ensures.paired) c.loop-i.invariant.fronted w (c.block.ensures.pairs c.loop-i.i w.early) in
     let few = c.loop-i.invariant.fronted.few in
     let long = c.loop-i.invariant.fronted.long in
@@ -63,7 +63,7 @@ bounds-joined-count g c =
 
 pub overflow_add-count : goal.overflow_add-count
 overflow_add-count g c =
-    let w = in_step c.rank.ensures.paired c.rank.ensures.rank c.requires.block c.loop-i-test.true in
+    let w = in_half c.rank.ensures.paired c.block.ensures.low_len c.requires.block c.loop-i-test.true in
     let early = w.early in
     let few = c.loop-i.invariant.few in
     let room = c.requires.room in
@@ -72,7 +72,7 @@ overflow_add-count g c =
 pub loop-i-preserved : goal.loop-i-preserved
 loop-i-preserved g c =
     let table = masked_table c.args.pairs.now c.rank.ensures.paired in
-    let w = in_step c.rank.ensures.paired c.rank.ensures.rank c.requires.block c.loop-i-test.true in
+    let w = in_half c.rank.ensures.paired c.block.ensures.low_len c.requires.block c.loop-i-test.true in
     let is = c.block.ensures.pairs c.loop-i.i w.early in
     let e = place_is c.rank.ensures.paired c.args.block c.loop-i.i c.rank.ensures.rank in
     elim c.if-next-eq0.branch [
@@ -106,4 +106,4 @@ loop-i-preserved g c =
     ]
 
 pub returns : goal.returns
-returns g c = grind (arith, fronted_block, step_is)
+returns g c = grind (arith, fronted_block)

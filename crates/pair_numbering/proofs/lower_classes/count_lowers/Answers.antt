@@ -10,7 +10,8 @@ use Rattle.pair_numbering.proofs.lower_classes.count_lowers.Goals.{then-counts-l
 
 pub bounds-counts-lower : goal.bounds-counts-lower
 bounds-counts-lower c =
-    let w = in_block c.rank-rank.ensures.paired c.len-2.ensures.count c.rank-rank.ensures.rank c.loop-block-test.true c.loop-i-test.true in
+    let w = in_block c.rank-rank.ensures.paired c.len-2.ensures.count c.rank-rank.ensures.rank c.block.ensures.low_len
+    c.loop-block-test.true c.loop-i-test.true in
     let e = ap (λ (p : ℕ × ℕ). p.0) (c.block.ensures.pairs c.loop-i.i w.early) in
     let s = listed_classes c.args.entries.now.numbers c.args.entries.now.rank (length c.args.counts.now) _ c.requires.table.paired.whole
     c.requires.table.below (listed_inside c.rank-rank.ensures.paired w) in
@@ -20,7 +21,8 @@ bounds-counts-lower c =
 
 pub bounds-counts-lower-in-loop-i : goal.bounds-counts-lower-in-loop-i
 bounds-counts-lower-in-loop-i c =
-    let w = in_block c.rank-rank.ensures.paired c.len-2.ensures.count c.rank-rank.ensures.rank c.loop-block-test.true c.loop-i-test.true in
+    let w = in_block c.rank-rank.ensures.paired c.len-2.ensures.count c.rank-rank.ensures.rank c.block.ensures.low_len
+    c.loop-block-test.true c.loop-i-test.true in
     let e = ap (λ (p : ℕ × ℕ). p.0) (c.block.ensures.pairs c.loop-i.i w.early) in
     let s = listed_classes c.args.entries.now.numbers c.args.entries.now.rank (length c.args.counts.now) _ c.requires.table.paired.whole
     c.requires.table.below (listed_inside c.rank-rank.ensures.paired w) in
@@ -35,7 +37,8 @@ loop-i-preserved c =
     let ps = pairs cs (2 ^ rank) in
     let counts = c.loop-i.counts in
     let j = c.loop-block.block * 2 ^ rank + c.loop-i.i in
-    let w = in_block c.rank-rank.ensures.paired c.len-2.ensures.count c.rank-rank.ensures.rank c.loop-block-test.true c.loop-i-test.true in
+    let w = in_block c.rank-rank.ensures.paired c.len-2.ensures.count c.rank-rank.ensures.rank c.block.ensures.low_len
+    c.loop-block-test.true c.loop-i-test.true in
     let e = ap (λ (p : ℕ × ℕ). p.0) (c.block.ensures.pairs c.loop-i.i w.early) in
     let s = listed_classes cs rank (length c.args.counts.now) j c.requires.table.paired.whole c.requires.table.below
     (listed_inside c.rank-rank.ensures.paired w) in

@@ -5,7 +5,7 @@ use Rattle.subfunction_classes.specs.Places as places
 use Rattle.subfunction_classes.proofs.Firsts.{made_numbers, made_many, made_told}
 use Rattle.subfunction_classes.proofs.BlockPlaces.{block_next, listed_classes}
 use Rattle.subfunction_classes.proofs.Index.{length-pairs}
-use Rattle.pair_numbering.proofs.InBlocks.{all_pairs, in_block, listed_inside, place_is, step_is}
+use Rattle.pair_numbering.proofs.InBlocks.{all_pairs, in_block, listed_inside, place_is}
 use Rattle.pair_numbering.proofs.SlotSteps.{slotted_lone, slotted_new, slotted_none, slotted_old}
 use Rattle.pair_numbering.proofs.slots.number_blocks.Goals as goal
 use Rattle.pair_numbering.proofs.slots.number_blocks.Goals.{then-pairs-pair-ne1+in_ok-at, else-pairs-pair-ne1, then-number-count, else-number-count}
@@ -21,13 +21,15 @@ homes_are half slots room = omega arith
 
 pub bounds-keys-count : goal.bounds-keys-count
 bounds-keys-count c =
-    let w = in_block c.rank-rank.ensures.paired c.len.ensures.count c.rank-rank.ensures.rank c.loop-block-test.true c.loop-i-test.true in
+    let w = in_block c.rank-rank.ensures.paired c.len.ensures.count c.rank-rank.ensures.rank c.block.ensures.low_len
+    c.loop-block-test.true c.loop-i-test.true in
     count_inside c.loop-i.invariant (listed_inside c.rank-rank.ensures.paired w)
 
 pub home-requires-clause-some : goal.home-requires-clause-some
 home-requires-clause-some c =
     let cs = c.args.pairs.now.entries.now.numbers in
-    let w = in_block c.rank-rank.ensures.paired c.len.ensures.count c.rank-rank.ensures.rank c.loop-block-test.true c.loop-i-test.true in
+    let w = in_block c.rank-rank.ensures.paired c.len.ensures.count c.rank-rank.ensures.rank c.block.ensures.low_len
+    c.loop-block-test.true c.loop-i-test.true in
     let small = listed_inside c.rank-rank.ensures.paired w in
     omega (arith, small, homes_are (length cs / 2) (length c.args.slots.now) c.requires.slots, length-pairs cs (2 ^ c.args.pairs.now.entries.now.rank))
 
@@ -37,19 +39,22 @@ home-requires-clause-few c =
 
 pub find_slot-requires-clause-keys : goal.find_slot-requires-clause-keys
 find_slot-requires-clause-keys c =
-    let w = in_block c.rank-rank.ensures.paired c.len.ensures.count c.rank-rank.ensures.rank c.loop-block-test.true c.loop-i-test.true in
+    let w = in_block c.rank-rank.ensures.paired c.len.ensures.count c.rank-rank.ensures.rank c.block.ensures.low_len
+    c.loop-block-test.true c.loop-i-test.true in
     subst (λ n. c.loop-i.count < n) (sym (length-set c.loop-i.keys c.loop-i.count _))
     (count_inside c.loop-i.invariant (listed_inside c.rank-rank.ensures.paired w))
 
 pub bounds-out-block : goal.bounds-out-block
 bounds-out-block c =
-    let w = in_block c.rank-rank.ensures.paired c.len.ensures.count c.rank-rank.ensures.rank c.loop-block-test.true c.loop-i-test.true in
+    let w = in_block c.rank-rank.ensures.paired c.len.ensures.count c.rank-rank.ensures.rank c.block.ensures.low_len
+    c.loop-block-test.true c.loop-i-test.true in
     let e = place_is c.rank-rank.ensures.paired c.loop-block.block c.loop-i.i c.rank-rank.ensures.rank in
     subst (λ z. z) (λ i. sym e i < sym c.loop-i.invariant.made.long i) (listed_inside c.rank-rank.ensures.paired w)
 
 pub bounds-pairs-pair : goal.bounds-pairs-pair
 bounds-pairs-pair c =
-    let w = in_block c.rank-rank.ensures.paired c.len.ensures.count c.rank-rank.ensures.rank c.loop-block-test.true c.loop-i-test.true in
+    let w = in_block c.rank-rank.ensures.paired c.len.ensures.count c.rank-rank.ensures.rank c.block.ensures.low_len
+    c.loop-block-test.true c.loop-i-test.true in
     let e = ap (λ (p : ℕ × ℕ). p.0) (c.block.ensures.pairs c.loop-i.i w.early) in
     let s = listed_classes c.args.pairs.now.entries.now.numbers c.args.pairs.now.entries.now.rank (length c.args.pairs.now.counts.now) _
     c.rank-rank.ensures.paired.whole c.args.pairs.now.classes (listed_inside c.rank-rank.ensures.paired w) in
@@ -68,7 +73,8 @@ loop-i-preserved c =
     let keys = c.loop-i.keys in
     let out = c.loop-i.out in
     let count = c.loop-i.count in
-    let w = in_block c.rank-rank.ensures.paired c.len.ensures.count c.rank-rank.ensures.rank c.loop-block-test.true c.loop-i-test.true in
+    let w = in_block c.rank-rank.ensures.paired c.len.ensures.count c.rank-rank.ensures.rank c.block.ensures.low_len
+    c.loop-block-test.true c.loop-i-test.true in
     let small = listed_inside c.rank-rank.ensures.paired w in
     let here : ℕ × ℕ = (get_or c.block.result.low.now c.loop-i.i 0, get_or c.block.result.high.now c.loop-i.i 0) in
     let p : here ≡ get_or ps j (0, 0) = c.block.ensures.pairs c.loop-i.i w.early in
@@ -115,11 +121,9 @@ pub loop-block-preserved : goal.loop-block-preserved
 loop-block-preserved c =
     let cs = c.args.pairs.now.entries.now.numbers in
     let rank = c.args.pairs.now.entries.now.rank in
-    let step = step_is c.rank-rank.ensures.paired c.rank-rank.ensures.rank in
-    let end = c.loop-i.auto.i-end in
-    let over = c.loop-i-test.false in
     let all : c.loop-block.block * 2 ^ rank + c.loop-i.i ≡ (c.loop-block.block + 1) * 2 ^ rank =
-    ap (λ k. c.loop-block.block * 2 ^ rank + k) (let e : c.loop-i.i ≡ 2 ^ rank = omega (arith, step, end, over) in e)
+    ap (λ k. c.loop-block.block * 2 ^ rank + k)
+    (let e : c.loop-i.i ≡ 2 ^ rank = omega (arith, c.block.ensures.low_len, c.loop-i.auto.i-end, c.loop-i-test.false) in e)
     ∙ block_next (2 ^ rank) c.loop-block.block in
     subst (Slotted (places.pairs cs (2 ^ rank)) (home_of (4 * (length cs / 2))) c.args.pairs.now.counts.now c.loop-i.slots c.loop-i.keys c.loop-i.out
     c.loop-i.count) all c.loop-i.invariant
@@ -145,7 +149,8 @@ offset_bounds-out-block c =
 
 pub overflow_add-count : goal.overflow_add-count
 overflow_add-count c =
-    let s = in_block c.rank-rank.ensures.paired c.len.ensures.count c.rank-rank.ensures.rank c.loop-block-test.true c.loop-i-test.true in
+    let s = in_block c.rank-rank.ensures.paired c.len.ensures.count c.rank-rank.ensures.rank c.block.ensures.low_len
+    c.loop-block-test.true c.loop-i-test.true in
     let w = place_small _ _ _ _ (count_inside c.loop-i.invariant (listed_inside c.rank-rank.ensures.paired s)) c.loop-i.invariant.long_keys c.requires.few in
     omega arith
 
