@@ -50,14 +50,16 @@ fn number_block<const EVENLY: bool>(
         let pair = (low[i], high[i]);
         let cell = pair.0 as usize * classes + pair.1 as usize;
         let next = u32::from(cells[cell]);
-        let number = if next == 0 { count } else { next - 1 };
         if EVENLY || next == 0 {
+            let number = if next == 0 { count } else { next - 1 };
             cells[cell] = (number + 1) as u16;
             joined[count as usize] = join_mask(masks, x, pair);
-        }
-        out[block * step + i] = number;
-        if next == 0 {
-            count += 1;
+            out[block * step + i] = number;
+            if next == 0 {
+                count += 1;
+            }
+        } else {
+            out[block * step + i] = next - 1;
         }
     }
     count

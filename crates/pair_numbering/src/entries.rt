@@ -21,10 +21,13 @@ pub struct EntryPairs<'a> {
     names: Option<&'a [(u32, u32)]>,
     /// A block has 2^rank pairs.
     rank: u32,
+    /// 2^rank, stored so that loops over a block end at a plain number: an index below `1 << rank`
+    /// is tested by a shift, and the compiler makes no vectors of such a loop.
+    step: usize,
 }
 
 impl<'a> Model for EntryPairs<'a> {
-    ghost use Rattle.std.specs.Prelude.{◌^◌};
+    ghost use Rattle.std.specs.Prelude.{◌≡◌, ◌^◌};
     ghost use Rattle.pair_numbering.specs.Strips.{PairedTable, IsLaid, laid_out};
 
     ghost Value = { PairedTable };
@@ -34,30 +37,28 @@ impl<'a> Model for EntryPairs<'a> {
       rank = e.rank;
     } };
 
-    ghost invariant = { λ e. IsLaid (λ r. r.now) e.names e.numbers.now e.rank };
+    ghost invariant = { λ e. IsLaid (λ r. r.now) e.names e.numbers.now e.rank
+        × (e.step ≡ 2 ^ e.rank) };
 }
 
 /// The entries of a block of pairs: those at which the variable is 0, and those at which it is 1.
-/// A loop over the block ends at `low.len()`: if it ended at 2^rank, which is the same, the
-/// compiler would shift once for each pair, and make no vectors.
+/// A loop over the block ends at `low.len()`, not at `1 << rank` (see `EntryPairs::step`).
 #[derive(Clone, Copy, Debug)]
 pub(crate) struct BlockHalves<'a> {
     pub(crate) low: &'a [u32],
     pub(crate) high: &'a [u32],
 }
 
-/// Strip number `name`, counted from 0, of `numbers`, in which strips of 2^rank entries stand one
-/// behind the other. Requires `numbers` to have this strip, and `rank` to be below 16.
+/// Strip number `name`, counted from 0, of `numbers`, in which strips of `step` entries stand one
+/// behind the other. Requires `numbers` to have this strip.
 #[inline(always)]
-fn strip_at(numbers: &[u32], rank: u32, name: usize) -> &[u32]
-    requires rank { rank < 16 }
-    requires inside { name * 2 ^ rank + 2 ^ rank ≤ length numbers.now }
+fn strip_at(numbers: &[u32], step: usize, name: usize) -> &[u32]
+    requires inside { name * step + step ≤ length numbers.now }
     requires few { length numbers.now < 2 ^ 32 }
-    ensures long { length result.now ≡ 2 ^ rank }
-    ensures entries { (i : ℕ) → i < 2 ^ rank →
-        slice_index result.now i ≡ slice_index numbers.now (name * 2 ^ rank + i) }
+    ensures long { length result.now ≡ step }
+    ensures entries { (i : ℕ) → i < step →
+        slice_index result.now i ≡ slice_index numbers.now (name * step + i) }
 {
-    let step = 1usize << rank;
     &numbers[name * step..name * step + step]
 }
 
@@ -75,6 +76,7 @@ impl<'a> EntryPairs<'a> {
             numbers,
             names: None,
             rank,
+            step: 1 << rank,
         }
     }
 
@@ -96,6 +98,7 @@ impl<'a> EntryPairs<'a> {
             numbers,
             names: Some(names),
             rank: bits,
+            step: 1 << bits,
         }
     }
 
@@ -153,8 +156,8 @@ impl<'a> EntryPairs<'a> {
             }
         };
         BlockHalves {
-            low: strip_at(self.numbers, self.rank, low),
-            high: strip_at(self.numbers, self.rank, high),
+            low: strip_at(self.numbers, self.step, low),
+            high: strip_at(self.numbers, self.step, high),
         }
     }
 

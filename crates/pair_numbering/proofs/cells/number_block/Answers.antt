@@ -3,7 +3,7 @@ use Rattle.subfunction_classes.proofs.Index.{length-pairs}
 use Rattle.pair_numbering.proofs.InBlocks.{in_half, masked_table, place_is, place_small}
 use Rattle.pair_numbering.proofs.CellSteps.{fronted_block, pair_classes, place_inside, cell_inside, fronted_new, fronted_again, fronted_old}
 use Rattle.pair_numbering.proofs.cells.number_block.Goals as goal
-use Rattle.pair_numbering.proofs.cells.number_block.Goals.{then-next-eq0, else-next-eq0, then-this-ne0, else-this-ne0+else-next-eq0-2, then-next-eq0-3, else-next-eq0-3}
+use Rattle.pair_numbering.proofs.cells.number_block.Goals.{then-next-eq0+then-next-eq0-3, then-next-eq0-2, else-next-eq0-2, then-next-eq0+else-next-eq0-3, else-next-eq0}
 
 pub loop-i-init : goal.loop-i-init
 loop-i-init g c =
@@ -15,8 +15,8 @@ bounds-cells-cell g c =
     let w = in_half c.rank.ensures.paired c.block.ensures.low_len c.requires.block c.loop-i-test.true in
     cell_inside (masked_table c.args.pairs.now c.rank.ensures.paired) c.loop-i.invariant.fronted w (c.block.ensures.pairs c.loop-i.i w.early)
 
-pub bounds-cells-cell-then-this-ne0 : goal.bounds-cells-cell-then-this-ne0
-bounds-cells-cell-then-this-ne0 g c =
+pub bounds-cells-cell-then-next-eq0 : goal.bounds-cells-cell-then-next-eq0
+bounds-cells-cell-then-next-eq0 g c =
     let w = in_half c.rank.ensures.paired c.block.ensures.low_len c.requires.block c.loop-i-test.true in
     cell_inside (masked_table c.args.pairs.now c.rank.ensures.paired) c.loop-i.invariant.fronted w (c.block.ensures.pairs c.loop-i.i w.early)
 
@@ -69,6 +69,12 @@ overflow_add-count g c =
     let room = c.requires.room in
     omega arith
 
+pub bounds-out-block-else-next-eq0 : goal.bounds-out-block-else-next-eq0
+bounds-out-block-else-next-eq0 g c =
+    let w = in_half c.rank.ensures.paired c.block.ensures.low_len c.requires.block c.loop-i-test.true in
+    let k = place_inside (masked_table c.args.pairs.now c.rank.ensures.paired) c.loop-i.invariant.fronted w (c.block.ensures.pairs c.loop-i.i w.early) in
+    subst (λ z. z < length c.loop-i.out) (sym (place_is c.rank.ensures.paired c.args.block c.loop-i.i c.rank.ensures.rank)) k
+
 pub loop-i-preserved : goal.loop-i-preserved
 loop-i-preserved g c =
     let table = masked_table c.args.pairs.now c.rank.ensures.paired in
@@ -76,33 +82,28 @@ loop-i-preserved g c =
     let is = c.block.ensures.pairs c.loop-i.i w.early in
     let e = place_is c.rank.ensures.paired c.args.block c.loop-i.i c.rank.ensures.rank in
     elim c.if-next-eq0.branch [
-      | then-next-eq0 v ↦ elim c.if-next-eq0-3.branch [
-        | then-next-eq0-3 u ↦ elim c.if-this-ne0.branch [
-          | then-this-ne0 t ↦ record {
-            fronted = rw (e, t.cells-is, t.joined-is, v.number-is, u.count-is)
-                (fronted_new table c.loop-i.invariant.fronted w is t.join_mask.result t.join_mask.ensures
-                (sym c.from-next.ensures ∙ v.if-next-eq0.true));
-            few = omega (arith, u.count-is, c.loop-i.invariant.few);
-          }
-          | else-this-ne0+else-next-eq0-2 t ↦ absurd (t.if-next-eq0-2.false v.if-next-eq0.true)
-        ]
-        | else-next-eq0-3 u ↦ absurd (u.if-next-eq0-3.false v.if-next-eq0.true)
+      | then-next-eq0+then-next-eq0-3 t ↦ elim t.if-next-eq0-2.branch [
+        | then-next-eq0-2 v ↦ record {
+          fronted = rw (t.cells-is, t.joined-is, t.out-is, e, v.number-is, t.count-is)
+              (fronted_new table c.loop-i.invariant.fronted w is t.join_mask.result t.join_mask.ensures
+              (sym c.from-next.ensures ∙ v.if-next-eq0-2.true));
+          few = omega (arith, t.count-is, c.loop-i.invariant.few);
+        }
+        | else-next-eq0-2 v ↦ absurd (v.if-next-eq0-2.false t.if-next-eq0-3.true)
       ]
-      | else-next-eq0 v ↦ elim c.if-next-eq0-3.branch [
-        | then-next-eq0-3 u ↦ absurd (v.if-next-eq0.false u.if-next-eq0-3.true)
-        | else-next-eq0-3 u ↦ elim c.if-this-ne0.branch [
-          | then-this-ne0 t ↦ record {
-            fronted = rw (e, t.cells-is, t.joined-is, v.number-is, u.count-is, c.from-next.ensures)
-                (fronted_again table c.loop-i.invariant.fronted w is t.join_mask.result (λ z. v.if-next-eq0.false (c.from-next.ensures ∙ z)));
-            few = omega (arith, u.count-is, c.loop-i.invariant.few);
-          }
-          | else-this-ne0+else-next-eq0-2 t ↦ record {
-            fronted = rw (e, t.cells-is, t.joined-is, v.number-is, u.count-is, c.from-next.ensures)
-                (fronted_old table c.loop-i.invariant.fronted w is (λ z. v.if-next-eq0.false (c.from-next.ensures ∙ z)));
-            few = omega (arith, u.count-is, c.loop-i.invariant.few);
-          }
-        ]
+      | then-next-eq0+else-next-eq0-3 t ↦ elim t.if-next-eq0-2.branch [
+        | then-next-eq0-2 v ↦ absurd (t.if-next-eq0-3.false v.if-next-eq0-2.true)
+        | else-next-eq0-2 v ↦ record {
+          fronted = rw (t.cells-is, t.joined-is, t.out-is, e, v.number-is, t.count-is, c.from-next.ensures)
+              (fronted_again table c.loop-i.invariant.fronted w is t.join_mask.result (λ z. v.if-next-eq0-2.false (c.from-next.ensures ∙ z)));
+          few = omega (arith, t.count-is, c.loop-i.invariant.few);
+        }
       ]
+      | else-next-eq0 t ↦ record {
+        fronted = rw (t.cells-is, t.joined-is, t.out-is, e, t.count-is, c.from-next.ensures)
+            (fronted_old table c.loop-i.invariant.fronted w is (λ z. t.if-next-eq0.false.1 (c.from-next.ensures ∙ z)));
+        few = omega (arith, t.count-is, c.loop-i.invariant.few);
+      }
     ]
 
 pub returns : goal.returns

@@ -8,11 +8,11 @@ use Rattle.pair_numbering.proofs.entries.EntryPairs.pair.Goals as goal
 
 pub overflow_shr-j : goal.overflow_shr-j
 overflow_shr-j c =
-    omega (arith, laid_rank (λ r. r.now) c.self.inside.names c.self.inside.numbers.now c.self.inside.rank c.self.invariant)
+    omega (arith, laid_rank (λ r. r.now) c.self.inside.names c.self.inside.numbers.now c.self.inside.rank c.self.invariant.0)
 
 pub overflow_shl-i : goal.overflow_shl-i
 overflow_shl-i c =
-    omega (arith, laid_rank (λ r. r.now) c.self.inside.names c.self.inside.numbers.now c.self.inside.rank c.self.invariant)
+    omega (arith, laid_rank (λ r. r.now) c.self.inside.names c.self.inside.numbers.now c.self.inside.rank c.self.invariant.0)
 
 pub block-block-requires : goal.block-block-requires
 block-block-requires c = grind (arith, pair_block, laid_paired)
@@ -21,7 +21,7 @@ pub returns : goal.returns
 returns c =
     let rank = c.args.self.now.rank in
     let e : c.self.inside.rank ≡ rank = ap (λ t. t.rank) c.self.view_is in
-    let r = laid_rank (λ r. r.now) c.self.inside.names c.self.inside.numbers.now c.self.inside.rank c.self.invariant in
+    let r = laid_rank (λ r. r.now) c.self.inside.names c.self.inside.numbers.now c.self.inside.rank c.self.invariant.0 in
     let i : bit_and c.args.j (1 * 2 ^ c.self.inside.rank % 18446744073709551616 - 1) ≡ c.args.j % 2 ^ rank =
     ap (λ s. bit_and c.args.j (s - 1)) (one_shl c.self.inside.rank 64 (omega arith)) ∙ and_mask c.args.j c.self.inside.rank
     ∙ ap (λ k. c.args.j % 2 ^ k) e in
