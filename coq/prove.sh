@@ -1,0 +1,61 @@
+#!/usr/bin/env bash
+# prove.sh FILE CERT     proves in Coq that a certificate is right: Coq's kernel runs the checker, so neither extraction nor
+#                        OCaml need be trusted. Files of up to 12 inputs take from seconds to minutes. Call `make` before.
+# It prints the theorem in words. If the certificate is invalid or a text is refused it prints the answer, with ordercheck's
+# status.
+set -euo pipefail
+export LC_ALL=C
+[ $# = 2 ] || { echo "usage: coq/prove.sh FILE CERT" >&2; exit 2; }
+here=$(cd "$(dirname "${BASH_SOURCE[0]}")" && pwd)
+made=$(mktemp -d)
+trap 'rm -rf "$made"' EXIT
+
+# text NAME FILE: defines a text of Coq that has the file's bytes
+text() {
+    printf 'Definition %s : text := list_ascii_of_string "' "$1"
+    sed 's/"/""/g' < "$2"
+    printf '".\n'
+}
+
+{
+    echo 'From Orders Require Import CheckerProof.'
+    text file "$1"
+    text certificate "$2"
+    cat << 'END'
+Definition answer := Eval vm_compute in check file certificate.
+Theorem answered : check file certificate = answer.
+Proof. vm_cast_no_check (eq_refl answer). Qed.
+Definition order_and_pairs := Eval vm_compute in order_and_pairs_of certificate.
+Theorem listed : order_and_pairs_of certificate = order_and_pairs.
+Proof. vm_cast_no_check (eq_refl order_and_pairs). Qed.
+
+Definition statement := Eval cbv delta [answer order_and_pairs] iota in
+  match answer, order_and_pairs with
+  | Valid N _, Some (o, ps) => exists v, read_pla file = Read v /\ is_order (variables v) o /\ keeps o ps
+      /\ has_diagram o (functions_of v) (N.to_nat N) /\ none_has_fewer (variables v) (functions_of v) ps (N.to_nat N)
+  | _, _ => True
+  end.
+Theorem proved_here : statement.
+Proof. first [exact I | exact (proved file certificate _ _ _ _ answered listed)]. Qed.
+
+Definition order_text := Eval vm_compute in string_of_list_ascii
+  match order_and_pairs with Some (o, _) => flat_map (fun x => chars " " ++ decimal (N.of_nat x)) o | None => [] end.
+Definition answer_text := Eval vm_compute in string_of_list_ascii (answer_line answer).
+Set Printing Width 1000.
+Print answer_text.
+Print order_text.
+Print Assumptions proved_here.
+END
+} > "$made/Answer.v"
+said=$(coqc -q -R "$here" Orders "$made/Answer.v")
+answer=$(sed -n 's/^answer_text = "\(.*\)"%string.*/\1/p' <<< "$said")
+order=$(sed -n 's/^order_text = "\(.*\)"%string.*/\1/p' <<< "$said")
+case $answer in
+    valid*)
+        [[ $said == *"Closed under the global context"* ]] || { echo "prove.sh: the proof has axioms" >&2; exit 1; }
+        read -r _ nodes _ pairs <<< "$answer"
+        echo "this file's functions have an ordered diagram of $nodes nodes under the order$order," \
+            "and none${pairs:+ under an order that keeps the pairs of the certificate} has fewer" ;;
+    invalid*) echo "$answer"; exit 1 ;;
+    *) echo "prove.sh: $answer" >&2; exit 3 ;;
+esac
