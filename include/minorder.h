@@ -30,6 +30,13 @@ extern "C" {
 #define MINORDER_INLINE static inline
 #endif
 
+/* A pointer as another type of pointer: for the functions below alone. */
+#ifdef __cplusplus
+#define MINORDER_POINTER(type, pointer) reinterpret_cast<type>(pointer)
+#else
+#define MINORDER_POINTER(type, pointer) ((type)(pointer))
+#endif
+
 /* The version of the library that this header belongs to. */
 #define MINORDER_VERSION "1.0.0"
 
@@ -71,7 +78,10 @@ MINORDER_INLINE const char *minorder_status_text(uint32_t status) {
 }
 
 /* How many words the truth table of a function takes; 0 above 16 inputs, of which there are no such functions. */
-MINORDER_INLINE size_t minorder_words(uint32_t inputs) { return inputs < 6 ? 1 : inputs <= 16 ? (size_t)1 << (inputs - 6) : 0; }
+MINORDER_INLINE size_t minorder_words(uint32_t inputs) {
+    size_t one = 1;
+    return inputs < 6 ? one : inputs <= 16 ? one << (inputs - 6) : 0;
+}
 
 /* Pairs of variables: `above` has to stand above `below`. */
 typedef struct {
@@ -83,6 +93,13 @@ typedef struct {
 typedef struct {
     uint32_t variable, low, high;
 } minorder_node;
+
+/* What all orders have, or all that keep given pairs: how many they are, the fewest and the most nodes, how many orders have so many,
+   and the sum of the nodes of all orders. */
+typedef struct {
+    uint64_t orders, optimal_orders, worst_orders, total_nodes;
+    uint32_t fewest_nodes, most_nodes;
+} minorder_figures;
 
 /* The calls as the library has them, with the lengths of all arrays; those behind them ask for `inputs` entries of each. */
 uint32_t minorder_exact_with_lengths(const uint64_t *tables, size_t words, uint32_t inputs, uint32_t outputs,
@@ -97,16 +114,31 @@ uint32_t minorder_levels_with_lengths(const uint64_t *tables, size_t words, uint
 uint32_t minorder_diagram_with_lengths(const uint64_t *tables, size_t words, uint32_t inputs, uint32_t outputs,
                                        const uint8_t *order, size_t order_length, minorder_node *nodes, size_t room,
                                        uint32_t *roots, size_t roots_length, size_t *count);
+uint32_t minorder_exact_diagram_with_lengths(const uint64_t *tables, size_t words, uint32_t inputs, uint32_t outputs,
+                                             uint8_t *order, size_t order_length, uint32_t *levels, size_t levels_length,
+                                             minorder_node *nodes, size_t room, uint32_t *roots, size_t roots_length, uint32_t *total);
 uint32_t minorder_exact_many_with_lengths(const uint64_t *tables, size_t words, uint32_t inputs, uint32_t outputs,
                                           uint8_t *orders, size_t orders_length, uint32_t *levels, size_t levels_length,
                                           uint32_t *totals, size_t count);
+uint32_t minorder_exact_diagram_many_with_lengths(const uint64_t *tables, size_t words, uint32_t inputs, uint32_t outputs,
+                                                  uint32_t *totals, size_t count, uint8_t *orders, size_t orders_length,
+                                                  uint32_t *levels, size_t levels_length, minorder_node *nodes, size_t room,
+                                                  uint32_t *roots, size_t roots_length);
+uint32_t minorder_orders_with_pairs(const uint64_t *tables, size_t words, uint32_t inputs, uint32_t outputs,
+                                    const minorder_pair *pairs, size_t count, minorder_figures *figures);
+uint32_t minorder_widths_with_lengths(const uint64_t *tables, size_t words, uint32_t inputs, uint32_t outputs,
+                                      uint32_t *widths, size_t widths_length);
 uint32_t minorder_sift_with_lengths(const uint64_t *tables, size_t words, uint32_t inputs, uint32_t outputs,
                                     uint8_t *order, size_t order_length, uint32_t *levels, size_t levels_length, uint32_t *total);
 
 /* As many entries as so many variables or outputs ask for; 0 where there are no such functions, which is then a bad shape. */
 static inline size_t minorder_places(uint32_t count) { return count <= 16 ? count : 0; }
 
-/* Writes the first order of the fewest nodes, its level counts and its size. `order` and `levels` have `inputs` entries. */
+/* Writes the first order of the fewest nodes, its level counts and its size. `order` and `levels` have `inputs` entries.
+
+   All functions of an NPN class have one size: it stays if inputs are permuted or complemented, and if all outputs are complemented.
+   If g(x) = f(y), where y_i is x_p(i) or its complement, and i_0, i_1, .. is an order of the fewest nodes of f, then p(i_0), p(i_1),
+   .. is one of g, though perhaps not the first, and has the same level counts. */
 MINORDER_INLINE uint32_t minorder_exact(const uint64_t *tables, size_t words, uint32_t inputs, uint32_t outputs,
                                       uint8_t *order, uint32_t *levels, uint32_t *total) {
     size_t places = minorder_places(inputs);
@@ -147,7 +179,7 @@ MINORDER_INLINE uint32_t minorder_certify(const uint64_t *tables, size_t words, 
     const minorder_pair no_pair = {0, 0};
     uint8_t no_text = 0;
     return minorder_certify_with_pairs(tables, words, inputs, outputs, count == 0 ? &no_pair : pairs, count,
-                                       room == 0 ? &no_text : (uint8_t *)text, room, length);
+                                       room == 0 ? &no_text : MINORDER_POINTER(uint8_t *, text), room, length);
 }
 
 /* Writes the level counts under an order. `order` and `levels` have `inputs` entries. */
@@ -168,12 +200,59 @@ MINORDER_INLINE uint32_t minorder_diagram(const uint64_t *tables, size_t words, 
                                          room, roots, minorder_places(outputs), count);
 }
 
+/* What minorder_exact writes and the reduced diagram under that order, as minorder_diagram writes it: `nodes` has `room` entries, of
+   which `total` are written, and `roots` has `outputs`. If there are more nodes than room, the order, its level counts and its size
+   are written, no nodes and roots, and the call returns MINORDER_SHORT_TEXT. Without room `nodes` may be null. */
+MINORDER_INLINE uint32_t minorder_exact_diagram(const uint64_t *tables, size_t words, uint32_t inputs, uint32_t outputs,
+                                                uint8_t *order, uint32_t *levels, minorder_node *nodes, size_t room, uint32_t *roots,
+                                                uint32_t *total) {
+    size_t places = minorder_places(inputs);
+    minorder_node no_node = {0, 0, 0};
+    return minorder_exact_diagram_with_lengths(tables, words, inputs, outputs, order, places, levels, places,
+                                               room == 0 ? &no_node : nodes, room, roots, minorder_places(outputs), total);
+}
+
+/* The same for each of `count` problems, as minorder_exact_many has them. `nodes` gets the diagrams one behind the other, of each
+   problem as many nodes as its entry of `totals`, in which k + 2 is node k of its own problem; `roots` has `outputs` entries for each.
+   If the sum of the sizes is more than `room`, no nodes and roots are written and the call returns MINORDER_SHORT_TEXT. Where `count`
+   is 0 pointers may be null. */
+MINORDER_INLINE uint32_t minorder_exact_diagram_many(const uint64_t *tables, size_t words, uint32_t inputs, uint32_t outputs, size_t count,
+                                                     uint8_t *orders, uint32_t *levels, minorder_node *nodes, size_t room,
+                                                     uint32_t *roots, uint32_t *totals) {
+    size_t places = count * minorder_places(inputs), all_roots = count * minorder_places(outputs);
+    uint64_t no_table = 0;
+    uint8_t no_order = 0;
+    uint32_t no_level = 0, no_root = 0, no_total = 0;
+    minorder_node no_node = {0, 0, 0};
+    if (count == 0)
+        tables = &no_table, orders = &no_order, levels = &no_level, roots = &no_root, totals = &no_total, room = 0;
+    return minorder_exact_diagram_many_with_lengths(tables, words, inputs, outputs, totals, count, orders, places, levels, places,
+                                                    room == 0 ? &no_node : nodes, room, roots, all_roots);
+}
+
 /* Puts in the place of an order what one pass of sifting makes of it, and writes its level counts and its size. `order` and
    `levels` have `inputs` entries. */
 MINORDER_INLINE uint32_t minorder_sift(const uint64_t *tables, size_t words, uint32_t inputs, uint32_t outputs,
                                      uint8_t *order, uint32_t *levels, uint32_t *total) {
     size_t places = minorder_places(inputs);
     return minorder_sift_with_lengths(tables, words, inputs, outputs, order, places, levels, places, total);
+}
+
+/* Writes what all orders have that keep `count` pairs; without pairs `pairs` may be null. It finds the widths of all sets of variables,
+   which takes longer than minorder_exact where that leaves most of them out, and 112 bytes for each set beside the memory in which
+   widths are found. */
+MINORDER_INLINE uint32_t minorder_orders(const uint64_t *tables, size_t words, uint32_t inputs, uint32_t outputs,
+                                       const minorder_pair *pairs, size_t count, minorder_figures *figures) {
+    const minorder_pair none = {0, 0};
+    return minorder_orders_with_pairs(tables, words, inputs, outputs, count == 0 ? &none : pairs, count, figures);
+}
+
+/* Writes the widths of all sets of variables: at mask * inputs + x how many nodes the level of x has where the other members of the set
+   are below it, and 0 where x isn't a member. A set's mask has the bit 1 << x for each member x. `widths` has inputs << inputs
+   entries. The size of an order is the sum of the widths of its variables, each over those below it. */
+MINORDER_INLINE uint32_t minorder_widths(const uint64_t *tables, size_t words, uint32_t inputs, uint32_t outputs, uint32_t *widths) {
+    size_t places = minorder_places(inputs);
+    return minorder_widths_with_lengths(tables, words, inputs, outputs, widths, places << places);
 }
 
 /* Why a certificate isn't good: the first of these that applies, edges by mask and then by variable. */
@@ -264,9 +343,11 @@ MINORDER_INLINE uint32_t minorder_read_pla(const char *text, size_t length, mino
                                            minorder_fault *fault) {
     const uint8_t no_text = 0;
     uint64_t no_table = 0;
-    return minorder_read_pla_with_lengths(length == 0 ? &no_text : (const uint8_t *)text, length, &pla->inputs, &pla->outputs,
-                                          pla->input_names, 16, pla->output_names, 16, room == 0 ? &no_table : tables, room, fault);
+    return minorder_read_pla_with_lengths(length == 0 ? &no_text : MINORDER_POINTER(const uint8_t *, text), length, &pla->inputs,
+                                          &pla->outputs, pla->input_names, 16, pla->output_names, 16, room == 0 ? &no_table : tables, room, fault);
 }
+
+#undef MINORDER_POINTER
 
 #ifdef __cplusplus
 }

@@ -108,7 +108,7 @@ IsCheckOf words = (line : CheckLine) × IsCheckLineOf words line
 abbrev pub Checks : List (List ℕ) → Option (List ℕ) → Option (List ℕ) → Outcome → Type 0
 Checks words before after outcome = IsCheckOf words × Verdicts before after outcome
 
--- what the program writes that ends with status 0: help, if clap answers the words with it, else the line of a good certificate of some cover
+-- what the program writes that ends with status 0: help or the version, if clap answers the words with it, else the line of a good certificate of some cover
 abbrev pub ChecksWell : List (List ℕ) → Option (List ℕ) → Option (List ℕ) → Type 0
 ChecksWell words before after = AsksForHelp ordercheck words ⊎ Checks words before after Done
 
@@ -146,7 +146,7 @@ pub record CheckEnds (file cert : Option (List ℕ)) (before after : Devices) (o
 
 -- how ordercheck ends: its exit status, and what its streams hold before and after
 pub record OrdercheckEnds (words : List (List ℕ)) (status : ℕ) (before after : Streams) : Type 0 where
-  -- 0: help was asked for, or the line of a good certificate of some cover is written
+  -- 0: help or the version was asked for, or the line of a good certificate of some cover is written
   pub done : status ≡ 0 → ChecksWell words before.out after.out
   -- 1: the line of the first reason why a certificate is not good is written
   pub certificate_is_invalid : status ≡ 1 → IsInvalid words before.out after.out

@@ -35,9 +35,9 @@ fn check_files<'a, R: Files + AllocGlobal + Threads + Sync, W: CountedWrite>(
 }
 
 /// The program ordercheck. `words` are those after its name; the verdict goes to `out`, messages to
-/// `err`. Returns the exit status: 0 if the certificate is valid or help was asked for, 1 if the
-/// certificate is not valid, 2 for refused words, 3 for a refused PLA file or certificate, 4 if
-/// memory is refused, 5 if a device failed.
+/// `err`. Returns the exit status: 0 if the certificate is valid, or help or the version was asked
+/// for, 1 if the certificate is not valid, 2 for refused words, 3 for a refused PLA file or
+/// certificate, 4 if memory is refused, 5 if a device failed.
 ///
 /// The words are `FILE CERT`. Both files are opened first. CERT is read only if FILE has no fault.
 pub fn ordercheck<'a, R: Files + AllocGlobal + Threads + Sync, W: CountedWrite, E: CountedWrite>(

@@ -91,7 +91,9 @@ some_fault k ks other (inr h) = among_some k ks h
 module _ (app : App) (Lacks : List Text → Type 0) (words : List Text) where
   explained : (e : Error) (k : ErrorKind) → (k ≡ kinds.OutOfMemory) ⊎ IsAmong k (faults_of app words) → Explains app Lacks words (usage_of_kind k e)
   explained e kinds.DisplayHelp (inl h) = cc
-  explained e kinds.DisplayHelp (inr h) = h
+  explained e kinds.DisplayHelp (inr h) = inl h
+  explained e kinds.DisplayVersion (inl h) = cc
+  explained e kinds.DisplayVersion (inr h) = inr h
   explained e kinds.OutOfMemory h = record {}
   explained e kinds.InvalidValue h = inl (some_fault kinds.InvalidValue (faults_of app words) (λ e. cc) h)
   explained e kinds.UnknownArgument h = inl (some_fault kinds.UnknownArgument (faults_of app words) (λ e. cc) h)
@@ -106,7 +108,6 @@ module _ (app : App) (Lacks : List Text → Type 0) (words : List Text) where
   explained e kinds.MissingSubcommand h = inl (some_fault kinds.MissingSubcommand (faults_of app words) (λ e. cc) h)
   explained e kinds.DisplayHelpOnMissingArgumentOrSubcommand h =
       inl (some_fault kinds.DisplayHelpOnMissingArgumentOrSubcommand (faults_of app words) (λ e. cc) h)
-  explained e kinds.DisplayVersion h = inl (some_fault kinds.DisplayVersion (faults_of app words) (λ e. cc) h)
   explained e kinds.Io h = inl (some_fault kinds.Io (faults_of app words) (λ e. cc) h)
   explained e kinds.Format h = inl (some_fault kinds.Format (faults_of app words) (λ e. cc) h)
 

@@ -30,9 +30,9 @@ count_rule = record (new_rule (codes "count")) { long = Some (codes "count"); ac
 abbrev pub required : Text → Rule
 required name = record (new_rule name) { required = true }
 
--- a command whose words are those after the program's name
+-- a command with a version, whose words are those after the program's name
 abbrev pub named : Text → App
-named name = record (new_app name) { top = record (new_app name).top { no_binary_name = true } }
+named name = record (new_app name) { top = record (new_app name).top { no_binary_name = true; has_version = true } }
 
 abbrev pub with_options : App → App
 with_options app = with_rule (with_rule (with_rule (with_rule app workers_rule) (option (codes "cert"))) count_rule)

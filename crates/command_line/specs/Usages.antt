@@ -1,7 +1,7 @@
 -- What an error of clap means for a program, and why words give no plan.
 --     status_of usage      the exit status
---     usage_kind error      help that was requested, out of memory, or refused words
---     AsksForHelp app words      clap answers the words with help
+--     usage_kind error      help or the version that was requested, out of memory, or refused words
+--     AsksForHelp app words      clap answers the words with help or the version
 --     AreFaulty app Lacks words      clap finds a fault in the words, or they lack a required argument
 --     TurnsAway app words status      the exit status for words that request no run of the program
 --     Explains app Lacks words usage      why words give no plan
@@ -22,27 +22,28 @@ status_of OutOfMemory = 4
 
 abbrev pub usage_of_kind : ErrorKind → Error → Usage
 usage_of_kind kinds.DisplayHelp error = Help error
+usage_of_kind kinds.DisplayVersion error = Help error
 usage_of_kind kinds.OutOfMemory error = OutOfMemory
 usage_of_kind _ error = Refused error
 
--- help that was requested, out of memory, or refused words
+-- help or the version that was requested, out of memory, or refused words
 abbrev pub usage_kind : Error → Usage
 usage_kind error = usage_of_kind (kind_of error) error
 
--- help was not requested
+-- neither help nor the version was requested
 abbrev pub IsNoHelp : Usage → Type 0
 IsNoHelp (Help error) = ⊥
 IsNoHelp _ = Unit {0}
 
--- clap answers the words with help
+-- clap answers the words with help or the version
 abbrev pub AsksForHelp : App → List Text → Type 0
-AsksForHelp app words = IsAmong kinds.DisplayHelp (faults_of app words)
+AsksForHelp app words = IsAmong kinds.DisplayHelp (faults_of app words) ⊎ IsAmong kinds.DisplayVersion (faults_of app words)
 
 -- clap finds a fault in the words, or they lack a required argument
 abbrev pub AreFaulty : App → (List Text → Type 0) → List Text → Type 0
 AreFaulty app Lacks words = (faults_of app words ≢ []) ⊎ Lacks words
 
--- the exit status for words that request no run of the program: they are refused, memory is refused, or clap answers with help
+-- the exit status for words that request no run of the program: they are refused, memory is refused, or clap answers with help or the version
 abbrev pub TurnsAway : App → List Text → ℕ → Type 0
 TurnsAway app words status = (status ≡ 2) ⊎ (status ≡ 4) ⊎ ((status ≡ 0) × AsksForHelp app words)
 

@@ -25,8 +25,9 @@ fn command<'a>(alloc: Global) -> Result<Command<'a>, AllocError>
 {
     let command = Command::new(alloc, "ordercheck")
         .about(
-            "ordercheck 1.0.0 decides whether a certificate proves that no variable order of a PLA file's functions has fewer nodes",
+            "Decides whether a certificate proves that no variable order of a PLA file's functions has fewer nodes",
         )
+        .version("1.0.0")
         .no_binary_name(true);
     command
         .arg(required_path(alloc, "FILE", "The Berkeley PLA file"))?
@@ -52,8 +53,8 @@ fn line_of<'a>(matches: &ArgMatches<'a>) -> Option<CheckLine<'a>>
 
 impl<'a> CheckLine<'a> {
     /// Parses `words`, those after the program's name, as a command line of ordercheck, by clap's
-    /// rules. The error is `Help` if they request help, `OutOfMemory` if memory is refused, and
-    /// otherwise `Refused`.
+    /// rules. The error is `Help` if they request help or the version, `OutOfMemory` if memory is
+    /// refused, and otherwise `Refused`.
     pub fn of_words(alloc: Global, words: &'a [&'a str]) -> Result<CheckLine<'a>, Usage>
         ensures line { IfOk result (IsCheckLineOf (texts words.now)) }
         ensures refused { IfErr result (Explains ordercheck LacksPaths (texts words.now)) }

@@ -7,11 +7,11 @@ use clap::Error;
 use clap::error::ErrorKind;
 use std::alloc::AllocError;
 
-/// Why the words after a program's name are no command line that it carries out. The texts of help
-/// and of faults are clap's.
+/// Why the words after a program's name are no command line that it carries out. The texts of help,
+/// of the version and of faults are clap's.
 #[derive(Debug, Drop)]
 pub enum Usage {
-    /// Help was requested.
+    /// Help or the version was requested.
     Help(Error),
     /// The words are not as the program takes them.
     Refused(Error),
@@ -20,7 +20,7 @@ pub enum Usage {
 }
 
 impl Usage {
-    /// The exit status: 0 for help, 2 for refused words, 4 for out of memory.
+    /// The exit status: 0 for help or the version, 2 for refused words, 4 for out of memory.
     pub fn status(&self) -> u8
         ensures { result ≡ status_of self.now }
     {
@@ -35,11 +35,11 @@ impl Usage {
 impl From<Error> for Usage {
     ghost from_gives = { λ error usage. usage ≡ usage_kind error };
 
-    /// `Help` for clap's request for help, `OutOfMemory` if clap was refused memory, and `Refused`
-    /// for any other error of clap.
+    /// `Help` for clap's requests for help and for the version, `OutOfMemory` if clap was refused
+    /// memory, and `Refused` for any other error of clap.
     fn from(error: Error) -> Usage {
         match error.kind() {
-            ErrorKind::DisplayHelp => Usage::Help(error),
+            ErrorKind::DisplayHelp | ErrorKind::DisplayVersion => Usage::Help(error),
             ErrorKind::OutOfMemory => Usage::OutOfMemory,
             _ => Usage::Refused(error),
         }

@@ -18,3 +18,4 @@ pub mod ImageRows
 pub mod UnrolledTables
 pub mod StripNumbers
 pub mod NamedStrips
+pub mod AllRows

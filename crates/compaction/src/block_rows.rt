@@ -27,7 +27,7 @@ impl<'a> Preparation<'a> {
     /// of x over the other members, and 0 elsewhere. It is read from the row of the set's image in
     /// the renamed problem. None if one of these widths was not found ahead. Requires that `needed`
     /// is a subset of `set`, and `set` a set of the problem.
-    fn row_of(&self, set: Mask, needed: Mask) -> Option<WidthRow>
+    pub(crate) fn row_of(&self, set: Mask, needed: Mask) -> Option<WidthRow>
         requires set { set < 2 ^ self.now.problem.inputs }
         requires members { AreMembersOf self.now.problem.inputs set needed }
         ensures { IfSome result (IsWidthRow self.now.problem set needed) }

@@ -1,6 +1,6 @@
 //! The widths of the sets of a block.
 
-ghost use Rattle.std.specs.Prelude.{◌≡◌, ◌+◌, ◌^◌, ◌≤◌, length, IfOk, OnOk, OnErr};
+ghost use Rattle.std.specs.Prelude.{◌≡◌, ◌+◌, ◌^◌, ◌<◌, ◌≤◌, length, slice_get, IfOk, OnOk, OnErr};
 ghost use Rattle.subset_layers.specs.Layers.{block_masks};
 ghost use Rattle.compaction.specs.Requests.{Asks};
 ghost use Rattle.compaction.specs.Rows.{AreWidthRows, AreMembers, HoldsRows, wanted_count, most_compactions};
@@ -33,6 +33,15 @@ impl Model for BlockWidths {
 }
 
 impl BlockWidths {
+    /// The row of the block's set `i`: at each member x whose width was requested, the width of x
+    /// over the other members, and 0 elsewhere. Requires `i` to be below the number of sets.
+    pub fn row(&self, i: usize) -> WidthRow
+        requires { i < length self.now.rows }
+        ensures { slice_get self.now.rows i ≡ Some result }
+    {
+        self.rows[i]
+    }
+
     /// A row for each set of the block, by rising mask: at each member x whose width was requested,
     /// the width of x over the other members, and 0 elsewhere.
     pub fn into_rows(self) -> Vec<WidthRow>

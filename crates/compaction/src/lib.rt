@@ -3,6 +3,7 @@
 #![tactic(auto)]
 
 mod add_variable;
+mod all_rows;
 mod block_rows;
 mod blocks;
 mod found_rows;
@@ -18,6 +19,7 @@ mod strips;
 mod tally;
 mod values;
 
+pub use all_rows::{widths_of_all_sets, widths_of_all_sets_by_workers};
 pub use blocks::{BlockWidths, block_widths};
 pub use low_choice::renaming_of;
 pub use preparation::Preparation;

@@ -243,6 +243,16 @@ impl<'a> Preparation<'a> {
         self.take(found, end)
     }
 
+    /// Finds the rows of all sets that are the first of their orbit, by the calling thread.
+    pub(crate) fn find_all(&mut self, alloc: Global) -> Result<(), AllocError>
+        ensures { self.new.problem ≡ self.old.problem }
+    {
+        let inputs = self.problem().inputs();
+        let mut requests = self.requests(alloc)?;
+        requests.add_sets(&self.wanted(1, inputs), true);
+        self.find_alone(alloc, &requests, inputs)
+    }
+
     /// Finds all rows of widths in `requests`, by the threads of `workers` workers. `end`, the size
     /// up to which rows are to be found, limits nothing: rows of larger sets are found, too, if
     /// they are in `requests`. If `end` exceeds `self.end()`, the new rows replace those of the

@@ -2,6 +2,7 @@
 pub mod Sets
 pub mod Ranges
 pub mod Maps
+pub mod Sums
 pub mod Digits
 pub mod Orders
 pub mod Accepted

@@ -4,6 +4,7 @@ pub mod Pairs
 pub mod Diagrams
 pub mod Levels
 pub mod Widths
+pub mod AllOrders
 pub mod LowerBounds
 pub mod Cells
 pub mod Sifting

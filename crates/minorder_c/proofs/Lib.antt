@@ -1,4 +1,6 @@
 mod Counts
+mod DrawnParts
+mod ListedWidths
 mod NamePlaces
 mod Parts
 mod Places

@@ -15,13 +15,13 @@ use Rattle.minorder_c.specs.Many.{AreFirstFewest, HasManyShape, IsPut, tables_at
 use Rattle.minorder_c.proofs.Counts.{counts_long}
 
 -- a part of a list stays where more is put behind the list
-kept_part : (size : ℕ) (xs ys : List ℕ) (k : ℕ) → k * size + size ≤ length xs → words_of size (xs ++ ys) k ≡ words_of size xs k
+pub kept_part : (size : ℕ) (xs ys : List ℕ) (k : ℕ) → k * size + size ≤ length xs → words_of size (xs ++ ys) k ≡ words_of size xs k
 kept_part size xs ys k h =
     ap (take size) (drop-append-le (k * size) xs ys (omega arith))
     ∙ take-append-le size (drop (k * size) xs) ys (omega (arith, length-drop (k * size) xs))
 
 -- the part that is put behind a list
-last_part : (size : ℕ) (xs ys : List ℕ) (k : ℕ) → length xs ≡ k * size → length ys ≡ size → words_of size (xs ++ ys) k ≡ ys
+pub last_part : (size : ℕ) (xs ys : List ℕ) (k : ℕ) → length xs ≡ k * size → length ys ≡ size → words_of size (xs ++ ys) k ≡ ys
 last_part size xs ys k l m = ap (take size) (drop_at xs ys (k * size) l) ∙ take_all size ys (omega arith)
 
 pub record IsSoFar (given : GivenTables) (i : ℕ) (orders levels totals : List ℕ) : Type 0 where

@@ -6,4 +6,5 @@ pub mod Diagrams
 pub mod Read
 pub mod Certified
 pub mod Many
+pub mod OrderFigures
 pub mod Stated

@@ -97,7 +97,7 @@ pub(crate) fn tables_for(
 
 /// The order `variables`, top first. Err is `Order` if `variables` doesn't have each variable below
 /// its length exactly once, else `OutOfMemory`. Requires 1 to 16 variables.
-fn order_of(alloc: Global, variables: &[u8]) -> Result<Order, Refusal>
+pub(crate) fn order_of(alloc: Global, variables: &[u8]) -> Result<Order, Refusal>
     requires some { 1 ≤ length variables.now }
     requires few { length variables.now ≤ 16 }
     ensures order { OnOk result (IsOrder (length variables.now) variables.now) }

@@ -1,5 +1,5 @@
-//! The order of the fewest nodes, its certificate, level counts, diagrams, sifting and the checker
-//! of certificates, for callers in C. include/minorder.h declares them.
+//! The order of the fewest nodes, its certificate, level counts, diagrams, sifting, the figures of
+//! all orders and the checker of certificates, for callers in C. include/minorder.h declares them.
 #![tactic(auto)]
 
 mod above;
@@ -7,8 +7,11 @@ mod arguments;
 mod certification;
 mod diagrams;
 mod exact;
+mod exact_diagram;
 mod levels;
 mod many;
+mod many_diagrams;
+mod order_figures;
 mod pla_files;
 mod rooms;
 mod sift;

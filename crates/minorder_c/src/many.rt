@@ -16,17 +16,17 @@ use std::alloc::{AllocError, Global};
 /// The answers for many problems: the entries of each list are those of the first problem, then
 /// those of the second, and so on.
 #[derive(Drop)]
-struct Answers {
+pub(crate) struct Answers {
     /// The first order of the fewest nodes of each problem, top first.
-    orders: Vec<u8>,
+    pub(crate) orders: Vec<u8>,
     /// The level counts of each of these orders, top first.
-    levels: Vec<u32>,
+    pub(crate) levels: Vec<u32>,
     /// The size of each of these orders.
-    totals: Vec<u32>,
+    pub(crate) totals: Vec<u32>,
 }
 
 /// Whether `length` is `many * size`.
-fn is_length(length: usize, many: usize, size: usize) -> bool
+pub(crate) fn is_length(length: usize, many: usize, size: usize) -> bool
     ensures { IsTrue result ↔ (length ≡ many * size) }
 {
     match many.checked_mul(size) {
@@ -38,7 +38,7 @@ fn is_length(length: usize, many: usize, size: usize) -> bool
 /// Whether `given` has 1 to 16 inputs, 1 to 16 outputs, and exactly the words of the packed truth
 /// tables of `many` problems, and both `places`, the length of a slice for orders, and `counts`,
 /// that of a slice for level counts, are `many` times the number of inputs.
-fn is_shape(given: &GivenTables, places: usize, counts: usize, many: usize) -> bool
+pub(crate) fn is_shape(given: &GivenTables, places: usize, counts: usize, many: usize) -> bool
     ensures { IsTrue result ↔ HasManyShape given.now places counts many }
 {
     if !is_in_range(given) {

@@ -44,7 +44,7 @@ pub record ProgramEnds (program : Program) (MayEnd : Fault → Type 0) (words : 
   pub is_an_exit_status : IsTrue (has (exits_of program) status)
   -- 2: only if the words are faulty
   pub words_are_faulty : status ≡ 2 → AreFaultyFor program words
-  -- faulty words: 2, or 4, or 0 and help
+  -- faulty words: 2, or 4, or 0 and help or the version
   pub turns_away_faulty_words : AreFaultyFor program words → TurnsAwayFrom program words status
   -- 0 and 1: standard error gets nothing
   pub reports_no_fault : status ≤ 1 → after.err.holds ≡ before.err.holds
@@ -56,7 +56,7 @@ pub record ProgramEnds (program : Program) (MayEnd : Fault → Type 0) (words : 
 -- how a program ends at words that give no plan
 pub record UsageEnds (program : Program) (usage : Usage) (status : ℕ) (before after : Streams) : Type 0 where
   pub is_an_exit_status : IsTrue (has usage_exits status)
-  -- 0: only if help was asked for, and standard error gets nothing
+  -- 0: only if help or the version was asked for, and standard error gets nothing
   pub is_help : status ≡ 0 → IsHelp usage
   pub reports_no_fault : status ≡ 0 → after.err.holds ≡ before.err.holds
   -- 2: only if the words are refused

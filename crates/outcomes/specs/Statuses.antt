@@ -38,7 +38,7 @@ certificate_refusal (cert.Line line fault) = CertificateLine line fault
 certificate_refusal cert.TooLong = CertificateTooLong
 certificate_refusal cert.OutOfMemory = OutOfMemory
 
--- help was asked for
+-- help or the version was asked for
 abbrev pub IsHelp : Usage → Type 0
 IsHelp (usage.Help error) = Unit {0}
 IsHelp _ = ⊥

@@ -50,10 +50,10 @@ pub fn write_fault<E: CountedWrite>(err: &mut E, program: Program, fault: Fault)
     let _ = write_whole(err, line.as_str().as_bytes());
 }
 
-/// Writes the text of `usage` and returns the exit status. Help goes to `out`, with status 0. The
-/// reason why the words after the program's name are refused goes to `err`, with status 2. If
-/// `usage` is `OutOfMemory`, or memory is refused for its text, the line for `OutOfMemory` goes to
-/// `err`, with status 4. A failure of a writer has no effect.
+/// Writes the text of `usage` and returns the exit status. Help or the version goes to `out`, with
+/// status 0. The reason why the words after the program's name are refused goes to `err`, with
+/// status 2. If `usage` is `OutOfMemory`, or memory is refused for its text, the line for
+/// `OutOfMemory` goes to `err`, with status 4. A failure of a writer has no effect.
 pub fn write_usage<W: CountedWrite, E: CountedWrite>(
     alloc: Global,
     program: Program,

@@ -45,9 +45,9 @@ fn run_on_files<'a, R: Files + AllocGlobal + Threads + Sync, W: CountedWrite>(
 
 /// The program minorder. `words`, those after its name, are `[--workers W] [--cert OUT] [--count]
 /// [--above LIST] FILE`. The report goes to `out`, messages to `err`. Returns the exit status: 0
-/// done, or help was requested; 2 words refused; 3 FILE refused; 4 out of memory; 5 a device
-/// failed; 8 pairs refused. OUT is created, empty, after FILE is opened and before it is read, but
-/// not with `--count`.
+/// done, or help or the version was requested; 2 words refused; 3 FILE refused; 4 out of memory; 5
+/// a device failed; 8 pairs refused. OUT is created, empty, after FILE is opened and before it is
+/// read, but not with `--count`.
 pub fn minorder<'a, R: Files + AllocGlobal + Threads + Sync, W: CountedWrite, E: CountedWrite>(
     rt: &R,
     words: &'a [&'a str],

@@ -128,7 +128,7 @@ WritesGood plan file before after Done = plan.count ≡ false →
 WritesGood plan file before after (Refused fault) = Unit {0}
 WritesGood plan file before after Invalid = Unit {0}
 
--- what a program writes to its output that ends with status 0: help, if clap answers the words with it, else the text of some cover
+-- what a program writes to its output that ends with status 0: help or the version, if clap answers the words with it, else the text of some cover
 abbrev pub EndsWell : List (List ℕ) → Option (List ℕ) → Option (List ℕ) → Type 0
 EndsWell words before after =
     AsksForHelp minorder words ⊎
@@ -223,7 +223,7 @@ pub record RunEnds (plan : RunPlan) (file : Option (List ℕ)) (before after : D
 
 -- how minorder ends: its exit status, and what its streams hold before and after
 pub record MinorderEnds (words : List (List ℕ)) (status : ℕ) (before after : Streams) : Type 0 where
-  -- 0: help was asked for, or the text of some cover is written
+  -- 0: help or the version was asked for, or the text of some cover is written
   pub done : status ≡ 0 → EndsWell words before.out after.out
   -- 3: the words ask for a run
   pub file_is_refused : status ≡ 3 → IsRunOf words

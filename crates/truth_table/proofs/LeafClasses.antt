@@ -1,5 +1,6 @@
 -- Class numbers of the leaves: the values at the points of all assignments of an order.
 --     subfunctions_fixed      the subfunctions by an order's variables fix them to the points' bits
+--     order_small      an order's variables are below 16
 --     assignments_small      the points' numbers are below 2 ^ n
 --     leaves_are      each value is that of its function with all variables fixed
 --     leaves_tell      the values tell the functions with all variables fixed apart
@@ -9,7 +10,7 @@ use Rattle.std.specs.List.{All, flat_map, AllZip, AllByRecursion, IsDistinct}
 use Rattle.std.proofs.lemmas.Bool.{cases_eq, false≢true, true≢false}
 use Rattle.std.proofs.lemmas.List.{length-append, map-append, take_all, take_more, length-set, length-replicate, get_or-set_same, get_or-set_other, append-nil}
 use Rattle.std.proofs.lemmas.List.Concat.{flat_map-append}
-use Rattle.std.proofs.lemmas.List.Elements.{All-cons, All-head, All-nil, All-tail}
+use Rattle.std.proofs.lemmas.List.Elements.{All-cons, All-from_recursion, All-head, All-nil, All-tail}
 use Rattle.std.proofs.lemmas.Nat.{or_lt, pow_below, pow_pos}
 use Rattle.std.proofs.lemmas.Nat.Bits.{bit_at-lt, bit_at-zero, bit_at_or, bit_at-pow_same, bit_at-pow_other, same_from_bits_below}
 use Rattle.definitions.specs.Functions.{Point, Function, bit, weight, number, from_table, restrict, SameFunction}
@@ -251,6 +252,11 @@ values_packed n words t [] e h = refl
 values_packed n words t (k ∷ ks) e h =
     let rest = values_packed n words t ks e (All-tail (λ k. k < 2 ^ n) k ks h) in
     λ i. cond ((sym (table_value n words k (All-head (λ k. k < 2 ^ n) k ks h)) ∙ ap (λ u. get_or u k false) e) i) 1 0 ∷ rest i
+
+pub order_small : (n : ℕ) (order : List ℕ) → n ≤ 16 → IsOrder n order → All (λ x. x < 16) order
+order_small n order few o k d h =
+    let below = All-from_recursion (λ x. x < n) order (below_from_has n order (λ y m. (o.all y).0 m)) k d h in
+    omega arith
 
 pub assignments_below : (n : ℕ) (order : List ℕ) → IsOrder n order → All (λ k. k < 2 ^ n) (assignments order)
 assignments_below n order o = each_all (assignments order) (assignments_small n order (order_distinct n order o))

@@ -1,6 +1,7 @@
 -- The reduced diagram of the subfunctions below a level, from that of the level below.
 --     Leveled n fs order level nodes numbers      the nodes from a level on, as the reduced diagram of some functions
 --     leveled_leaves, leveled_step, leveled_top      with all variables fixed, one level up, and with none fixed
+--     level_few      nodes and refs together become no more
 use Rattle.std.proofs.Common.{◌≡◌, ◌≢◌, ℕ, zero, suc, ◌+◌, ◌-◌, ◌*◌, ◌/◌, ◌%◌, ◌^◌, ◌<◌, ◌≤◌, ◌⊎◌, inl, inr, Bool, true, false, cond, List, [], ◌∷◌, ◌++◌, map, length, take, get_or, slice_get, refl, sym, ap, ◌∙◌, arith, subst, Some, length-append}
 use Rattle.std.specs.List.{AllZip}
 use Rattle.std.proofs.lemmas.List.{get_or-map, length-map, take_all}
@@ -375,14 +376,6 @@ module _ (n : ℕ) (fs : List Function) (order : List ℕ) (level x : ℕ) (o : 
   unfolding both more variable_of
   leveled_up = grind (arith, both_represents, both_reduced, both_by_level, cases, variable_of, place_x)
 
-  -- nodes and refs together become no more
-  pub few_up : length new + length above ≤ length old + length below
-  unfolding both more
-  few_up =
-      omega (arith, ap length m.nodes_are, length-append old (map (node_over x) keys), length-map keys (node_over x), length-pairs_of below)
-
--- ---- with no variable fixed
-
 -- ---- the program's diagram
 
 pub leveled_leaves : (n : ℕ) (order : List ℕ) (tables : List (List Bool)) (k : ℕ) (cs : List ℕ) → IsOrder n order → length order ≤ k →
@@ -403,20 +396,25 @@ few_leaves n order tables cs o few short v =
     let e = ap length v in
     omega (arith, mul-le-mul_right {m = length (map from_table tables)} {n = 16} (2 ^ length order) (omega arith))
 
+-- nodes and refs together become no more
+pub level_few : (x : ℕ) (old : List Node) (below : List ℕ) (new : List Node) (above : List ℕ) → IsLevelAbove x old below new above →
+    length new + length above ≤ length old + length below
+level_few x old below new above m =
+    let n = m.numbered in
+    omega (arith, ap length n.nodes_are, length-append old (map (node_over x) m.keys), length-map m.keys (node_over x), length-pairs_of below, n.few, n.long)
+
 pub leveled_step : (n : ℕ) (F : List Function) (order : List ℕ) (level x : ℕ) (old new : List Node) (below above : List ℕ) → 0 < level →
     level ≤ length order → IsOrder n order → x ≡ get_or order (level - 1) 0 → Leveled n (reach F (take level order)) order level old below →
     IsLevelAbove x old below new above →
-    Leveled n (reach F (take (level - 1) order)) order (level - 1) new above × (length new + length above ≤ length old + length below)
+    Leveled n (reach F (take (level - 1) order)) order (level - 1) new above
 leveled_step n F order level x old new below above some within o at rest m =
     let k : ℕ = level - 1 in
     let here : k < length order = omega arith in
     let split = ap (reach F) (take_more order k 0 here) ∙ reach_last F (take k order) (get_or order k 0)
     ∙ ap (λ y. restricted y (reach F (take k order))) (sym at) in
     let lower = subst (λ fs. Leveled n fs order (k + 1) old below) split
-    (subst (λ z. Leveled n (reach F (take z order)) order z old below) (omega arith) rest) in (
-      leveled_up n (reach F (take k order)) order k x o here at old below lower new m.keys above m.numbered,
-      few_up n (reach F (take k order)) order k x o here at old below lower new m.keys above m.numbered,
-    )
+    (subst (λ z. Leveled n (reach F (take z order)) order z old below) (omega arith) rest) in
+    leveled_up n (reach F (take k order)) order k x o here at old below lower new m.keys above m.numbered
 
 pub leveled_top : (n : ℕ) (F : List Function) (order : List ℕ) (level : ℕ) (nodes : List Node) (numbers : List ℕ) → IsOrder n order → level ≤ 0 →
     Leveled n (reach F (take level order)) order level nodes numbers → (d : OrderedGraph) → d.order ≡ order → d.graph.nodes ≡ nodes →

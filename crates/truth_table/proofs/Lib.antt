@@ -9,4 +9,6 @@ pub mod KeptPoints
 pub mod OfCovers
 pub mod Lists
 pub mod Refs
+pub mod NumberedNodes
+pub mod Sizes
 pub mod LevelDiagrams

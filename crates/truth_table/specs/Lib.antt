@@ -7,3 +7,4 @@ pub mod Numberings
 pub mod Assignments
 pub mod Reduced
 pub mod Levels
+pub mod PackedTables

@@ -1,14 +1,110 @@
 //! Reduced diagrams of truth tables, made level by level from the bottom, without a store.
 
-ghost use Rattle.std.specs.Prelude.{◌≡◌, ◌≤◌, ◌^◌, length, map, IfOk};
-ghost use Rattle.definitions.specs.Problems.{functions};
-ghost use Rattle.truth_table.specs.Reduced.{IsByLevel, IsDiagramOf};
-ghost use Rattle.truth_table.specs.Levels.{ref_named};
+ghost use Rattle.std.specs.Prelude.{◌≡◌, ◌<◌, ◌≤◌, ◌^◌, length, map, IfOk, OnOk};
+ghost use Rattle.definitions.specs.Orders.{IsOrder};
+ghost use Rattle.definitions.specs.Problems.{TruthTables, functions, packed_tables};
+ghost use Rattle.truth_table.specs.Assignments.{AreValuesUnder};
+ghost use Rattle.truth_table.specs.PackedTables.{ArePacked};
+ghost use Rattle.truth_table.specs.Reduced.{IsByLevel, IsDiagramOf, IsNumberedDiagram};
+ghost use Rattle.truth_table.specs.Levels.{node_named, ref_named};
+ghost use Rattle.std.specs.List.{All};
 
-use crate::levels::{level_above, ref_of};
+use crate::levels::{NumberedNode, add_level, ref_of};
+use crate::packed_values::write_packed_values;
 use crate::tables::Tables;
-use order_model::{Diagram, Order, Ref};
+use indexmap::IndexSet;
+use order_model::{Diagram, Node, Order, Ref, VarIx};
 use std::alloc::{AllocError, Global};
+
+/// Memory in which diagrams are made: each uses again what earlier ones took.
+#[derive(Drop)]
+pub struct DiagramMemory {
+    /// The nodes of the last diagram that was made, lower levels first.
+    pub nodes: Vec<NumberedNode>,
+    /// The number of each output's root in that diagram, numbered as the children of its nodes are.
+    pub roots: Vec<u32>,
+    /// Working memory: the points of all assignments.
+    points: Vec<u32>,
+    /// Working memory: the children of a level's nodes.
+    pairs: IndexSet<(u32, u32)>,
+}
+
+impl DiagramMemory {
+    /// Memory without a diagram.
+    pub fn new(alloc: Global) -> DiagramMemory {
+        DiagramMemory {
+            nodes: Vec::new(alloc),
+            roots: Vec::new(alloc),
+            points: Vec::new(alloc),
+            pairs: IndexSet::new(alloc),
+        }
+    }
+}
+
+/// Turns the values of some functions under `order`, which `memory.roots` has, into their reduced
+/// diagram under it: writes its nodes, lower levels first, and its roots to `memory`. If memory is
+/// refused, this has no meaning. Requires at most 2^20 values.
+fn add_levels(order: &[VarIx], memory: &mut DiagramMemory) -> Result<(), AllocError>
+    requires { length memory.old.roots.items ≤ 2 ^ 20 }
+    ensures diagram { OnOk result ((t : TruthTables) →
+        AreValuesUnder t order.now memory.old.roots.items →
+        IsNumberedDiagram t.inputs (functions t) order.now memory.new.nodes.items
+        memory.new.roots.items) }
+    ensures few { OnOk result (length memory.new.nodes.items ≤ 2 ^ 20) }
+{
+    memory.nodes.clear();
+    for level in (0..order.len()).rev() {
+        add_level(
+            &mut memory.nodes,
+            &mut memory.pairs,
+            u32::from(order[level]),
+            &mut memory.roots,
+        )?;
+    }
+    Ok(())
+}
+
+/// Makes the reduced diagram of m functions of n variables under `order`: writes its nodes, lower
+/// levels first, and its roots to `memory`, whatever this has before. `words` has their truth
+/// tables, packed in words of 64 points, one function after the other. If memory is refused,
+/// `memory` has no meaning. Takes time in proportion to the number of outputs times that of points.
+/// Requires n and m to be from 1 to 16, and `order` to have each variable once.
+pub fn make_diagram(
+    n: u8,
+    m: u8,
+    words: &[u64],
+    order: &[VarIx],
+    memory: &mut DiagramMemory,
+) -> Result<(), AllocError>
+    requires packed { ArePacked n m words.now }
+    requires order { IsOrder n order.now }
+    ensures diagram { OnOk result
+        (IsNumberedDiagram n (functions (packed_tables n m words.now)) order.now
+        memory.new.nodes.items memory.new.roots.items) }
+    ensures few { OnOk result (length memory.new.nodes.items ≤ 2 ^ 20) }
+{
+    write_packed_values(n, m, words, order, &mut memory.points, &mut memory.roots)?;
+    add_levels(order, memory)?;
+    Ok(())
+}
+
+/// Makes the reduced diagram of the functions of `tables` under `order`, as `make_diagram` does.
+/// Requires `order` to have each variable of the tables once.
+fn draw_tables(
+    tables: &Tables,
+    order: &[VarIx],
+    memory: &mut DiagramMemory,
+) -> Result<(), AllocError>
+    requires { IsOrder tables.now.inputs order.now }
+    ensures diagram { OnOk result
+        (IsNumberedDiagram tables.now.inputs (functions tables.now) order.now
+        memory.new.nodes.items memory.new.roots.items) }
+    ensures few { OnOk result (length memory.new.nodes.items ≤ 2 ^ 20) }
+{
+    tables.write_values(order, &mut memory.points, &mut memory.roots)?;
+    add_levels(order, memory)?;
+    Ok(())
+}
 
 /// The refs that `numbers` stand for, in their order: 0 is the terminal 0, 1 the terminal 1, and
 /// k + 2 node k of the diagram's list of nodes.
@@ -22,6 +118,27 @@ fn refs_of(alloc: Global, numbers: &[u32]) -> Result<Vec<Ref>, AllocError>
     Ok(refs)
 }
 
+/// The nodes that `numbered` stand for, in their order. Requires each variable to be below 2^8.
+fn nodes_of(alloc: Global, numbered: &[NumberedNode]) -> Result<Vec<Node>, AllocError>
+    requires { All (λ (node : NumberedNode). node.variable < 2 ^ 8) numbered.now }
+    ensures { IfOk result (λ v. v.items ≡ map node_named numbered.now) }
+{
+    let mut nodes = Vec::with_capacity(alloc, numbered.len())?;
+    for i in 0..numbered.len() {
+        let NumberedNode {
+            variable,
+            low,
+            high,
+        } = numbered[i];
+        nodes.push(Node {
+            variable: variable as VarIx,
+            low: ref_of(low),
+            high: ref_of(high),
+        })?;
+    }
+    Ok(nodes)
+}
+
 /// The reduced diagram of the functions of `tables` under `order`. Its list of nodes has lower
 /// levels first. Takes time in proportion to the number of outputs times that of points. Requires
 /// `order` to have all variables of the tables.
@@ -32,14 +149,10 @@ pub fn reduced_diagram(alloc: Global, tables: &Tables, order: &Order) -> Result<
     ensures by_level { IfOk result (λ d. IsByLevel order.now d.graph.nodes) }
     ensures few { IfOk result (λ d. length d.graph.nodes ≤ 2 ^ 20) }
 {
-    prove!(tables.problem().outputs() <= 16);
-    let n = order.len();
-    let levels = order.variables();
-    let mut nodes = Vec::new(alloc);
-    let mut numbers = tables.values_under(alloc, order)?;
-    for level in (0..n).rev() {
-        numbers = level_above(alloc, &mut nodes, levels[level], &numbers)?;
-    }
-    let roots = refs_of(alloc, &numbers)?;
+    prove!(order.len() <= 16);
+    let mut memory = DiagramMemory::new(alloc);
+    draw_tables(tables, order.variables(), &mut memory)?;
+    let nodes = nodes_of(alloc, &memory.nodes)?;
+    let roots = refs_of(alloc, &memory.roots)?;
     Ok(Diagram::new(order.try_clone(alloc)?, nodes, roots))
 }

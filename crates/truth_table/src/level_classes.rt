@@ -59,20 +59,22 @@ fn push_upper(points: &mut Vec<u32>, x: VarIx) -> Result<(), AllocError>
     Ok(())
 }
 
-/// The points of all assignments to `variables`. Along the list the last variable changes fastest,
-/// and the first slowest, from 0 to 1. Bit x of a point is the value of variable x, or 0 if x is
-/// not among them. Requires at most 16 variables, each below 16.
-pub(crate) fn assignment_points(alloc: Global, variables: &[VarIx]) -> Result<Vec<u32>, AllocError>
+/// Overwrites `points` with the points of all assignments to `variables`. Along the list the last
+/// variable changes fastest, and the first slowest, from 0 to 1. Bit x of a point is the value of
+/// variable x, or 0 if x is not among them. If memory is refused, `points` has no meaning. Requires
+/// at most 16 variables, each below 16.
+pub(crate) fn write_points(points: &mut Vec<u32>, variables: &[VarIx]) -> Result<(), AllocError>
     requires small { All (λ x. x < 16) variables.now }
     requires few { length variables.now ≤ 16 }
-    ensures { IfOk result (λ v. v.items ≡ assignments variables.now) }
+    ensures { OnOk result (points.new.items ≡ assignments variables.now) }
 {
-    let mut points = Vec::with_capacity(alloc, 1usize << variables.len())?;
+    points.clear();
+    points.reserve(1usize << variables.len())?;
     points.push(0u32)?;
     for i in (0..variables.len()).rev() {
-        push_upper(&mut points, variables[i])?;
+        push_upper(points, variables[i])?;
     }
-    Ok(points)
+    Ok(())
 }
 
 /// Appends to `values` the value, 0 or 1, of the packed truth table `words` at each of `points`.

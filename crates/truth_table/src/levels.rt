@@ -1,12 +1,28 @@
 //! One level of a reduced diagram, made from the level below.
 
-ghost use Rattle.std.specs.Prelude.{◌≡◌, ◌≢◌, ◌+◌, ◌<◌, ◌≤◌, ◌^◌, length, IfOk, map};
-ghost use Rattle.truth_table.specs.Numberings.{pairs_of};
-ghost use Rattle.truth_table.specs.Levels.{IsLevelAbove, IsNumbered, node_over, ref_named, Seeks};
+ghost use Rattle.std.specs.Prelude.{◌≡◌, ◌≢◌, ◌+◌, ◌<◌, ◌≤◌, ◌^◌, length, IfOk, IsTrue, OnOk, map};
+ghost use Rattle.std.specs.List.{position_or_len};
+ghost use Rattle.definitions.specs.Widths.{same_pair};
+ghost use Rattle.truth_table.specs.Levels.{IsLevelAbove, SeeksAmong, children_from, node_named, ref_named};
 
 use indexmap::IndexSet;
-use order_model::{Node, Ref, VarIx};
-use std::alloc::{AllocError, Global};
+use order_model::Ref;
+use std::alloc::AllocError;
+
+/// A level over at most so many pairs of children looks for a node among its nodes one by one,
+/// which is faster there than hashing.
+const MOST_COMPARED: usize = 64;
+
+/// A node with the numbers of its children, where its variable is 0 (`low`) and where it is 1
+/// (`high`). 0 and 1 are the terminals, and k + 2 is node k, from 0, of the diagram's list of
+/// nodes.
+#[repr(C)]
+#[derive(Clone, Copy, Debug)]
+pub struct NumberedNode {
+    pub variable: u32,
+    pub low: u32,
+    pub high: u32,
+}
 
 /// The ref that a number stands for: 0 is the terminal 0, 1 the terminal 1, and k + 2 node k of the
 /// diagram's list of nodes.
@@ -20,59 +36,137 @@ pub(crate) fn ref_of(number: u32) -> Ref
     }
 }
 
-/// The number of the node of variable x whose children have the numbers `low` and `high`, or of the
-/// child if both are equal. Numbers 0 and 1 are the terminals, and k + 2 is `nodes[k]`. The nodes
-/// of x begin at `nodes[base]`, and `pairs` has the children of each, in the same order. A node
-/// that isn't among them is appended to `nodes`, and its children to `pairs`; if memory is refused,
-/// perhaps only the children. Requires `base` plus the number of pairs to be below 2^31.
-fn number_over(
-    nodes: &mut Vec<Node>,
-    pairs: &mut IndexSet<(u32, u32)>,
-    base: u32,
-    x: VarIx,
-    low: u32,
-    high: u32,
-) -> Result<u32, AllocError>
-    requires few { base + length pairs.old.keys < 2 ^ 31 }
-    ensures { IfOk result (λ number. Seeks base x (low, high) pairs.old.keys pairs.new.keys
-        nodes.old.items nodes.new.items number) }
+/// The index of the first of the nodes from `nodes[base]` on that has these children, or the number
+/// of all nodes if none of these has.
+#[inline(always)]
+fn place_of(nodes: &[NumberedNode], base: usize, children: (u32, u32)) -> usize
+    requires { base ≤ length nodes.now }
+    ensures place { result ≡ base
+        + position_or_len (same_pair children) (children_from base nodes.now) }
+    ensures within { result ≤ length nodes.now }
 {
-    if low == high {
-        return Ok(low);
+    let (low, high) = children;
+    for place in base..nodes.len() {
+        let node = nodes[place];
+        if low == node.low && high == node.high {
+            return place;
+        }
     }
-    let (place, is_new) = pairs.insert_full((low, high))?;
-    if is_new {
-        nodes.push(Node {
-            variable: x,
-            low: ref_of(low),
-            high: ref_of(high),
-        })?;
-    }
-    Ok(base + place as u32 + 2)
+    nodes.len()
 }
 
-/// Makes the nodes of variable x over the nodes and terminals whose numbers `below` lists, and
-/// appends each once to `nodes`; if memory is refused, perhaps only some. Numbers 0 and 1 are the
-/// terminals, and k + 2 is `nodes[k]`. Entry j of the result is the number of the node with the
-/// entries 2j and 2j + 1 of `below` as its low and high child, or of the child if both are equal.
-/// An odd last entry is ignored. Requires fewer than 2^31 entries in `nodes` and `below` together.
-pub(crate) fn level_above(
-    alloc: Global,
-    nodes: &mut Vec<Node>,
-    x: VarIx,
-    below: &[u32],
-) -> Result<Vec<u32>, AllocError>
-    requires few { length nodes.old.items + length below.now < 2 ^ 31 }
-    ensures { IfOk result (λ above.
-        IsLevelAbove x nodes.old.items below.now nodes.new.items above.items) }
+/// The number of the node of variable x with these children, which are unequal. The nodes of x
+/// begin at `nodes[base]`. If none of them has the children, a node with them is appended. Looks at
+/// one node after the other.
+#[inline(always)]
+fn compared_number(
+    nodes: &mut Vec<NumberedNode>,
+    base: usize,
+    x: u32,
+    children: (u32, u32),
+) -> Result<u32, AllocError>
+    requires unequal { children.0 ≢ children.1 }
+    requires base { base ≤ length nodes.old.items }
+    requires few { length nodes.old.items < 2 ^ 31 }
+    ensures { IfOk result (SeeksAmong base x children nodes.old.items nodes.new.items) }
 {
-    let half = below.len() / 2;
-    let base = nodes.len() as u32;
-    let mut pairs = IndexSet::new(alloc);
-    let mut above = Vec::with_capacity(alloc, half)?;
-    for j in 0..half {
-        let number = number_over(nodes, &mut pairs, base, x, below[2 * j], below[2 * j + 1])?;
-        above.push(number)?;
+    let place = place_of(nodes, base, children);
+    if place == nodes.len() {
+        nodes.push(NumberedNode {
+            variable: x,
+            low: children.0,
+            high: children.1,
+        })?;
     }
-    Ok(above)
+    Ok(place as u32 + 2)
+}
+
+/// The number of the node of variable x with these children, which are unequal. The nodes of x
+/// begin at `nodes[base]`, and `pairs` has the children of each, in the same order. If none of them
+/// has the children, a node with them is appended, and they to `pairs`; if memory is refused,
+/// perhaps only they.
+fn hashed_number(
+    nodes: &mut Vec<NumberedNode>,
+    pairs: &mut IndexSet<(u32, u32)>,
+    base: usize,
+    x: u32,
+    children: (u32, u32),
+) -> Result<u32, AllocError>
+    requires pairs { pairs.old.keys ≡ children_from base nodes.old.items }
+    requires base { base ≤ length nodes.old.items }
+    requires few { length nodes.old.items < 2 ^ 31 }
+    requires unequal { children.0 ≢ children.1 }
+    ensures number { IfOk result (SeeksAmong base x children nodes.old.items nodes.new.items) }
+    ensures pairs { OnOk result (pairs.new.keys ≡ children_from base nodes.new.items) }
+{
+    let (place, is_new) = pairs.insert_full(children)?;
+    if is_new {
+        nodes.push(NumberedNode {
+            variable: x,
+            low: children.0,
+            high: children.1,
+        })?;
+    }
+    Ok((base + place) as u32 + 2)
+}
+
+/// The number of the node of variable x with these children, or of the child if both are equal. The
+/// nodes of x begin at `nodes[base]`; if none of them has the children, a node with them is
+/// appended. If `hashes`, `pairs` has the children of each of these nodes, in the same order,
+/// before and after. If memory is refused, neither has a meaning.
+#[inline(always)]
+fn number_over(
+    nodes: &mut Vec<NumberedNode>,
+    pairs: &mut IndexSet<(u32, u32)>,
+    hashes: bool,
+    base: usize,
+    x: u32,
+    children: (u32, u32),
+) -> Result<u32, AllocError>
+    requires base { base ≤ length nodes.old.items }
+    requires few { length nodes.old.items < 2 ^ 31 }
+    requires pairs { IsTrue hashes → pairs.old.keys ≡ children_from base nodes.old.items }
+    ensures number { IfOk result (SeeksAmong base x children nodes.old.items nodes.new.items) }
+    ensures pairs { OnOk result
+        (IsTrue hashes → pairs.new.keys ≡ children_from base nodes.new.items) }
+{
+    if children.0 == children.1 {
+        return Ok(children.0);
+    }
+    if hashes {
+        return hashed_number(nodes, pairs, base, x, children);
+    }
+    compared_number(nodes, base, x, children)
+}
+
+/// Makes the nodes of variable x over the nodes and terminals whose numbers `numbers` lists, and
+/// appends each once to `nodes`. Numbers 0 and 1 are the terminals, and k + 2 is `nodes[k]`. Entry
+/// j of `numbers` becomes the number of the node with the entries 2j and 2j + 1 as its low and high
+/// child, or of the child if both are equal, and `numbers` half as long; an odd last entry is
+/// ignored. What `pairs`, working memory, has before doesn't matter. If memory is refused, none of
+/// the three has a meaning. Requires fewer than 2^31 entries in `nodes` and `numbers` together.
+pub(crate) fn add_level(
+    nodes: &mut Vec<NumberedNode>,
+    pairs: &mut IndexSet<(u32, u32)>,
+    x: u32,
+    numbers: &mut Vec<u32>,
+) -> Result<(), AllocError>
+    requires few { length nodes.old.items + length numbers.old.items < 2 ^ 31 }
+    ensures { OnOk result
+        (IsLevelAbove x (map node_named nodes.old.items) numbers.old.items
+        (map node_named nodes.new.items) numbers.new.items) }
+{
+    let half = numbers.len() / 2;
+    let base = nodes.len();
+    // Over two nodes or fewer there are few, however many numbers there are.
+    let hashes = half > MOST_COMPARED && base > 2;
+    if hashes {
+        pairs.clear();
+    }
+    for j in 0..half {
+        let children = (numbers[2 * j], numbers[2 * j + 1]);
+        numbers[j] = number_over(nodes, pairs, hashes, base, x, children)?;
+    }
+    numbers.truncate(half);
+    Ok(())
 }

@@ -6,11 +6,13 @@ mod fixed_variables;
 mod kept_points;
 mod level_classes;
 mod levels;
+mod packed_values;
 mod row;
 mod tables;
 mod term_points;
 
-pub use diagrams::reduced_diagram;
+pub use diagrams::{DiagramMemory, make_diagram, reduced_diagram};
+pub use levels::NumberedNode;
 pub use row::Row;
 pub use tables::Tables;
 pub use term_points::cover_words;

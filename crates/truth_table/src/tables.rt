@@ -1,21 +1,21 @@
 //! The truth tables of the outputs of a cover.
 
-ghost use Rattle.std.specs.Prelude.{◌≡◌, ◌*◌, ◌<◌, ◌≤◌, ◌^◌, length, map, IfOk};
+ghost use Rattle.std.specs.Prelude.{◌≡◌, ◌*◌, ◌<◌, ◌≤◌, ◌^◌, length, map, IfOk, OnOk};
 ghost use Rattle.definitions.specs.Functions.{from_table, table};
 ghost use Rattle.definitions.specs.Levels.{level_counts};
-ghost use Rattle.definitions.specs.Orders.{members};
+ghost use Rattle.definitions.specs.Orders.{IsOrder, members};
 ghost use Rattle.definitions.specs.Problems.{functions, outputs_of, packed_tables, table_at, value_at, words_per_table};
 ghost use Rattle.definitions.specs.Products.{product_functions};
-ghost use Rattle.truth_table.specs.Assignments.{assignments, values_at};
+ghost use Rattle.truth_table.specs.Assignments.{AreValuesUnder};
 ghost use Rattle.truth_table.specs.Restrictions.{fixed};
 ghost use Rattle.std.specs.List.{All};
 
 use crate::fixed_variables::fix_variable;
 use crate::kept_points::kept_points;
-use crate::level_classes::{assignment_points, merge, push_values};
+use crate::level_classes::{merge, push_values, write_points};
 use crate::row::Row;
 use crate::term_points::{packed_words, points_mask};
-use order_model::{Mask, Order, Problem, contains};
+use order_model::{Mask, Order, Problem, VarIx, contains};
 use pla_reader::Cover;
 use std::alloc::{AllocError, Global};
 use std::marker::Model;
@@ -118,32 +118,30 @@ impl Tables {
         Ok(Row::new(n, words))
     }
 
-    /// The values of all outputs at `points`, as 0 and 1: first those of output 0 at each point,
-    /// then those of output 1, and so on. Bit x of a point is the value of variable x. Requires
-    /// `outputs` to be the number of outputs, and points below 2^n, for n variables.
-    fn values(&self, alloc: Global, outputs: u8, points: &[u32]) -> Result<Vec<u32>, AllocError>
-        requires outputs { outputs ≡ outputs_of self.now }
-        requires points { All (λ k. k < 2 ^ self.now.inputs) points.now }
-        ensures { IfOk result (λ v. v.items ≡ values_at points.now self.now.tables) }
+    /// Overwrites `values` with the values of all outputs at all points, as 0 and 1: first those of
+    /// output 0, then those of output 1, and so on. Within an output, the top variable of `order`
+    /// changes slowest and the bottom one fastest, from 0 to 1. What `points`, working memory, has
+    /// before doesn't matter. If memory is refused, neither has a meaning. Requires `order` to have
+    /// each variable of the tables once.
+    pub(crate) fn write_values(
+        &self,
+        order: &[VarIx],
+        points: &mut Vec<u32>,
+        values: &mut Vec<u32>,
+    ) -> Result<(), AllocError>
+        requires { IsOrder self.now.inputs order.now }
+        ensures values { OnOk result (AreValuesUnder self.now order.now values.new.items) }
+        ensures few { OnOk result (length values.new.items ≤ 2 ^ 20) }
     {
-        let mut values = Vec::new(alloc);
-        for output in 0..outputs {
-            push_values(&mut values, self.problem.words(output), points)?;
+        prove!(self.problem.inputs() <= 16);
+        prove!(self.problem.outputs() <= 16);
+        write_points(points, order)?;
+        values.clear();
+        values.reserve((self.problem.outputs() as usize) << self.problem.inputs())?;
+        for output in 0..self.problem.outputs() {
+            push_values(values, self.problem.words(output), points)?;
         }
-        Ok(values)
-    }
-
-    /// The values of all outputs at all points, as 0 and 1: first those of output 0, then those of
-    /// output 1, and so on. Within an output, the top variable of `order` changes slowest and the
-    /// bottom one fastest, from 0 to 1. Requires `order` to have all variables of the tables.
-    pub fn values_under(&self, alloc: Global, order: &Order) -> Result<Vec<u32>, AllocError>
-        requires { length order.now ≡ self.now.inputs }
-        ensures { IfOk result
-            (λ v. v.items ≡ values_at (assignments order.now) self.now.tables) }
-    {
-        prove!(order.len() <= 16);
-        let points = assignment_points(alloc, order.variables())?;
-        self.values(alloc, self.problem.outputs(), &points)
+        Ok(())
     }
 
     /// The level counts of the tables' functions under `order`: entry i is the number of nodes on
@@ -154,9 +152,11 @@ impl Tables {
         ensures { IfOk result
             (λ v. v.items ≡ level_counts self.now.inputs (functions self.now) order.now) }
     {
+        prove!(self.problem.outputs() <= 16);
         let n = order.len();
-        let points = assignment_points(alloc, order.variables())?;
-        let mut classes = self.values(alloc, self.problem.outputs(), &points)?;
+        let mut points = Vec::new(alloc);
+        let mut classes = Vec::new(alloc);
+        self.write_values(order.variables(), &mut points, &mut classes)?;
         let mut counts = vec![in alloc; 0u32; n]?;
         for level in (0..n).rev() {
             let above = merge(alloc, &classes)?;

@@ -142,7 +142,7 @@ last_bound n F order m o long =
         (among_of_one n x (value_at n above x below others origin.0 g origin.2 false) (value_at n above x below others origin.0 g origin.2 true))
 
 -- one level more
-one_more : (f : ℕ → ℕ) (m : ℕ) → sum (map f (range_with_len 0 (suc m))) ≡ sum (map f (range_with_len 0 m)) + f m
+pub one_more : (f : ℕ → ℕ) (m : ℕ) → sum (map f (range_with_len 0 (suc m))) ≡ sum (map f (range_with_len 0 m)) + f m
 one_more f m =
     let longer = ap (λ k. sum (map f (range_with_len 0 k))) (suc_add m) in
     let all = ap sum (map-range_with_len_more f 0 m m (zero-add m)) in
@@ -152,7 +152,7 @@ one_more f m =
     suc_add k = omega arith
 
 -- counts that at most double from level to level
-geometric : (f : ℕ → ℕ) (m : ℕ) → ((i : ℕ) → f i ≤ 16 * 2 ^ i) → sum (map f (range_with_len 0 m)) + 16 ≤ 16 * 2 ^ m
+pub geometric : (f : ℕ → ℕ) (m : ℕ) → ((i : ℕ) → f i ≤ 16 * 2 ^ i) → sum (map f (range_with_len 0 m)) + 16 ≤ 16 * 2 ^ m
 geometric f zero small = omega arith
 geometric f (suc m) small = omega (arith, one_more f m, geometric f m small)
 

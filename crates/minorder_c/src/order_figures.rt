@@ -1,0 +1,174 @@
+//! The figures of all orders, and the widths from which they are found.
+
+ghost use Rattle.std.specs.Prelude.{◌≡◌, ◌≢◌, ◌^◌, ◌⊎◌, ◌↔◌, length, IsTrue, IfOk, IfErr, OnOk};
+ghost use Rattle.std.specs.List.{range_with_len};
+ghost use Rattle.definitions.specs.AllOrders.{AreAllWidths};
+ghost use Rattle.definitions.specs.KeptPairs.{CanBeKept};
+ghost use Rattle.definitions.specs.Pairs.{sorted_pairs};
+ghost use Rattle.definitions.specs.Problems.{functions};
+ghost use Rattle.order_counts.specs.Figures.{AreFiguresOfOrders};
+ghost use Rattle.minorder_c.specs.Answers.{AreTables, functions_in, given, pairs_given};
+ghost use Rattle.minorder_c.specs.OrderFigures.{AreFiguresReturned, HasWidthsShape, widths_listed};
+ghost use Rattle.minorder_c.specs.Statuses.{IsPlainStatus, RefusesPairs, ShowsPairs, ShowsShape};
+
+use crate::above::{AbovePair, kept_pairs};
+use crate::arguments::{GivenTables, are_tables, tables_of};
+use crate::status::Refusal;
+use compaction::widths_of_all_sets;
+use order_counts::{Figures, figures_of_orders};
+use order_model::{Problem, WidthRow};
+use std::alloc::{AllocError, Global};
+use truth_table::Tables;
+
+/// The figures of all orders in C. If there are no orders, all are 0.
+#[repr(C)]
+#[derive(Clone, Copy, Debug)]
+pub(crate) struct ReturnedFigures {
+    /// How many orders there are.
+    pub orders: u64,
+    /// How many of them have the fewest nodes.
+    pub optimal_orders: u64,
+    /// How many of them have the most nodes.
+    pub worst_orders: u64,
+    /// The sum of the nodes of all orders.
+    pub total_nodes: u64,
+    /// The fewest nodes under an order.
+    pub fewest_nodes: u32,
+    /// The most nodes under an order.
+    pub most_nodes: u32,
+}
+
+/// The figures of all orders that keep the pairs `above`. Err is `Shape` if `given` does not have
+/// exactly the words of 1 to 16 truth tables of 1 to 16 inputs. Otherwise it is `Pairs` if no order
+/// of the inputs keeps the pairs, or `OutOfMemory`.
+fn figures_above(
+    alloc: Global,
+    given: &GivenTables,
+    above: &[AbovePair],
+) -> Result<Figures, Refusal>
+    ensures shape { OnOk result (AreTables given.now) }
+    ensures kept { OnOk result (CanBeKept given.now.inputs (pairs_given above.now)) }
+    ensures figures { IfOk result
+        (AreFiguresOfOrders given.now.inputs (functions_in given.now)
+        (sorted_pairs given.now.inputs (pairs_given above.now))) }
+    ensures refused { IfErr result
+        (RefusesPairs (AreTables given.now)
+        (CanBeKept given.now.inputs (pairs_given above.now))) }
+{
+    let tables = tables_of(alloc, given)?;
+    let pairs = kept_pairs(alloc, above, given.inputs as u8)?;
+    let widths = widths_of_all_sets(alloc, tables.problem())?;
+    let figures = figures_of_orders(alloc, tables.problem(), &pairs, &widths)?;
+    Ok(figures)
+}
+
+/// Writes to `figures`, for the packed truth tables `tables`, how many orders keep the pairs
+/// `above`, their fewest and their most nodes, how many of the orders have so many, and the sum of
+/// the nodes of all these orders. Returns 0. A refused call writes nothing and returns 2 if
+/// `inputs` or `outputs` isn't from 1 to 16 or the length of `tables` doesn't match them, 4 if
+/// memory is refused, 8 if no order of the inputs keeps the pairs.
+#[unsafe(no_mangle)]
+pub extern "C" fn minorder_orders_with_pairs(
+    alloc: Global,
+    tables: &[u64],
+    inputs: u32,
+    outputs: u32,
+    above: &[AbovePair],
+    figures: &mut ReturnedFigures,
+) -> u32
+    ensures status { (result ≡ 8) ⊎ IsPlainStatus result }
+    ensures shape { ShowsShape (AreTables (given tables.entry inputs outputs)) result }
+    ensures kept { ShowsPairs (CanBeKept inputs (pairs_given above.now)) result }
+    ensures figures { result ≡ 0 →
+        AreFiguresReturned inputs (functions_in (given tables.entry inputs outputs))
+        (sorted_pairs inputs (pairs_given above.now)) figures.new }
+    ensures refused { result ≢ 0 → figures.new ≡ figures.old }
+{
+    let given = GivenTables::of(tables, inputs, outputs);
+    match figures_above(alloc, &given, above) {
+        Ok(found) => {
+            *figures = ReturnedFigures {
+                orders: found.count,
+                optimal_orders: found.fewest.orders,
+                worst_orders: found.most.orders,
+                total_nodes: found.total,
+                fewest_nodes: found.fewest.nodes,
+                most_nodes: found.most.nodes,
+            };
+            0
+        }
+        Err(refusal) => refusal.status(),
+    }
+}
+
+/// The widths of all sets, those of one mask behind those of the other. Requires `rows` to be the
+/// widths of all sets of the problem's variables.
+fn listed(alloc: Global, problem: &Problem, rows: &[WidthRow]) -> Result<Vec<u32>, AllocError>
+    requires { AreAllWidths problem.now.inputs (functions problem.now) rows.now }
+    ensures { IfOk result
+        (λ v. v.items ≡ widths_listed problem.now.inputs (functions problem.now)
+        (range_with_len 0 (2 ^ problem.now.inputs))) }
+{
+    let n = usize::from(problem.inputs());
+    let mut widths = Vec::with_capacity(alloc, rows.len() * n)?;
+    for i in 0..rows.len() {
+        widths.extend_from_slice(&rows[i][..n])?;
+    }
+    Ok(widths)
+}
+
+/// Whether `given` has exactly the words of 1 to 16 truth tables of 1 to 16 inputs, and `places`,
+/// the length of a slice for widths, is the number of inputs for each of the 2^inputs sets.
+fn has_widths_shape(given: &GivenTables, places: usize) -> bool
+    ensures { IsTrue result ↔ HasWidthsShape given.now places }
+{
+    are_tables(given) && places == (1usize << given.inputs) * given.inputs as usize
+}
+
+/// The widths of all sets: of each mask in turn, at each of its members the width of this variable
+/// over the others, and 0 elsewhere. Requires `given` to have exactly the words of 1 to 16 truth
+/// tables of 1 to 16 inputs.
+fn all_widths(alloc: Global, given: &GivenTables) -> Result<Vec<u32>, AllocError>
+    requires { AreTables given.now }
+    ensures { IfOk result
+        (λ v. v.items ≡ widths_listed given.now.inputs (functions_in given.now)
+        (range_with_len 0 (2 ^ given.now.inputs))) }
+{
+    let tables = Tables::of_words(alloc, given.inputs as u8, given.outputs as u8, given.words)?;
+    let rows = widths_of_all_sets(alloc, tables.problem())?;
+    listed(alloc, tables.problem(), &rows)
+}
+
+/// Writes the widths of all sets to `widths`, for the packed truth tables `tables`: at
+/// `mask * inputs + x` that of the variable x over the other members of the set with this mask, and
+/// 0 if x isn't a member. Returns 0. A refused call writes nothing and returns 2 if `inputs` or
+/// `outputs` isn't from 1 to 16 or the length of `tables` or `widths` doesn't match them, 4 if
+/// memory is refused.
+#[unsafe(no_mangle)]
+pub extern "C" fn minorder_widths_with_lengths(
+    alloc: Global,
+    tables: &[u64],
+    inputs: u32,
+    outputs: u32,
+    widths: &mut [u32],
+) -> u32
+    ensures status { IsPlainStatus result }
+    ensures shape { ShowsShape
+        (HasWidthsShape (given tables.entry inputs outputs) (length widths.old)) result }
+    ensures widths { result ≡ 0 →
+        widths.new ≡ widths_listed inputs (functions_in (given tables.entry inputs outputs))
+        (range_with_len 0 (2 ^ inputs)) }
+    ensures refused { result ≢ 0 → widths.new ≡ widths.old }
+{
+    let given = GivenTables::of(tables, inputs, outputs);
+    if !has_widths_shape(&given, widths.len()) {
+        return Refusal::Shape.status();
+    }
+    match all_widths(alloc, &given) {
+        Ok(found) => {
+            widths.copy_from_slice(&found);
+            0
+        }
+        Err(_) => Refusal::OutOfMemory.status(),
+    }
+}

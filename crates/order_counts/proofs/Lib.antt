@@ -1,0 +1,5 @@
+pub mod Sums
+pub mod Counts
+pub mod Rows
+pub mod Partial
+pub mod Whole
