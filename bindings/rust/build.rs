@@ -2,6 +2,8 @@
 //! `pkg-config` finds it, else in the `lib/` of the repository.
 
 use std::env;
+use std::fs;
+use std::os::unix::fs::symlink;
 use std::path::{Path, PathBuf};
 use std::process::{exit, Command};
 
@@ -15,12 +17,13 @@ fn main() {
     } else {
         ("libminorder.so.1", "dylib:+verbatim=libminorder.so.1")
     };
-    let folder = folder_of(file).unwrap_or_else(|why| {
+    let found = folder_of(file).and_then(|folder| Ok((link_to(&folder, file)?, folder)));
+    let (links, folder) = found.unwrap_or_else(|why| {
         eprintln!("minorder: {why}");
         exit(1)
     });
     println!("cargo:rerun-if-changed={}", folder.join(file).display());
-    println!("cargo:rustc-link-search=native={}", folder.display());
+    println!("cargo:rustc-link-search=native={}", links.display());
     println!("cargo:rustc-link-lib={linked}");
     println!("cargo:lib_dir={}", folder.display());
 }
@@ -50,4 +53,16 @@ fn installed() -> Option<PathBuf> {
     let said = Command::new("pkg-config").args(["--variable=libdir", "minorder"]).output().ok()?;
     let folder = String::from_utf8(said.stdout).ok()?;
     said.status.success().then(|| PathBuf::from(folder.trim_end()))
+}
+
+/// A folder below `OUT_DIR` with nothing but a symbolic link to the library's file. `cargo run` and
+/// `cargo test` let programs load libraries from there, as from no folder outside of `target/`.
+fn link_to(folder: &Path, file: &str) -> Result<PathBuf, String> {
+    let links = PathBuf::from(env::var_os("OUT_DIR").ok_or("OUT_DIR isn't set")?);
+    let link = links.join(file);
+    if link.is_symlink() {
+        fs::remove_file(&link).map_err(|why| format!("{}: {why}", link.display()))?;
+    }
+    symlink(folder.join(file), &link).map_err(|why| format!("{}: {why}", link.display()))?;
+    Ok(links)
 }

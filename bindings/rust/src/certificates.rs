@@ -1,16 +1,15 @@
 use std::fmt;
 
+use crate::certificate_faults::{first_fault, MOST_BYTES, MOST_PAIRS};
 use crate::library::{self, done, Judged};
 use crate::orders::check_pairs;
 use crate::{Error, Pair, Tables};
 
-/// A certificate has no more bytes.
-const MOST_BYTES: usize = 1 << 20;
-/// A certificate has no more pairs.
-const MOST_PAIRS: usize = 240;
+/// The status of a text that is no certificate.
+const BAD_CERTIFICATE: u32 = 3;
 
 /// Why a certificate isn't good.
-#[derive(Debug, Clone, Copy, PartialEq, Eq)]
+#[derive(Debug, Clone, Copy, PartialEq, Eq, Hash)]
 #[non_exhaustive]
 pub enum Reason {
     /// Its inputs or outputs are others.
@@ -48,7 +47,7 @@ impl fmt::Display for Reason {
 
 /// The verdict on a certificate, and what it states. If it is valid, no order that keeps `pairs`
 /// has fewer nodes than `total`; without pairs these are all orders.
-#[derive(Debug, Clone, PartialEq, Eq)]
+#[derive(Debug, Clone, PartialEq, Eq, Hash)]
 pub struct Verdict {
     /// The first reason why it isn't good; none if it is valid.
     pub reason: Option<Reason>,
@@ -60,6 +59,7 @@ pub struct Verdict {
 
 impl Verdict {
     /// Whether the certificate is good.
+    #[must_use]
     pub fn is_valid(&self) -> bool {
         self.reason.is_none()
     }
@@ -89,10 +89,13 @@ impl fmt::Display for Verdict {
 /// assert_eq!(check(&mux, text.replace("total 3", "total 2"))?.to_string(), "invalid Total");
 /// # Ok::<(), minorder::Error>(())
 /// ```
+///
+/// # Errors
+/// [`Error::PairOutOfRange`], [`Error::PairCycle`], and those of [every call](Error).
 pub fn certify(tables: &Tables, pairs: &[Pair]) -> Result<String, Error> {
     check_pairs(tables, pairs)?;
     let (mut text, mut length) = (vec![0; MOST_BYTES], 0);
-    done(library::certify(tables, pairs, &mut text, &mut length))?;
+    done(library::certify(tables, pairs, &mut text, &mut length)?)?;
     text.truncate(length);
     Ok(String::from_utf8_lossy(&text).into_owned())
 }
@@ -100,21 +103,34 @@ pub fn certify(tables: &Tables, pairs: &[Pair]) -> Result<String, Error> {
 /// The verdict on a certificate's text.
 ///
 /// ```
-/// use minorder::{check, Error, Tables};
+/// use minorder::{check, CertificateFault, Error, Tables};
 ///
 /// let mux = Tables::from_words(3, 1, vec![0xca])?;
-/// assert_eq!(check(&mux, "no certificate"), Err(Error::BadCertificate));
+/// let refused = Error::BadCertificate { line: 2, fault: CertificateFault::BadNumber };
+/// assert_eq!(check(&mux, "bddorder-certificate 2\ninputs 03\n"), Err(refused));
 /// # Ok::<(), Error>(())
 /// ```
+///
+/// # Errors
+/// [`Error::BadCertificate`] with the first faulty line, [`Error::UnknownReason`], and those of
+/// [every call](Error).
 pub fn check(tables: &Tables, certificate: impl AsRef<[u8]>) -> Result<Verdict, Error> {
     let (mut judged, mut total) = (Judged::default(), 0);
-    let (mut pairs, mut count) = (vec![Pair::default(); MOST_PAIRS], 0);
+    let (mut pairs, mut count) = (vec![Pair::default(); MOST_PAIRS.into()], 0);
     let text = certificate.as_ref();
-    done(library::check(tables, text, &mut judged, &mut total, &mut pairs, &mut count))?;
+    let status = library::check(tables, text, &mut judged, &mut total, &mut pairs, &mut count)?;
+    if status == BAD_CERTIFICATE {
+        if let Some((line, fault)) = first_fault(text) {
+            return Err(Error::BadCertificate { line, fault });
+        }
+    }
+    done(status)?;
     pairs.truncate(count);
     Ok(Verdict { reason: reason_of(&judged)?, total, pairs })
 }
 
+// a mask has 16 bits, and a variable is below 16
+#[allow(clippy::cast_possible_truncation)]
 fn reason_of(judged: &Judged) -> Result<Option<Reason>, Error> {
     Ok(Some(match judged.reason {
         0 => return Ok(None),

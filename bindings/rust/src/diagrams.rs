@@ -1,3 +1,5 @@
+use std::slice;
+
 use crate::library::{self, done};
 use crate::orders::check_order;
 use crate::{Error, Tables};
@@ -15,8 +17,9 @@ pub struct Node {
     pub high: u32,
 }
 
-/// The reduced shared diagram of functions under an order.
-#[derive(Debug, Clone, PartialEq, Eq)]
+/// The reduced shared diagram of functions under an order. `for node in &diagram` goes over its
+/// nodes from below.
+#[derive(Debug, Clone, PartialEq, Eq, Hash)]
 pub struct Diagram {
     /// How many variables the functions have.
     pub inputs: usize,
@@ -27,10 +30,17 @@ pub struct Diagram {
 }
 
 impl Diagram {
+    /// The nodes, level by level from below: children come before parents, and parents before
+    /// children with `rev`.
+    pub fn iter(&self) -> slice::Iter<'_, Node> {
+        self.nodes.iter()
+    }
+
     /// The value of an output at a point.
     ///
     /// # Panics
     /// If there is no such output, or the functions have no such point.
+    #[must_use]
     pub fn value(&self, point: usize, output: usize) -> bool {
         assert!(point < 1 << self.inputs, "point: {point}: there are {}", 1 << self.inputs);
         assert!(output < self.roots.len(), "output: {output}: there are {}", self.roots.len());
@@ -43,6 +53,15 @@ impl Diagram {
     }
 }
 
+impl<'a> IntoIterator for &'a Diagram {
+    type Item = &'a Node;
+    type IntoIter = slice::Iter<'a, Node>;
+
+    fn into_iter(self) -> Self::IntoIter {
+        self.iter()
+    }
+}
+
 /// The reduced shared diagram under an order. A loop over its nodes builds it in another package.
 ///
 /// ```
@@ -52,18 +71,29 @@ impl Diagram {
 /// let best = diagram(&mux, &exact(&mux)?.order)?;
 /// // by points: the bits of the table
 /// let mut values = vec![0, 0xff];
-/// for node in &best.nodes {
+/// for node in &best {
 ///     let variable = [0xaa, 0xcc, 0xf0][node.variable as usize];
 ///     values.push(values[node.low as usize] & !variable | values[node.high as usize] & variable);
 /// }
 /// assert_eq!(values[best.roots[0] as usize], 0xca);
 /// # Ok::<(), minorder::Error>(())
 /// ```
+///
+/// # Errors
+/// [`Error::BadOrder`], and those of [every call](Error).
 pub fn diagram(tables: &Tables, order: &[u8]) -> Result<Diagram, Error> {
     check_order(tables, order)?;
+    written(tables, |nodes, roots, count| library::diagram(tables, order, nodes, roots, count))
+}
+
+/// The diagram that a call writes: its nodes, its roots, and the number of its nodes.
+fn written(
+    tables: &Tables,
+    write: impl FnOnce(&mut [Node], &mut [u32], &mut usize) -> Result<u32, Error>,
+) -> Result<Diagram, Error> {
     let mut nodes = vec![Node::default(); most_nodes(tables.inputs(), tables.outputs())];
     let (mut roots, mut count) = (vec![0; tables.outputs()], 0);
-    done(library::diagram(tables, order, &mut nodes, &mut roots, &mut count))?;
+    done(write(&mut nodes, &mut roots, &mut count)?)?;
     nodes.truncate(count);
     nodes.shrink_to_fit();
     Ok(Diagram { inputs: tables.inputs(), nodes, roots })

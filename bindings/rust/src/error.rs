@@ -1,8 +1,10 @@
 use std::fmt;
 
-use crate::{Pair, PlaFault};
+use crate::{CertificateFault, Pair, PlaFault, Version};
 
 /// Why a call was refused. Its text is one line that names the argument.
+///
+/// Every call of the library may return `IncompatibleLibrary`, `OutOfMemory` or `UnknownStatus`.
 #[derive(Debug, Clone, PartialEq, Eq)]
 #[non_exhaustive]
 pub enum Error {
@@ -26,6 +28,21 @@ pub enum Error {
         /// How many points the function has.
         wanted: usize,
     },
+    /// The functions haven't this variable.
+    BadVariable {
+        /// The variable.
+        variable: usize,
+        /// How many variables there are.
+        inputs: usize,
+    },
+    /// Two tables don't fit together: an operator takes equal numbers of inputs and outputs, and
+    /// [`Tables::concat`](crate::Tables::concat) equal numbers of inputs.
+    DifferentShapes {
+        /// The inputs and outputs of the first.
+        left: (usize, usize),
+        /// The inputs and outputs of the other.
+        right: (usize, usize),
+    },
     /// The order hasn't each variable once.
     BadOrder {
         /// The order.
@@ -45,13 +62,25 @@ pub enum Error {
     /// Of many problems this one has other numbers of inputs and outputs than the first.
     OtherShape(usize),
     /// The text is no certificate.
-    BadCertificate,
+    BadCertificate {
+        /// Its first faulty line, from 1; 0 where no line is faulty, as of a long text.
+        line: usize,
+        /// What is wrong there.
+        fault: CertificateFault,
+    },
     /// The text is no PLA file.
     BadPla {
         /// Its first faulty line, from 1; 0 where no line is faulty, as of an empty or a long text.
         line: usize,
         /// What is wrong there.
         fault: PlaFault,
+    },
+    /// The library has another major version than this crate, or is older than it needs.
+    IncompatibleLibrary {
+        /// The version of the library, which [`library_version`](crate::library_version) gives.
+        found: Version,
+        /// The oldest version that would do.
+        needed: Version,
     },
     /// The library was refused memory.
     OutOfMemory,
@@ -74,6 +103,12 @@ impl fmt::Display for Error {
             Self::BadValues { output, given, wanted } => {
                 write!(to, "values: {given} of output {output}: the function has {wanted} points")
             }
+            Self::BadVariable { variable, inputs } => {
+                write!(to, "variable: {variable}: variables are below {inputs}")
+            }
+            Self::DifferentShapes { left, right } => {
+                write!(to, "tables: inputs and outputs {left:?} and {right:?} don't fit together")
+            }
             Self::BadOrder { order, inputs } => {
                 write!(to, "order: {order:?}: an order has each variable below {inputs} once")
             }
@@ -85,9 +120,13 @@ impl fmt::Display for Error {
             Self::OtherShape(problem) => {
                 write!(to, "problems: problem {problem} hasn't the first one's inputs and outputs")
             }
-            Self::BadCertificate => write!(to, "certificate: the text isn't one"),
+            Self::BadCertificate { line: 0, fault } => write!(to, "certificate: {fault}"),
+            Self::BadCertificate { line, fault } => write!(to, "certificate line {line}: {fault}"),
             Self::BadPla { fault: PlaFault::TooLong, .. } => write!(to, "TooLong"),
             Self::BadPla { line, fault } => write!(to, "line {line}: {fault}"),
+            Self::IncompatibleLibrary { found, needed } => {
+                write!(to, "library: version {found}: the crate needs one compatible with {needed}")
+            }
             Self::OutOfMemory => write!(to, "the library was refused memory"),
             Self::UnknownStatus(status) => write!(to, "the library ended with status {status}"),
             Self::UnknownReason(reason) => write!(to, "the library gave the reason {reason}"),

@@ -1,6 +1,7 @@
 //! The calls of the C library as functions over slices, which give its statuses.
 #![allow(unsafe_code)]
 
+use crate::version::check_library;
 use crate::{Error, FoundOrder, Node, Pair, Tables};
 
 /// The answer of a check.
@@ -40,6 +41,7 @@ pub struct Found {
 
 #[rustfmt::skip]
 extern "C" {
+    fn minorder_version() -> u32;
     fn minorder_exact_with_lengths(
         tables: *const u64, words: usize, inputs: u32, outputs: u32,
         order: *mut u8, order_length: usize, levels: *mut u32, levels_length: usize, total: *mut u32,
@@ -82,12 +84,17 @@ extern "C" {
     ) -> u32;
 }
 
+/// The status of a call, which is made only if the library has a version that this crate can call.
+fn status_of(call: impl FnOnce() -> u32) -> Result<u32, Error> {
+    check_library()?;
+    Ok(call())
+}
+
 /// The error that a status other than 0 stands for. Shapes and orders are checked before the
 /// calls, so that their statuses don't come.
 pub fn done(status: u32) -> Result<(), Error> {
     match status {
         0 => Ok(()),
-        3 => Err(Error::BadCertificate),
         4 => Err(Error::OutOfMemory),
         8 => Err(Error::PairCycle),
         other => Err(Error::UnknownStatus(other)),
@@ -96,15 +103,27 @@ pub fn done(status: u32) -> Result<(), Error> {
 
 /// The numbers of inputs and outputs.
 fn shape(tables: &Tables) -> (u32, u32) {
-    (tables.inputs() as u32, tables.outputs() as u32)
+    (small(tables.inputs()), small(tables.outputs()))
 }
 
-pub fn exact(tables: &Tables, found: &mut FoundOrder) -> u32 {
+// counts of inputs and outputs are at most 16
+#[allow(clippy::cast_possible_truncation)]
+fn small(count: usize) -> u32 {
+    count as u32
+}
+
+/// The library's version: 10203 for 1.2.3.
+pub fn version() -> u32 {
+    // SAFETY: the call takes nothing and returns a number.
+    unsafe { minorder_version() }
+}
+
+pub fn exact(tables: &Tables, found: &mut FoundOrder) -> Result<u32, Error> {
     let (words, (inputs, outputs)) = (tables.words(), shape(tables));
     let FoundOrder { order, levels, total } = found;
     // SAFETY: each pointer is of a slice and comes with its length, or of one number; what is
     // written is borrowed by this call alone.
-    unsafe {
+    status_of(|| unsafe {
         minorder_exact_with_lengths(
             words.as_ptr(),
             words.len(),
@@ -116,14 +135,14 @@ pub fn exact(tables: &Tables, found: &mut FoundOrder) -> u32 {
             levels.len(),
             total,
         )
-    }
+    })
 }
 
-pub fn exact_above(tables: &Tables, pairs: &[Pair], found: &mut FoundOrder) -> u32 {
+pub fn exact_above(tables: &Tables, pairs: &[Pair], found: &mut FoundOrder) -> Result<u32, Error> {
     let (words, (inputs, outputs)) = (tables.words(), shape(tables));
     let FoundOrder { order, levels, total } = found;
     // SAFETY: as in `exact`; a `Pair` is laid out as C's.
-    unsafe {
+    status_of(|| unsafe {
         minorder_exact_above_with_lengths(
             words.as_ptr(),
             words.len(),
@@ -137,7 +156,7 @@ pub fn exact_above(tables: &Tables, pairs: &[Pair], found: &mut FoundOrder) -> u
             levels.len(),
             total,
         )
-    }
+    })
 }
 
 /// `shape` is the inputs and outputs of each problem.
@@ -147,14 +166,14 @@ pub fn exact_many(
     orders: &mut [u8],
     levels: &mut [u32],
     totals: &mut [u32],
-) -> u32 {
+) -> Result<u32, Error> {
     // SAFETY: as in `exact`.
-    unsafe {
+    status_of(|| unsafe {
         minorder_exact_many_with_lengths(
             words.as_ptr(),
             words.len(),
-            shape.0 as u32,
-            shape.1 as u32,
+            small(shape.0),
+            small(shape.1),
             orders.as_mut_ptr(),
             orders.len(),
             levels.as_mut_ptr(),
@@ -162,13 +181,13 @@ pub fn exact_many(
             totals.as_mut_ptr(),
             totals.len(),
         )
-    }
+    })
 }
 
-pub fn levels(tables: &Tables, order: &[u8], levels: &mut [u32]) -> u32 {
+pub fn levels(tables: &Tables, order: &[u8], levels: &mut [u32]) -> Result<u32, Error> {
     let (words, (inputs, outputs)) = (tables.words(), shape(tables));
     // SAFETY: as in `exact`.
-    unsafe {
+    status_of(|| unsafe {
         minorder_levels_with_lengths(
             words.as_ptr(),
             words.len(),
@@ -179,14 +198,14 @@ pub fn levels(tables: &Tables, order: &[u8], levels: &mut [u32]) -> u32 {
             levels.as_mut_ptr(),
             levels.len(),
         )
-    }
+    })
 }
 
-pub fn sift(tables: &Tables, found: &mut FoundOrder) -> u32 {
+pub fn sift(tables: &Tables, found: &mut FoundOrder) -> Result<u32, Error> {
     let (words, (inputs, outputs)) = (tables.words(), shape(tables));
     let FoundOrder { order, levels, total } = found;
     // SAFETY: as in `exact`.
-    unsafe {
+    status_of(|| unsafe {
         minorder_sift_with_lengths(
             words.as_ptr(),
             words.len(),
@@ -198,7 +217,7 @@ pub fn sift(tables: &Tables, found: &mut FoundOrder) -> u32 {
             levels.len(),
             total,
         )
-    }
+    })
 }
 
 pub fn diagram(
@@ -207,10 +226,10 @@ pub fn diagram(
     nodes: &mut [Node],
     roots: &mut [u32],
     count: &mut usize,
-) -> u32 {
+) -> Result<u32, Error> {
     let (words, (inputs, outputs)) = (tables.words(), shape(tables));
     // SAFETY: as in `exact`; a `Node` is laid out as C's.
-    unsafe {
+    status_of(|| unsafe {
         minorder_diagram_with_lengths(
             words.as_ptr(),
             words.len(),
@@ -224,13 +243,18 @@ pub fn diagram(
             roots.len(),
             count,
         )
-    }
+    })
 }
 
-pub fn certify(tables: &Tables, pairs: &[Pair], text: &mut [u8], length: &mut usize) -> u32 {
+pub fn certify(
+    tables: &Tables,
+    pairs: &[Pair],
+    text: &mut [u8],
+    length: &mut usize,
+) -> Result<u32, Error> {
     let (words, (inputs, outputs)) = (tables.words(), shape(tables));
     // SAFETY: as in `exact`; a `Pair` is laid out as C's.
-    unsafe {
+    status_of(|| unsafe {
         minorder_certify_with_pairs(
             words.as_ptr(),
             words.len(),
@@ -242,7 +266,7 @@ pub fn certify(tables: &Tables, pairs: &[Pair], text: &mut [u8], length: &mut us
             text.len(),
             length,
         )
-    }
+    })
 }
 
 pub fn check(
@@ -252,10 +276,10 @@ pub fn check(
     total: &mut u32,
     pairs: &mut [Pair],
     count: &mut usize,
-) -> u32 {
+) -> Result<u32, Error> {
     let (words, (inputs, outputs)) = (tables.words(), shape(tables));
     // SAFETY: as in `exact`; a `Judged` and a `Pair` are laid out as C's.
-    unsafe {
+    status_of(|| unsafe {
         minorder_check_total_with_pairs(
             words.as_ptr(),
             words.len(),
@@ -269,12 +293,12 @@ pub fn check(
             pairs.len(),
             count,
         )
-    }
+    })
 }
 
-pub fn read_pla(text: &[u8], found: &mut Found, words: &mut [u64]) -> u32 {
+pub fn read_pla(text: &[u8], found: &mut Found, words: &mut [u64]) -> Result<u32, Error> {
     // SAFETY: as in `exact`; a `Place` and a `Fault` are laid out as C's.
-    unsafe {
+    status_of(|| unsafe {
         minorder_read_pla_with_lengths(
             text.as_ptr(),
             text.len(),
@@ -288,5 +312,5 @@ pub fn read_pla(text: &[u8], found: &mut Found, words: &mut [u64]) -> u32 {
             words.len(),
             &mut found.fault,
         )
-    }
+    })
 }

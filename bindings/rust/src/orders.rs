@@ -1,8 +1,10 @@
+use std::fmt;
+
 use crate::library::{self, done};
 use crate::{Error, Tables};
 
 /// A pair of variables: `above` has to stand above `below`.
-#[derive(Debug, Clone, Copy, Default, PartialEq, Eq, Hash)]
+#[derive(Debug, Clone, Copy, Default, PartialEq, Eq, PartialOrd, Ord, Hash)]
 #[repr(C)]
 pub struct Pair {
     /// The upper variable.
@@ -11,8 +13,9 @@ pub struct Pair {
     pub below: u8,
 }
 
-/// An order and the sizes of the shared diagram under it.
-#[derive(Debug, Clone, PartialEq, Eq)]
+/// An order and the sizes of the shared diagram under it. As text it is the order and its number
+/// of nodes, as `2 0 1: 3 nodes`.
+#[derive(Debug, Clone, PartialEq, Eq, Hash)]
 pub struct FoundOrder {
     /// The variables, top first.
     pub order: Vec<u8>,
@@ -29,6 +32,15 @@ impl FoundOrder {
     }
 }
 
+impl fmt::Display for FoundOrder {
+    fn fmt(&self, to: &mut fmt::Formatter<'_>) -> fmt::Result {
+        for (level, variable) in self.order.iter().enumerate() {
+            write!(to, "{}{variable}", if level == 0 { "" } else { " " })?;
+        }
+        write!(to, ": {} node{}", self.total, if self.total == 1 { "" } else { "s" })
+    }
+}
+
 /// The first order of the fewest nodes, compared as lists of numbers.
 ///
 /// ```
@@ -41,9 +53,12 @@ impl FoundOrder {
 /// assert_eq!(found.levels.iter().sum::<u32>(), found.total);
 /// # Ok::<(), minorder::Error>(())
 /// ```
+///
+/// # Errors
+/// Those of [every call](Error).
 pub fn exact(tables: &Tables) -> Result<FoundOrder, Error> {
     let mut found = FoundOrder::place(vec![0; tables.inputs()]);
-    done(library::exact(tables, &mut found))?;
+    done(library::exact(tables, &mut found)?)?;
     Ok(found)
 }
 
@@ -59,10 +74,13 @@ pub fn exact(tables: &Tables) -> Result<FoundOrder, Error> {
 /// assert_eq!(exact_above(&mux, &circle), Err(Error::PairCycle));
 /// # Ok::<(), Error>(())
 /// ```
+///
+/// # Errors
+/// [`Error::PairOutOfRange`], [`Error::PairCycle`], and those of [every call](Error).
 pub fn exact_above(tables: &Tables, pairs: &[Pair]) -> Result<FoundOrder, Error> {
     check_pairs(tables, pairs)?;
     let mut found = FoundOrder::place(vec![0; tables.inputs()]);
-    done(library::exact_above(tables, pairs, &mut found))?;
+    done(library::exact_above(tables, pairs, &mut found)?)?;
     Ok(found)
 }
 
@@ -78,10 +96,12 @@ pub fn exact_above(tables: &Tables, pairs: &[Pair]) -> Result<FoundOrder, Error>
 /// assert_eq!(totals, [0, 2, 2, 1, 2, 1, 3, 2, 2, 3, 1, 2, 1, 2, 2, 0]);
 /// # Ok::<(), minorder::Error>(())
 /// ```
+///
+/// # Errors
+/// [`Error::OtherShape`], and those of [every call](Error).
 pub fn exact_many(problems: &[Tables]) -> Result<Vec<FoundOrder>, Error> {
     let Some(first) = problems.first() else { return Ok(Vec::new()) };
-    let shape = |tables: &Tables| (tables.inputs(), tables.outputs());
-    if let Some(other) = problems.iter().position(|tables| shape(tables) != shape(first)) {
+    if let Some(other) = problems.iter().position(|tables| tables.shape() != first.shape()) {
         return Err(Error::OtherShape(other));
     }
     let inputs = first.inputs();
@@ -89,7 +109,7 @@ pub fn exact_many(problems: &[Tables]) -> Result<Vec<FoundOrder>, Error> {
     let mut orders = vec![0; problems.len() * inputs];
     let mut levels = vec![0; problems.len() * inputs];
     let mut totals = vec![0; problems.len()];
-    done(library::exact_many(&words, shape(first), &mut orders, &mut levels, &mut totals))?;
+    done(library::exact_many(&words, first.shape(), &mut orders, &mut levels, &mut totals)?)?;
     let each = orders.chunks(inputs).zip(levels.chunks(inputs)).zip(totals);
     Ok(each
         .map(|((order, levels), total)| FoundOrder {
@@ -107,10 +127,13 @@ pub fn exact_many(problems: &[Tables]) -> Result<Vec<FoundOrder>, Error> {
 /// assert_eq!(minorder::levels(&mux, &[0, 1, 2])?, [1, 2, 2]);
 /// # Ok::<(), minorder::Error>(())
 /// ```
+///
+/// # Errors
+/// [`Error::BadOrder`], and those of [every call](Error).
 pub fn levels(tables: &Tables, order: &[u8]) -> Result<Vec<u32>, Error> {
     check_order(tables, order)?;
     let mut levels = vec![0; tables.inputs()];
-    done(library::levels(tables, order, &mut levels))?;
+    done(library::levels(tables, order, &mut levels)?)?;
     Ok(levels)
 }
 
@@ -121,10 +144,13 @@ pub fn levels(tables: &Tables, order: &[u8]) -> Result<Vec<u32>, Error> {
 /// assert_eq!(minorder::sift(&mux, &[0, 1, 2])?.order, [2, 0, 1]);
 /// # Ok::<(), minorder::Error>(())
 /// ```
+///
+/// # Errors
+/// [`Error::BadOrder`], and those of [every call](Error).
 pub fn sift(tables: &Tables, order: &[u8]) -> Result<FoundOrder, Error> {
     check_order(tables, order)?;
     let mut found = FoundOrder::place(order.to_vec());
-    done(library::sift(tables, &mut found))?;
+    done(library::sift(tables, &mut found)?)?;
     Ok(found)
 }
 

@@ -1,4 +1,5 @@
 use std::fmt;
+use std::str::FromStr;
 
 use crate::library::{self, done, Fault, Found, Place};
 use crate::tables::{words_of, MOST_INPUTS, MOST_OUTPUTS};
@@ -7,8 +8,18 @@ use crate::{Error, Tables};
 /// The status of a text that is no PLA file.
 const BAD_PLA: u32 = 9;
 
-/// A PLA file: the truth tables of its outputs, and its names.
-#[derive(Debug, Clone, PartialEq, Eq)]
+/// A PLA file: the truth tables of its outputs, and its names. [`read_pla`] reads it, and so do
+/// `parse` and `try_from`.
+///
+/// ```
+/// use minorder::Pla;
+///
+/// let and: Pla = ".i 2\n.o 1\n11 1\n".parse()?;
+/// assert_eq!(and.tables.words(), [0b1000]);
+/// assert_eq!(Pla::try_from(&b".i 2\n.o 1\n11 1\n"[..])?, and);
+/// # Ok::<(), minorder::Error>(())
+/// ```
+#[derive(Debug, Clone, PartialEq, Eq, Hash)]
 pub struct Pla {
     /// The truth tables of the outputs.
     pub tables: Tables,
@@ -18,25 +29,55 @@ pub struct Pla {
     pub outputs: Vec<String>,
 }
 
+impl FromStr for Pla {
+    type Err = Error;
+
+    fn from_str(text: &str) -> Result<Self, Error> {
+        read_pla(text)
+    }
+}
+
+impl TryFrom<&[u8]> for Pla {
+    type Error = Error;
+
+    fn try_from(text: &[u8]) -> Result<Self, Error> {
+        read_pla(text)
+    }
+}
+
 /// What is wrong with a line of a PLA file, by the words that `minorder` prints.
-#[derive(Debug, Clone, Copy, PartialEq, Eq)]
+#[derive(Debug, Clone, Copy, PartialEq, Eq, Hash)]
 #[non_exhaustive]
-#[allow(missing_docs)]
 pub enum PlaFault {
+    /// A term stands before `.i` and `.o`, names stand before their number, or a number is missing.
     MissingHead,
+    /// `.i` or `.o` stands there again.
     RepeatedHead,
+    /// The number of inputs isn't 1 to 16.
     InputCount,
+    /// The number of outputs isn't 1 to 16.
     OutputCount,
+    /// Something else stands where a number belongs.
     BadNumber,
+    /// There are not as many names as inputs or outputs.
     NameCount,
+    /// A name has a byte outside visible ASCII.
     BadName,
+    /// The directive isn't one that is read.
     UnknownDirective,
+    /// The type is neither `f` nor `fd`, or `.type f` stands behind a term.
     UnsupportedType,
+    /// An output is `-` or `2`, but the type isn't `f`.
     DontCare,
+    /// An input of a term is spelled in another way than `0`, `1`, `-` or `2`.
     BadInputChar,
+    /// An output of a term is spelled in another way than `0`, `1`, `~`, `-` or `2`.
     BadOutputChar,
+    /// The term has too few inputs and outputs.
     ShortTerm,
+    /// The term has too many inputs and outputs.
     LongTerm,
+    /// The text has more than 16,777,216 bytes.
     TooLong,
 }
 
@@ -79,11 +120,14 @@ impl fmt::Display for PlaFault {
 /// assert_eq!(read_pla(".i 2\n.o 1\n11 -\n").unwrap_err().to_string(), "line 3: DontCare");
 /// # Ok::<(), minorder::Error>(())
 /// ```
+///
+/// # Errors
+/// [`Error::BadPla`] with the first faulty line, and those of [every call](Error).
 pub fn read_pla(text: impl AsRef<[u8]>) -> Result<Pla, Error> {
     let text = text.as_ref();
     let mut words = vec![0; MOST_OUTPUTS * words_of(MOST_INPUTS)];
     let mut found = Found::default();
-    match library::read_pla(text, &mut found, &mut words) {
+    match library::read_pla(text, &mut found, &mut words)? {
         BAD_PLA => return Err(refusal(&found.fault)),
         status => done(status)?,
     }

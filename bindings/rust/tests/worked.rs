@@ -1,10 +1,14 @@
 //! The calls on worked functions, beside the repository's reports and certificates, and on random
 //! ones beside each other.
 
+mod random;
+
 use minorder::{
     certify, check, diagram, exact, exact_above, exact_many, levels, read_pla, sift, Diagram,
     Error, Pair, PlaFault, Reason, Tables,
 };
+
+use random::Random;
 
 const MUX: &str = include_str!("../../../examples/mux2.cert");
 const HIDDEN_BIT: &str = include_str!("../../../examples/hwb8.cert");
@@ -24,29 +28,6 @@ fn hidden_bit() -> Tables {
 
 fn adder() -> Tables {
     Tables::from_fn(8, 5, |point, output| ((point & 15) + (point >> 4)) >> output & 1 == 1).unwrap()
-}
-
-/// The same numbers at each run.
-struct Random(u64);
-
-impl Random {
-    fn word(&mut self) -> u64 {
-        self.0 ^= self.0 << 13;
-        self.0 ^= self.0 >> 7;
-        self.0 ^= self.0 << 17;
-        self.0
-    }
-
-    fn tables(&mut self, inputs: usize, outputs: usize) -> Tables {
-        let words = outputs * (1 << inputs).max(64) / 64;
-        Tables::from_words(inputs, outputs, (0..words).map(|_| self.word()).collect()).unwrap()
-    }
-
-    fn order(&mut self, inputs: usize) -> Vec<u8> {
-        let mut order: Vec<u8> = (0..inputs as u8).collect();
-        (1..inputs).for_each(|at| order.swap(at, self.word() as usize % (at + 1)));
-        order
-    }
 }
 
 #[test]
@@ -96,7 +77,6 @@ fn verdicts_are_those_of_ordercheck() {
         check(&mux(), MUX.replace("order 2 0 1", "order 2 0 0")).unwrap().to_string(),
         "invalid Order"
     );
-    assert_eq!(check(&mux(), ""), Err(Error::BadCertificate));
 }
 
 #[test]
@@ -211,13 +191,13 @@ fn diagrams_have_their_functions_and_level_counts() {
 #[test]
 #[should_panic(expected = "point: 8: there are 8")]
 fn a_diagram_has_no_value_at_another_point() {
-    diagram(&mux(), &[2, 0, 1]).unwrap().value(8, 0);
+    let _ = diagram(&mux(), &[2, 0, 1]).unwrap().value(8, 0);
 }
 
 #[test]
 #[should_panic(expected = "output: 1: there are 1")]
 fn a_diagram_has_no_value_of_another_output() {
-    diagram(&mux(), &[2, 0, 1]).unwrap().value(7, 1);
+    let _ = diagram(&mux(), &[2, 0, 1]).unwrap().value(7, 1);
 }
 
 #[test]
