@@ -1,36 +1,49 @@
 """Exact minimum variable orders of shared reduced ordered binary decision diagrams.
 
+    exact(tables)             the first order of the fewest nodes, its level counts, its size
+    exact_many(functions)     the same of many functions, on several threads
+    certify(tables)           the certificate of that order
+    check(tables, text)       the verdict on a certificate
+    levels(tables, order)     the level counts under an order
+    sift(tables, order)       what one pass of sifting makes of an order
+    diagram(tables, order)    the diagram under an order, which a notebook shows
+    variables("a b s")        the tables of variables, which &, |, ^, ~ and ite join
+    ite(test, high, low)      the table of if, then, else
+    from_values(values)       the table of a list or text of values
+    from_hexadecimal(digits)  the table of hexadecimal digits
+    read_pla(path)            the tables and names of a PLA file
+    report_files(paths)       what the program minorder reports of many files
+
+``help(minorder.exact)`` and so on have more about each:
+
     >>> import minorder
-    >>> minorder.exact(lambda a, b, s: b if s else a, inputs=3)
+    >>> a, b, s = minorder.variables("a b s")
+    >>> mux = minorder.ite(s, b, a)
+    >>> found = minorder.exact(mux)
+    >>> found
     Result(order=(2, 0, 1), levels=(1, 1, 1), total=3)
-
-The functions of a diagram are given as ``tables``: one truth table or a sequence of them. A table of ``inputs`` variables is
-
-* an integer: bit p is the value at the point p, and bit i of p is the value of variable i;
-* bytes: bit p % 8 of byte p // 8 is the value at the point p, as in ``integer.to_bytes(length, "little")``;
-* a function of ``inputs`` booleans, variable 0 first, which is called once for each point and gives a bool, 0 or 1.
-
-``from_values`` makes a table of a list of values, ``variables`` those of the variables, and ``read_pla`` reads those of a
-PLA file; all know their number of variables:
-
-    >>> minorder.exact(minorder.from_values([0, 1, 1, 0, 1, 0, 0, 1])).total
-    5
-    >>> a, b, s = minorder.variables(3)
-    >>> minorder.exact(s & b | ~s & a).order
-    (2, 0, 1)
-    >>> minorder.exact(minorder.read_pla("examples/mux2.pla")).total
-    3
-
-``diagram`` gives the diagram under an order as a value, which a notebook shows:
-
-    >>> minorder.diagram(s & b | ~s & a, (2, 0, 1)).nodes
+    >>> found.names
+    ('s', 'a', 'b')
+    >>> minorder.diagram(mux, found).nodes
     (Node(variable=1, low=0, high=1), Node(variable=0, low=0, high=1), Node(variable=2, low=3, high=2))
 
-A list of values that isn't put into ``from_values`` is refused where it can be told from a list of tables: 2^n
+``tables`` is one table or a sequence of them, of 1 to 16 variables. A table is
+
+* a TruthTable, as these calls make it, which knows how many variables it has, and their names;
+* a function of booleans, variable 0 first, which is called once for each point and gives a bool, 0 or 1; the names
+  of its parameters are those of the variables;
+* an integer: bit p is the value at the point p, and bit i of p is the value of variable i;
+* bytes: bit p % 8 of byte p // 8 is the value at the point p, as in ``integer.to_bytes(length, "little")``.
+
+    >>> minorder.exact(lambda a, b, s: b if s else a) == minorder.exact(0xca, inputs=3) == found
+    True
+
+Tables with names stand together if they have the same, or some have none; parameters of functions that have other names are
+x0, x1, .. A list of values that isn't put into ``from_values`` is refused where it can be told from a list of tables: 2^n
 entries, each 0 or 1.
 
-There are 1 to 16 variables and 1 to 16 tables. An order lists each variable once, top first. Level counts are numbers of decision
-nodes, top level first: one root a table, no complement edges, terminals not counted.
+An order lists each variable once, top first; a result stands for its own. Level counts are numbers of decision nodes, top level
+first: one root a table, no complement edges, terminals not counted.
 
 The calls are made by the shared library libminorder, without the interpreter's lock, so that threads run side by side. It is
 the file that the environment variable MINORDER_LIBRARY names, else one beside this module or in the lib/ of the checkout or
@@ -41,7 +54,8 @@ from ._diagrams import Diagram, Node
 from ._errors import (
     BadArgument, BadCertificate, BadOrder, BadPairs, BadPath, BadPla, BadShape, BadText, MinorderError, NoGraphviz, NoLibrary)
 from ._many import exact_many
-from ._tables import Pla, Table, Tables, TruthTable, from_values, variables
+from ._tables import Pla, Table, Tables
+from ._truth_tables import TruthTable, from_hexadecimal, from_values, ite, variables
 from .batch import FileReport, Report, Status, report_files
 from .files import read_pla
 
@@ -50,6 +64,6 @@ __all__ = [
     "BadArgument", "BadCertificate", "BadOrder", "BadPairs", "BadPath", "BadPla", "BadShape", "BadText", "MinorderError",
     "NoGraphviz", "NoLibrary",
     "Diagram", "FileReport", "Node", "Pla", "Report", "Result", "Status", "Table", "Tables", "TruthTable", "Verdict",
-    "certify", "check", "diagram", "exact", "exact_many", "from_values", "levels", "read_pla", "report_files", "sift",
-    "variables",
+    "certify", "check", "diagram", "exact", "exact_many", "from_hexadecimal", "from_values", "ite", "levels", "read_pla",
+    "report_files", "sift", "variables",
 ]

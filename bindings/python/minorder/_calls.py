@@ -4,13 +4,14 @@ from functools import cached_property
 from struct import iter_unpack
 from typing import Iterable, Mapping, NamedTuple, Optional, Sequence, Tuple, Type, Union
 
+from ._arguments import checked_inputs, items_of, numbered_names, order_of, shown, whole
 from ._certificates import check_text, inputs_of
 from ._diagrams import Diagram, Node
 from ._errors import BadArgument, BadOrder, BadPairs, BadShape, MinorderError
 from ._library import Judged, NodeRow, Pair, library
-from ._tables import (
-    Pla, Tables, checked_inputs, inputs_said, items_of, listed, named_x_and_f, order_of, shown, whole, words_of)
+from ._tables import Pla, Table, Tables, inputs_said, listed, names_said, no_inputs, words_of
 from ._threads import aside
+from ._truth_tables import TruthTable
 
 NO_CERTIFICATE = 3
 SHORT_TEXT = 7
@@ -30,11 +31,11 @@ Given = Tuple["Array[c_uint64]", int, int, int]
 
 
 class Functions(NamedTuple):
-    """Tables in the words that the library reads, how many variables and tables they are, and their names if they have some."""
+    """Tables in the words that the library reads, how many variables and tables they are, and the names of both."""
     words: bytes
     inputs: int
     outputs: int
-    names: Optional[Tuple[Tuple[str, ...], Tuple[str, ...]]]
+    names: Tuple[Tuple[str, ...], Tuple[str, ...]]
 
     def given(self) -> Given:
         """The first arguments of each call."""
@@ -49,9 +50,15 @@ class _Sized(NamedTuple):
 
 
 class Result(_Sized):
-    """An order, top first, its level counts, top first, and its size, which is their sum. A notebook shows the diagram of a
-    result that knows its tables, as those of ``exact`` and ``sift`` do."""
+    """An order, top first, its level counts, top first, and its size, which is their sum. Those of ``exact`` and ``sift`` know
+    their tables: a notebook shows their diagram. ``levels``, ``sift`` and ``diagram`` take a result as its order."""
     _functions: Optional[Functions] = None
+
+    @property
+    def names(self) -> Tuple[str, ...]:
+        """The names of the order's variables, top first: x0, x1, .. if its tables have none, or if it doesn't know them."""
+        names = numbered_names("x", len(self.order)) if self._functions is None else self._functions.names[0]
+        return tuple(names[variable] for variable in self.order)
 
     @cached_property
     def _diagram(self) -> Optional[Diagram]:
@@ -78,6 +85,9 @@ class Verdict(NamedTuple):
         return self.reason == "Valid"
 
 
+Order = Union[Sequence[int], Result]
+
+
 def done(status: int) -> None:
     """Raises what a status other than 0 stands for."""
     if status:
@@ -88,11 +98,31 @@ def done(status: int) -> None:
 def _functions_of(tables: Tables, inputs: Optional[int]) -> Functions:
     """The functions that are given, of so many variables; of as many as they say themselves if that is left out."""
     each = listed(tables)
-    if inputs is None and (inputs := inputs_said(each)) is None:
-        raise BadArgument("inputs: it is left out, and the tables don't say how many variables they have")
-    inputs = checked_inputs(inputs)
-    names = (tables.inputs, tables.outputs) if isinstance(tables, Pla) else None
-    return Functions(words_of(each, inputs), inputs, len(each), names)
+    if isinstance(inputs, TruthTable):
+        raise BadArgument(f"inputs: {shown(inputs)} is a table: several tables are one argument, a list")
+    said = inputs_said(each)
+    if inputs is None and said is None:
+        raise no_inputs(each)
+    count = checked_inputs(said if inputs is None else inputs)
+    if said not in (None, count):
+        raise BadShape(f"inputs: {count}, where the tables have {said} variables")
+    return _in_words(tables, each, count)
+
+
+def _in_words(tables: Tables, each: Sequence[Table], inputs: int) -> Functions:
+    words = words_of(each, inputs)
+    outputs = tables.outputs if isinstance(tables, Pla) else numbered_names("f", len(each))
+    return Functions(words, inputs, len(each), (names_said(each, inputs), outputs))
+
+
+def _ordered(tables: Tables, order: Order) -> Tuple[Functions, Tuple[int, ...]]:
+    """The functions that are given, and an order of their variables. Raises BadArgument, BadShape, BadOrder."""
+    variables = order_of(order.order if isinstance(order, Result) else order)
+    each = listed(tables)
+    said = inputs_said(each)
+    if said not in (None, len(variables)):
+        raise BadOrder(f"order: {shown(variables)}: the tables have {said} variables, and an order has each once")
+    return _in_words(tables, each, len(variables)), variables
 
 
 def _result_of(functions: Functions, order: Iterable[int], levels: Iterable[int], total: int) -> Result:
@@ -118,9 +148,15 @@ def _pairs_of(above: Iterable[Tuple[int, int]], inputs: int) -> "Array[Pair]":
 def exact(tables: Tables, inputs: Optional[int] = None, above: Iterable[Tuple[int, int]] = ()) -> Result:
     """The first order under which the tables' shared diagram has the fewest nodes.
 
-    The tables have ``inputs`` variables, which may be left out where they are those of ``from_values`` or
-    ``read_pla``. ``above`` are pairs of variables; then it is the first such among the orders that have the first
-    variable of each pair above the second. Raises BadArgument, BadShape, BadPairs, MemoryError.
+    The tables have ``inputs`` variables, which may be left out where one of them is a TruthTable, or a function whose
+    parameters have no defaults and no ``*``; these parameters name the variables. ``above`` are pairs of variables; then it is
+    the first such among the orders that have the first variable of each pair above the second. Raises BadArgument,
+    BadShape, BadPairs, MemoryError.
+
+        >>> minorder.exact(lambda a, b, s: b if s else a)
+        Result(order=(2, 0, 1), levels=(1, 1, 1), total=3)
+        >>> minorder.exact(0xca, inputs=3, above=[(0, 2)]).order
+        (0, 2, 1)
     """
     functions = _functions_of(tables, inputs)
     given, inputs = functions.given(), functions.inputs
@@ -152,41 +188,52 @@ def certify(tables: Tables, inputs: Optional[int] = None, above: Iterable[Tuple[
         room = length.value
 
 
-def levels(tables: Tables, order: Sequence[int]) -> Tuple[int, ...]:
-    """The level counts of the tables' shared diagram under an order. Raises BadArgument, BadShape, BadOrder, MemoryError."""
-    variables = order_of(order)
-    inputs = len(variables)
-    counts, given = (c_uint32 * inputs)(), _functions_of(tables, inputs).given()
+def levels(tables: Tables, order: Order) -> Tuple[int, ...]:
+    """The level counts of the tables' shared diagram under an order. Raises BadArgument, BadShape, BadOrder, MemoryError.
+
+        >>> minorder.levels(lambda a, b, s: b if s else a, [0, 1, 2])
+        (1, 2, 2)
+    """
+    functions, variables = _ordered(tables, order)
+    inputs = functions.inputs
+    counts, given = (c_uint32 * inputs)(), functions.given()
     done(library().minorder_levels_with_lengths(*given, (c_uint8 * inputs)(*variables), inputs, counts, inputs))
     return tuple(counts)
 
 
-def sift(tables: Tables, order: Sequence[int]) -> Result:
-    """What one pass of Rudell's sifting makes of an order. Raises BadArgument, BadShape, BadOrder, MemoryError."""
-    variables = order_of(order)
-    inputs = len(variables)
+def sift(tables: Tables, order: Order) -> Result:
+    """What one pass of Rudell's sifting makes of an order. Raises BadArgument, BadShape, BadOrder, MemoryError.
+
+        >>> minorder.sift(lambda a, b, s: b if s else a, [0, 1, 2])
+        Result(order=(2, 0, 1), levels=(1, 1, 1), total=3)
+    """
+    functions, variables = _ordered(tables, order)
+    inputs = functions.inputs
     sifted, counts, total = (c_uint8 * inputs)(*variables), (c_uint32 * inputs)(), c_uint32()
-    functions = _functions_of(tables, inputs)
     done(library().minorder_sift_with_lengths(*functions.given(), sifted, inputs, counts, inputs, byref(total)))
     return _result_of(functions, sifted, counts, total.value)
 
 
-def diagram(tables: Tables, order: Sequence[int]) -> Diagram:
-    """The tables' reduced shared diagram under an order, with the names of ``read_pla``, else x0, x1, .. and f0, f1, ..
-    Raises BadArgument, BadShape, BadOrder, MemoryError."""
-    variables = order_of(order)
-    return _diagram_of(_functions_of(tables, len(variables)), variables)
+def diagram(tables: Tables, order: Order) -> Diagram:
+    """The tables' reduced shared diagram under an order, with the names that they have, else x0, x1, .. and f0, f1, ..
+    Raises BadArgument, BadShape, BadOrder, MemoryError.
+
+        >>> a, b, s = minorder.variables("a b s")
+        >>> mux = minorder.ite(s, b, a)
+        >>> minorder.diagram(mux, minorder.exact(mux)).inputs
+        ('a', 'b', 's')
+    """
+    return _diagram_of(*_ordered(tables, order))
 
 
 def _diagram_of(functions: Functions, order: Tuple[int, ...]) -> Diagram:
     inputs, outputs = functions.inputs, functions.outputs
-    names = functions.names or named_x_and_f(inputs, outputs)
     room = _most_nodes(inputs, outputs)
     nodes, roots, count = (NodeRow * room)(), (c_uint32 * outputs)(), c_size_t()
     places = nodes, room, roots, outputs, byref(count)
     done(library().minorder_diagram_with_lengths(*functions.given(), (c_uint8 * inputs)(*order), inputs, *places))
     rows = iter_unpack("=III", bytes(memoryview(nodes)[:count.value]))
-    return Diagram(order, tuple(map(Node._make, rows)), tuple(roots), *names)
+    return Diagram(order, tuple(map(Node._make, rows)), tuple(roots), *functions.names)
 
 
 def _most_nodes(inputs: int, outputs: int) -> int:

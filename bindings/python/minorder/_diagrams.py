@@ -9,9 +9,10 @@ from functools import cached_property
 from typing import Callable, Iterator, NamedTuple, Optional, Sequence, Tuple, TypeVar, Union, cast
 
 from . import _drawings
+from ._arguments import in_turn, names_of, order_of, shown, whole
 from ._drawings import counted
 from ._errors import BadPath, BadShape
-from ._tables import TruthTable, in_turn, names_of, order_of, shown, whole
+from ._truth_tables import TruthTable
 from ._writing import path_of, write_file
 
 T = TypeVar("T")
@@ -87,7 +88,7 @@ class Diagram:
         return tuple(made[root] for root in self.roots)
 
     def tables(self) -> Tuple[TruthTable, ...]:
-        """The truth table of each function."""
+        """The truth table of each function, with the names of the variables."""
         inputs = len(self.order)
         height = {variable: inputs - 1 - level for level, variable in enumerate(self.order)}
 
@@ -100,7 +101,7 @@ class Diagram:
         for variable in self.order[::-1]:
             places += [place | 1 << variable for place in places]
         found = (_widened(table, inputs) for table in self.fold((0, 0), (1, 0), node))
-        return tuple(TruthTable(_permuted(table, places), inputs) for table in found)
+        return tuple(TruthTable(_permuted(table, places), inputs, self.inputs) for table in found)
 
     # ---- as texts and pictures
 
@@ -111,7 +112,7 @@ class Diagram:
     def to_json(self) -> str:
         """The diagram as an object of JSON: inputs, outputs, order, levels, nodes (each variable, low, high), roots."""
         keys = ("inputs", "outputs", "order", "levels", "nodes", "roots")
-        return json.dumps({key: getattr(self, key) for key in keys}) + "\n"
+        return json.dumps({key: getattr(self, key) for key in keys}, allow_nan=False) + "\n"
 
     def save(self, path: Union[str, "os.PathLike[str]"]) -> None:
         """Writes a file whose suffix says what: .dot; .svg, .png or .pdf, by Graphviz; .json; .bdd, what BuDDy's ``bdd_save``

@@ -8,20 +8,20 @@ class MinorderError(Exception):
 
 
 class NoLibrary(MinorderError, OSError):
-    """The shared library isn't there, or is another one."""
+    """The shared library isn't there, or is another one, or of a version that this package doesn't call."""
 
 
 class BadArgument(MinorderError, TypeError):
-    """An argument is of another type."""
+    """An argument is of another type, or a table is asked for its truth or order."""
 
 
 class BadShape(MinorderError, ValueError):
     """There aren't 1 to 16 variables and 1 to 16 tables, or a table has values for other points than theirs, or there are
-    other numbers of names, or a node or a root leads to none of a diagram's nodes."""
+    other names or other numbers of them, or a node or a root leads to none of a diagram's nodes."""
 
 
 class BadOrder(MinorderError, ValueError):
-    """An order hasn't each variable once."""
+    """An order hasn't each variable of the tables once."""
 
 
 class BadPairs(MinorderError, ValueError):

@@ -1,5 +1,6 @@
 """The shared library and the types of its calls."""
 import os
+from contextlib import suppress
 from ctypes import CDLL, POINTER, Structure, c_char_p, c_size_t, c_uint8, c_uint32, c_uint64
 from ctypes.util import find_library
 from threading import Lock
@@ -8,6 +9,8 @@ from typing import Iterator, Optional
 from ._errors import NoLibrary
 
 NAME = "libminorder.so.1"
+# the version that has all calls below; a later one has them too, as long as the first number stays
+NEEDED = (1, 0, 0)
 # the loader's words where there is no room for a library
 NO_ROOM = ("cannot allocate", "failed to map", "cannot map")
 
@@ -79,21 +82,49 @@ def _candidates() -> Iterator[str]:
         yield found
 
 
+def _file_of(path: str) -> str:
+    """The file that was loaded by a path, or by a name that the loader found."""
+    if "/" not in path:
+        with suppress(OSError, StopIteration), open("/proc/self/maps") as maps:
+            # an address, four more columns, and the file
+            return next(line.split(None, 5)[5].rstrip("\n") for line in maps if "/libminorder.so" in line)
+    return path
+
+
+def _check_version(loaded: CDLL, path: str) -> None:
+    loaded.minorder_version.restype = c_uint32
+    number: int = loaded.minorder_version()
+    version = number // 10000, number // 100 % 100, number % 100
+    if version[0] != NEEDED[0] or version < NEEDED:
+        found, needed = (".".join(map(str, it)) for it in (version, NEEDED))
+        raise NoLibrary(
+            f"{_file_of(path)} is of version {found}, and this package needs version {needed} or a later one below "
+            f"{NEEDED[0] + 1}.0.0; MINORDER_LIBRARY may name another file")
+
+
+def _with_calls(loaded: CDLL, path: str) -> CDLL:
+    """The library with the types of its calls. Raises NoLibrary if it is another one."""
+    try:
+        _check_version(loaded, path)
+        for name, arguments in CALLS.items():
+            call = getattr(loaded, name)
+            call.argtypes, call.restype = arguments, c_char_p if name.endswith("_text") else c_uint32
+    except AttributeError as error:
+        raise NoLibrary(f"{_file_of(path)} is no {NAME} that this package can call: {error}") from error
+    return loaded
+
+
 def _load() -> CDLL:
     why = ""
     for path in _candidates():
         try:
             loaded = CDLL(path)
-            for name, arguments in CALLS.items():
-                call = getattr(loaded, name)
-                call.argtypes, call.restype = arguments, c_char_p if name.endswith("_text") else c_uint32
-            return loaded
         except OSError as error:
             if any(words in str(error).lower() for words in NO_ROOM):
                 raise MemoryError(str(error)) from None
             why = why or str(error)
-        except AttributeError as error:
-            raise NoLibrary(f"{path} is no {NAME} that this package can call: {error}") from error
+        else:
+            return _with_calls(loaded, path)
     raise NoLibrary(
         f"the C library that this package calls isn't found: {why}; minorder's Debian package libminorder1 has {NAME}, as has "
         f"its release in lib/, and `./install.sh` of its repository installs it; MINORDER_LIBRARY may name the file")

@@ -5,10 +5,11 @@ from ctypes import c_uint8, c_uint32, c_uint64
 from struct import Struct
 from typing import Iterable, Iterator, List, Mapping, Optional, Sequence, Tuple
 
+from ._arguments import checked_inputs, native, shown
 from ._calls import Result, done
 from ._errors import BadArgument, BadShape, MinorderError
 from ._library import library
-from ._tables import Pla, Tables, TruthTable, checked_inputs, inputs_said, listed, native, shown, words_of
+from ._tables import Pla, Tables, inputs_said, listed, words_of
 from ._threads import in_order, workers_of
 
 # of a chunk: inputs, outputs, and how many functions

@@ -3,7 +3,7 @@ from __future__ import annotations
 
 from typing import Optional, Sequence
 
-from ._tables import shortened
+from ._arguments import shortened
 
 # longer ones are no inputs, and Python makes no number of very long ones
 MOST_DIGITS = 20

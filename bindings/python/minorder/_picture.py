@@ -35,6 +35,13 @@ def draw_curves(axes: Any, curves: Mapping[str, Curve], colours: Sequence[Any], 
     axes.grid(color="#dddddd")
 
 
+def label_of(score: Score) -> str:
+    """The method's name, and whether sizes are only claimed. To matplotlib a `$` begins a formula, and a name with `_` in front
+    isn't shown."""
+    name = score.method.replace("$", r"\$")
+    return f"{' ' if name.startswith('_') else ''}{name}{' (claimed)' if score.claimed else ''}"
+
+
 def draw(scores: Sequence[Score], path: str) -> None:
     """Draws a panel for each score into a file."""
     matplotlib = importlib.import_module("matplotlib")
@@ -45,8 +52,9 @@ def draw(scores: Sequence[Score], path: str) -> None:
     for axes, score in zip(panels[0], scores):
         whole = score.standing.whole
         curves = {" ".join(it): curve_of(score.others[it], whole) for it in benchmarks.CURVES if it in score.others}
-        curves[score.method] = curve_of(score.standing, whole)
-        draw_curves(axes, curves, [*colours[:len(curves) - 1], "#000000"], score.method)
+        name = label_of(score)
+        curves[name] = curve_of(score.standing, whole)
+        draw_curves(axes, curves, [*colours[:len(curves) - 1], "#000000"], name)
         axes.set_title(f"from {START_SAID[score.start]}, {whole} functions")
     panels[0][0].set_ylabel("share of the functions, %")
     panels[0][-1].legend(frameon=False, loc="lower right")

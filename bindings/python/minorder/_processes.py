@@ -17,17 +17,29 @@ Task = TypeVar("Task")
 Found = TypeVar("Found")
 
 
-def each(work: Callable[[Task], Found], tasks: Sequence[Task], workers: Optional[int] = None) -> list[Found]:
+def each(
+        work: Callable[[Task], Found], tasks: Sequence[Task], workers: Optional[int] = None,
+        show: Callable[[int], None] = lambda done: None,
+) -> list[Found]:
     """What the work gives for each task, in their order, by so many processes, as many as there are processors if that is left
-    out. Raises what the work does, and MemoryError if a process is lost."""
+    out. ``show`` is called with the number of tasks that are done. Raises what the work does, and MemoryError if a process is
+    lost."""
     count = min(workers_of(workers), len(tasks))
     if count < 2:
-        return [work(task) for task in tasks]
+        return _alone(work, tasks, show)
     crew = _Crew(work, count)
     try:
-        return crew.done(tasks)
+        return crew.done(tasks, show)
     finally:
         crew.end()
+
+
+def _alone(work: Callable[[Task], Found], tasks: Sequence[Task], show: Callable[[int], None]) -> list[Found]:
+    found = []
+    for task in tasks:
+        found.append(work(task))
+        show(len(found))
+    return found
 
 
 class _Crew:
@@ -55,9 +67,9 @@ class _Crew:
             there.close()
         self.processes[here] = process
 
-    def done(self, tasks: Sequence[Any]) -> list[Any]:
+    def done(self, tasks: Sequence[Any], show: Callable[[int], None]) -> list[Any]:
         if not self.processes:
-            return [self.work(task) for task in tasks]
+            return _alone(self.work, tasks, show)
         found: dict[int, Any] = {}
         left = deque(enumerate(tasks))
         busy: dict[Connection, int] = {}
@@ -68,6 +80,7 @@ class _Crew:
             for ready in wait(list(busy)):
                 pipe = cast(Connection, ready)
                 found[busy.pop(pipe)] = _answer(pipe)
+                show(len(found))
                 if left:
                     busy[pipe] = _give(pipe, left)
         return [found[number] for number in range(len(tasks))]

@@ -6,7 +6,7 @@ import io
 import json
 from typing import Iterator, Mapping, Union
 
-KNOWN = ("name", "order", "nodes", "seconds", "start")
+KNOWN = ("name", "order", "nodes", "seconds", "start", "claimed")
 COLUMNS = "name and order, or name and nodes; besides these seconds and start"
 SEPARATORS = ",;\t"
 
@@ -40,9 +40,14 @@ def object_of(pairs: list[tuple[str, object]]) -> dict[str, object]:
     return dict(pairs)
 
 
+def refused(word: str) -> float:
+    raise ValueError(f"{word} is no number of JSON")
+
+
 def json_of(text: str, place: str) -> object:
     try:
-        return json.loads(text, object_pairs_hook=object_of)
+        # numbers stay as they are written, for what refuses them
+        return json.loads(text, object_pairs_hook=object_of, parse_int=str, parse_float=str, parse_constant=refused)
     except (ValueError, RecursionError) as error:
         raise Unreadable(f"{place}: no JSON: {error}") from None
 
@@ -82,7 +87,7 @@ def heads_of(cells: list[str], place: str) -> list[str]:
 
 
 def csv_rows(text: str) -> Iterator[Row]:
-    reader = csv.reader(io.StringIO(text, newline=""), delimiter=separator_of(text), skipinitialspace=True)
+    reader = csv.reader(io.StringIO(text, newline=""), delimiter=separator_of(text), skipinitialspace=True, strict=True)
     heads: list[str] = []
     try:
         for cells in reader:

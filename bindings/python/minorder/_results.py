@@ -1,8 +1,9 @@
 """The results of a method: in each row a function's name and an order, or a number of nodes alone."""
 from __future__ import annotations
 
+import re
 from dataclasses import dataclass
-from math import isfinite
+from math import inf
 from typing import Mapping, Optional, Sequence, Union
 
 from . import benchmarks
@@ -15,6 +16,9 @@ SYMMETRIC = "symmetric"
 HERE = "an order is counted here"
 STARTS = (benchmarks.FILE, benchmarks.RANDOM, *map(str, benchmarks.NUMBERS))
 FAULTS_SHOWN, CHARACTERS_SHOWN = 20, 60
+# thirty years, so that sums stay finite
+MOST_SECONDS = 10 ** 9
+DECIMAL = re.compile(r"([0-9]+\.?[0-9]*|\.[0-9]+)(e[+-]?[0-9]+)?", re.IGNORECASE)
 
 
 class BadResults(MinorderError, ValueError):
@@ -81,7 +85,7 @@ def run_of(row: Union[Mapping[str, object], Fault]) -> Run:
     if isinstance(row, Fault):
         raise row
     name, order, nodes = row.get("name"), row.get("order"), row.get("nodes")
-    if not isinstance(name, str):
+    if not isinstance(name, str) or not name.strip():
         raise Fault("no name")
     try:
         entry = benchmarks.entry(name.strip())
@@ -97,6 +101,7 @@ def run_of(row: Union[Mapping[str, object], Fault]) -> Run:
         if set(words) != {LATE}:
             raise Fault(f"{said}: both {LATE} and {cut(next(it for it in words if it != LATE))}")
         return Run(entry.name, start, None, None, seconds)
+    check_mark(said, row.get("claimed"), order is None)
     if order is None:
         return Run(entry.name, start, None, claim_of(said, nodes, benchmarks.optima()[entry.name]), seconds)
     own = None if nodes is None else nodes_of(said, nodes)
@@ -113,26 +118,40 @@ def start_of(name: str, given: object) -> str:
 def seconds_of(name: str, given: object) -> Optional[float]:
     if given is None:
         return None
-    try:
-        seconds = float(given)  # type: ignore[arg-type]
-    except (TypeError, ValueError, OverflowError):
-        seconds = -1
-    if seconds < 0 or not isfinite(seconds) or isinstance(given, bool):
-        raise Fault(f"{name}: seconds {cut(given)}: no number of seconds")
+    text = str(given).strip()
+    seconds = float(text) if DECIMAL.fullmatch(text) else inf
+    if seconds > MOST_SECONDS:
+        raise Fault(f"{name}: seconds {cut(text)}: no number of seconds: decimal, from 0 to {MOST_SECONDS}")
     return seconds
+
+
+def check_mark(name: str, given: object, is_claim: bool) -> None:
+    """Refuses a column `claimed` that says otherwise than the row: a size without an order is a claim, an order is none."""
+    if given is None:
+        return
+    mark = str(int(given) if isinstance(given, bool) else given).strip()
+    if mark not in ("0", "1"):
+        raise Fault(f"{name}: claimed {cut(mark)}: it is 0 or 1")
+    if is_claim and mark == "0":
+        raise Fault(f"{name}: claimed 0, but a number of nodes without an order is a claim")
+    if not is_claim and mark == "1":
+        raise Fault(f"{name}: claimed 1, but it has an order; {HERE}")
 
 
 def order_of(name: str, given: object, inputs: Sequence[str]) -> tuple[int, ...]:
     """The inputs' numbers of an order that is spelled by numbers or by names."""
     words = given if isinstance(given, list) else str(given).replace(",", " ").split()
-    places = {**{str(x): x for x in range(len(inputs))}, **{it: x for x, it in enumerate(inputs)}}
+    numbers, names = {str(x): x for x in range(len(inputs))}, {it: x for x, it in enumerate(inputs)}
     order: list[int] = []
     for word in words:
-        x = None if isinstance(word, bool) else places.get(str(word))
-        if x is None:
+        said = "" if isinstance(word, bool) else str(word)
+        if said not in numbers and said not in names:
             raise Fault(f"{name}: {cut(word)} is no input: they are 0 to {len(inputs) - 1}, or {' '.join(inputs)}")
+        if (said in names) != (str(words[0]) in names):
+            raise Fault(f"{name}: {cut(words[0])} and {said}: an order has numbers or names, not both")
+        x = names[said] if said in names else numbers[said]
         if x in order:
-            raise Fault(f"{name}: input {x} stands twice")
+            raise Fault(f"{name}: input {said} stands twice")
         order.append(x)
     missing = [x for x in range(len(inputs)) if x not in order]
     if missing:
@@ -143,7 +162,7 @@ def order_of(name: str, given: object, inputs: Sequence[str]) -> tuple[int, ...]
 def nodes_of(name: str, given: object) -> int:
     text = str(given).strip()
     if isinstance(given, bool) or not (text.isascii() and text.isdigit() and len(text) < 10):
-        raise Fault(f"{name}: nodes {cut(text)}: no number of nodes")
+        raise Fault(f"{name}: nodes {cut(text)}: no number of nodes: one to nine decimal digits")
     return int(text)
 
 

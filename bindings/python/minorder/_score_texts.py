@@ -14,6 +14,10 @@ from ._scores import Score, Size
 from .benchmarks import fixed, percent
 
 ENDS, SHOWN = 3, 20
+SEVERAL = {
+    benchmarks.FILE: "the lower median of a function's runs counts",
+    benchmarks.RANDOM: "the lower median of a numbered order's runs counts, and each run without a number",
+}
 CSV_COLUMNS = ("name", "start", "order", "nodes", "optimum", "ratio", "claimed", "seconds")
 
 
@@ -44,12 +48,17 @@ def league_row(name: str, standing: benchmarks.Standing) -> list[str]:
         str(standing.late or ""), fixed(standing.seconds, 1)]
 
 
+def marked(score: Score) -> str:
+    """The method's name, with how many of its sizes are only claimed."""
+    return f"{score.method} ({score.claimed} claimed)" if score.claimed else score.method
+
+
 def league_table(score: Score) -> list[str]:
     """The methods of the league on the same functions, with this one in its place."""
     if score.place is None:
         return []
     rows = [league_row(" ".join(method), score.others[method]) for method in benchmarks.ranked(score.others)]
-    rows.insert(score.place - 1, league_row(f"> {score.method}", score.standing))
+    rows.insert(score.place - 1, league_row(f"> {marked(score)}", score.standing))
     return aligned([HEADS, *rows])
 
 
@@ -73,7 +82,8 @@ def ratio_lines(score: Score) -> Iterator[str]:
     ended = len(mine.ended)
     is_whole = ended == mine.whole
     is_plain = is_whole and fixed(mine.mean, 6) == fixed(mine.mean_of_ended, 6)
-    yield f"place: {score.place} of {1 + len(score.others)}, by the mean ratio on {all_functions(score)}"
+    claims = f", {score.claimed} of them by sizes that are only claimed" if score.claimed else ""
+    yield f"place: {score.place} of {1 + len(score.others)}, by the mean ratio on {all_functions(score)}{claims}"
     yield f"mean ratio: {fixed(mine.mean, 3)}"
     if not is_plain:
         yield "  late and missing functions count as the worst of the league or the start, and no function counts more"
@@ -103,6 +113,8 @@ def notes(score: Score) -> list[str]:
     if score.few_starts:
         lines.append(f"with fewer than ten random orders, {len(score.few_starts)}: {some(score.few_starts)}: "
                      "each that is missing counts as a late run")
+    if score.several:
+        lines.append(f"with several runs, {len(score.several)}: {some(score.several)}: {SEVERAL[score.start]}")
     if score.of_others:
         lines.append(f"of other families, {len(score.of_others)}: {some(score.of_others)}")
     for difference, its in score.differences.items():
@@ -139,12 +151,12 @@ def report(scores: Sequence[Score]) -> str:
 
 # ---- for programs
 
-def standing_object(standing: benchmarks.Standing) -> dict[str, object]:
+def standing_object(standing: benchmarks.Standing, claimed: int) -> dict[str, object]:
     worst = {"name": standing.worst.name, "ratio": standing.worst_ratio} if standing.worst else None
     return {
         "functions": standing.whole, "ended": len(standing.ended), "late": standing.late, "mean_ratio": standing.mean,
         "mean_ratio_of_ended": standing.mean_of_ended, "worst": worst, "optimum_met": standing.met, "runs": standing.runs,
-        "runs_met": standing.runs_met, "seconds": standing.seconds,
+        "runs_met": standing.runs_met, "seconds": standing.seconds, "claimed": claimed,
     }
 
 
@@ -161,21 +173,21 @@ def difference_object(it: Counted) -> dict[str, object]:
 
 def score_object(score: Score) -> dict[str, object]:
     return {
-        "method": score.method, "start": score.start, "families_asked_for": score.families, **standing_object(score.standing),
-        "claimed": score.claimed, "place": score.place, "places": 1 + len(score.others), "late_functions": score.late,
-        "late_runs": score.late_runs, "missing": score.missing, "few_starts": score.few_starts,
-        "left_out": score.left_out, "of_other_families": score.of_others,
+        "method": score.method, "start": score.start, "families_asked_for": score.families,
+        **standing_object(score.standing, score.claimed), "place": score.place, "places": 1 + len(score.others),
+        "late_functions": score.late, "late_runs": score.late_runs, "missing": score.missing, "few_starts": score.few_starts,
+        "several_runs": score.several, "left_out": score.left_out, "of_other_families": score.of_others,
         "other_own_sizes": [difference_object(it) for its in score.differences.values() for it in its],
         "families": [it._asdict() for it in score.by_family],
         "costliest": [it.name for it in score.costliest],
         "results": [size_object(size) for size in score.sizes],
-        "league": [dict(standing_object(score.others[package, method]), package=package, method=method)
+        "league": [dict(standing_object(score.others[package, method], 0), package=package, method=method)
                    for package, method in benchmarks.ranked(score.others)],
     }
 
 
 def json_text(scores: Sequence[Score]) -> str:
-    return json.dumps([score_object(score) for score in scores], indent=1) + "\n"
+    return json.dumps([score_object(score) for score in scores], indent=1, allow_nan=False) + "\n"
 
 
 def cells_of(it: Counted) -> list[object]:

@@ -69,6 +69,17 @@ class Score:
         return sum(line.late for line in self.standing.lines)
 
     @property
+    def several(self) -> list[str]:
+        """The functions with several runs from the file's order or of one random order, or with more than ten random orders."""
+        most = 1 if self.start == benchmarks.FILE else len(benchmarks.NUMBERS)
+        found = []
+        for name, its in by_function(self.runs).items():
+            starts = [it.run.start for it in its if it.run.start != benchmarks.RANDOM]
+            if len(its) > most or len(starts) > len(set(starts)):
+                found.append(name)
+        return found
+
+    @property
     def few_starts(self) -> list[str]:
         """The functions of which some random orders have no run."""
         if self.start == benchmarks.FILE:

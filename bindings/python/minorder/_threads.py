@@ -5,19 +5,26 @@ from collections import deque
 from concurrent.futures import BrokenExecutor, Executor, Future
 from contextlib import suppress
 from ctypes import CDLL
+from mmap import mmap
 from queue import SimpleQueue
 from signal import SIG_BLOCK, SIG_SETMASK, SIGHUP, SIGINT, SIGTERM, pthread_sigmask
 from threading import Thread, current_thread, main_thread
-from typing import Any, Callable, Deque, Iterable, Iterator, Optional, Tuple, TypeVar
+from typing import Any, Callable, Deque, Dict, Generic, Iterable, Iterator, Optional, Tuple, TypeVar
 
+from ._arguments import shown, whole
 from ._errors import BadShape
-from ._tables import whole
 
 T = TypeVar("T")
+Key = TypeVar("Key")
 # calls with so many inputs may take longer than a few milliseconds
 LASTING = 12
 # how many tasks an executor is given before the first one's outcome is waited for
 AHEAD = 256
+# a thread that gets no memory while it starts is never heard of again, and the one that starts it waits for ever
+THREAD_BYTES = 16 << 20
+MOST_WORKERS = 1024
+# the tasks that a crew has take so many bytes at most, where they are more than one
+MOST_BYTES = 1 << 28
 
 with suppress(OSError):
     # glibc loads it where a thread ends, and aborts if memory is out by then
@@ -44,14 +51,16 @@ class Threads(Executor):
     had."""
 
     def __init__(self, workers: int) -> None:
-        self._workers = workers
+        self._started = 0
         self._tasks: "SimpleQueue[Optional[Tuple[Future[Any], Callable[[], Any]]]]" = SimpleQueue()
         # signals are for the main thread
         before = pthread_sigmask(SIG_BLOCK, (SIGHUP, SIGINT, SIGTERM))
         try:
             for _ in range(workers):
+                mmap(-1, THREAD_BYTES).close()
                 Thread(target=self._work, daemon=True).start()
-        except RuntimeError as error:
+                self._started += 1
+        except (OSError, RuntimeError) as error:
             self.shutdown()
             raise MemoryError(str(error)) from None
         finally:
@@ -73,17 +82,17 @@ class Threads(Executor):
 
     def shutdown(self, wait: bool = False, *, cancel_futures: bool = False) -> None:
         """Lets each thread end behind what it was given."""
-        for _ in range(self._workers):
+        for _ in range(self._started):
             self._tasks.put(None)
 
 
 def workers_of(workers: Optional[int]) -> int:
-    """A number of threads, as many as there are processors if it is left out."""
+    """A number of threads, or of a cluster's workers; as many as there are processors if it is left out."""
     if workers is None:
         return len(os.sched_getaffinity(0))
     number = whole(workers, "workers")
-    if number < 1:
-        raise BadShape(f"workers: {number}: there is one at least")
+    if not 1 <= number <= MOST_WORKERS:
+        raise BadShape(f"workers: {shown(number)}: there are 1 to {MOST_WORKERS}")
     return number
 
 
@@ -112,6 +121,52 @@ def in_order(
             future.cancel()
         if executor is None:
             pool.shutdown(wait=False)
+
+
+class Crew(Generic[Key]):
+    """Threads, or an executor's workers, which are given tasks, each with a key, and give what the work makes of them as it is
+    done. A task that fails with an executor is done here, with a warning."""
+
+    def __init__(self, work: Callable[[bytes], bytes], workers: Optional[int], executor: Optional[Executor]) -> None:
+        count = workers_of(workers)
+        self._work, self._executor = work, executor
+        self._pool = Threads(count) if executor is None else executor
+        # one more than there are threads, so that none waits for its next task
+        self._room = count + 1 if executor is None else max(AHEAD, 2 * count)
+        self._given: "Dict[Future[bytes], Tuple[Key, bytes]]" = {}
+        self._bytes = 0
+        self._done: "SimpleQueue[Future[bytes]]" = SimpleQueue()
+
+    def __enter__(self) -> "Crew[Key]":
+        return self
+
+    def __exit__(self, *_: object) -> None:
+        for future in self._given:
+            future.cancel()
+        if self._executor is None:
+            self._pool.shutdown(wait=False)
+
+    def has_tasks(self) -> bool:
+        return bool(self._given)
+
+    def has_room(self) -> bool:
+        return len(self._given) < self._room and self._bytes < MOST_BYTES
+
+    def is_any_done(self) -> bool:
+        return not self._done.empty()
+
+    def give(self, key: Key, task: bytes) -> None:
+        future = _submitted(self._pool, self._work, task)
+        self._given[future] = key, task
+        self._bytes += len(task)
+        future.add_done_callback(self._done.put)
+
+    def take(self) -> Tuple[Key, bytes]:
+        """The key and the outcome of a task that is done; waits for one."""
+        future = self._done.get()
+        key, task = self._given.pop(future)
+        self._bytes -= len(task)
+        return key, future.result() if self._executor is None else _outcome(self._work, task, future)
 
 
 def _submitted(pool: Executor, work: Callable[[bytes], bytes], task: bytes) -> "Future[bytes]":

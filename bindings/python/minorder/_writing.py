@@ -1,18 +1,20 @@
-"""Files that are written as a whole or not at all."""
+"""Files, and lines of files, that are written as a whole or not at all."""
 from __future__ import annotations
 
 import fcntl
 import os
+import select
 import shutil
 import signal
+import stat
 import tempfile
-from contextlib import contextmanager, suppress
+from contextlib import contextmanager, nullcontext, suppress
 from threading import current_thread, main_thread
 from types import FrameType
 from typing import Callable, Iterator, Mapping, Optional
 
+from ._arguments import shown
 from ._errors import BadArgument
-from ._tables import shown
 
 SIGNALS = (signal.SIGINT, signal.SIGTERM, signal.SIGHUP)
 
@@ -57,6 +59,19 @@ def write_file(path: str, content: bytes) -> None:
             raise named(error, path) if isinstance(error, OSError) else error
 
 
+def write_whole(number: int, line: bytes) -> None:
+    """Writes a line to an open file at once, so that no signal but SIGKILL cuts it. A pipe takes a short line as a whole or not
+    at all, so a signal may end the wait for it."""
+    is_short = len(line) <= select.PIPE_BUF and not stat.S_ISREG(os.fstat(number).st_mode)
+    with nullcontext() if is_short else undisturbed():
+        rest = memoryview(line)
+        while rest:
+            try:
+                rest = rest[os.write(number, rest):]
+            except BlockingIOError:
+                select.select((), (number,), ())
+
+
 def write_all(folder: str, contents: Callable[[], Mapping[str, bytes]]) -> None:
     """Writes files into a folder, which is made if it isn't there: all of them or none. What they are is asked for when no
     other process writes there so. Raises OSError with a name."""
@@ -70,7 +85,7 @@ def write_all(folder: str, contents: Callable[[], Mapping[str, bytes]]) -> None:
             with suppress(OSError):
                 os.rmdir(above)
 
-    with _undone(undo):
+    with undone(undo):
         with undisturbed():
             made += _made(folder)
             places.append(_room_in(folder))
@@ -121,7 +136,7 @@ def _locked(folder: str) -> Iterator[None]:
 
 
 @contextmanager
-def _undone(undo: Callable[[], None]) -> Iterator[None]:
+def undone(undo: Callable[[], None]) -> Iterator[None]:
     """Undoes what was begun if it fails, or if a signal ends the process."""
     def end(number: int, _: Optional[FrameType]) -> None:
         undo()

@@ -1,22 +1,22 @@
 """Reports of many PLA files, by threads or by an executor's workers."""
 import json
 import os
-from collections import deque
 from concurrent.futures import Executor
-from dataclasses import asdict, dataclass
+from dataclasses import dataclass
 from enum import IntEnum
-from typing import Any, Deque, Dict, Iterable, Iterator, List, Optional, Sequence, Tuple, Union
+from typing import Any, Dict, Iterable, Iterator, List, Optional, Sequence, Tuple, Union
 
+from ._arguments import shown
 from ._calls import certify, exact, levels, sift
 from ._errors import BadArgument, BadPla
-from ._tables import shown
-from ._threads import in_order
+from ._handing_out import Waiting
+from ._threads import Crew, workers_of
 from ._writing import write_file
 from .files import LIMIT, pla_of
 
 Path = Union[str, "os.PathLike[str]"]
-# a chunk has so many files and bytes at most, where it has more than one file
-MOST_FILES, MOST_BYTES = 16, 1 << 18
+# for each worker so many files are done or being done at most, from the first on whose report isn't yielded
+MOST_AHEAD = 256
 
 
 class Status(IntEnum):
@@ -43,16 +43,19 @@ class Report:
 
 @dataclass(frozen=True)
 class FileReport:
-    """A file's report, or in its place the fault, in the words of ``minorder`` behind its name."""
+    """A file's report, or in its place the fault, in the words of ``minorder`` behind its name. Both are there if the
+    certificate alone can't be written; the fault is then ``certificate: Device``."""
     file: str
     status: Status
     fault: str = ""
     report: Optional[Report] = None
 
     def fields(self) -> Dict[str, Any]:
-        """By names: the file and the status, and the fault or what the report has."""
-        said = {"file": self.file, "status": int(self.status)}
-        return {**said, "fault": self.fault} if self.report is None else {**said, **asdict(self.report)}
+        """By names: the file and the status, the fault if there is one, and what the report has if there is one."""
+        said: Dict[str, Any] = {"file": self.file, "status": int(self.status)}
+        if self.fault:
+            said["fault"] = self.fault
+        return {**said, **vars(self.report)} if self.report else said
 
 
 # ---- one file
@@ -88,7 +91,7 @@ def _outcome(content: bytes, with_certificate: bool) -> Tuple[Status, str, Optio
 
 def _chunk(contents: Sequence[bytes], with_certificate: bool) -> bytes:
     head = {"lengths": [len(content) for content in contents], "certificates": with_certificate}
-    return json.dumps(head).encode() + b"\n" + b"".join(contents)
+    return json.dumps(head, allow_nan=False).encode() + b"\n" + b"".join(contents)
 
 
 def report_chunk(chunk: bytes) -> bytes:
@@ -97,9 +100,9 @@ def report_chunk(chunk: bytes) -> bytes:
     head, at, outcomes = json.loads(line), 0, []
     for length in head["lengths"]:
         status, fault, report, certificate = _outcome(text[at:at + length], head["certificates"])
-        outcomes.append([status, fault, report and asdict(report), certificate])
+        outcomes.append([status, fault, report and vars(report), certificate])
         at += length
-    return json.dumps(outcomes).encode()
+    return json.dumps(outcomes, allow_nan=False).encode()
 
 
 def _report_of(said: Dict[str, Any]) -> Report:
@@ -110,12 +113,9 @@ def _report_of(said: Dict[str, Any]) -> Report:
 
 @dataclass(frozen=True)
 class Part:
-    """Some files, of which those that can be read have contents."""
-    files: Sequence[str]
-    contents: Sequence[Optional[bytes]]
-
-    def chunk(self, with_certificate: bool) -> bytes:
-        return _chunk([content for content in self.contents if content is not None], with_certificate)
+    """The files of a chunk, and which of them could be read."""
+    numbers: Sequence[int]
+    are_read: Sequence[bool]
 
 
 def _content_of(path: str) -> Optional[bytes]:
@@ -128,22 +128,22 @@ def _content_of(path: str) -> Optional[bytes]:
         return None
 
 
-def _parts_of(paths: Iterable[str]) -> Iterator[Part]:
-    files: List[str] = []
-    contents: List[Optional[bytes]] = []
-    for path in paths:
-        content = _content_of(path)
-        if files and (len(files) == MOST_FILES or sum(len(it or b"") for it in (*contents, content)) > MOST_BYTES):
-            yield Part(files, contents)
-            files, contents = [], []
-        files.append(path)
-        contents.append(content)
-    if files:
-        yield Part(files, contents)
+def _part_of(numbers: Sequence[int], files: Sequence[str], with_certificate: bool) -> Tuple[Part, bytes]:
+    """The part that files with these numbers are, and its chunk."""
+    contents = [_content_of(files[number]) for number in numbers]
+    chunk = _chunk([content for content in contents if content is not None], with_certificate)
+    return Part(numbers, [content is not None for content in contents]), chunk
 
 
-def _certificates_of(files: Sequence[str], folder: str) -> Dict[str, str]:
-    """Where the certificate of each file is put."""
+def files_of(paths: Iterable[Path]) -> List[str]:
+    """The names of files. Raises BadArgument."""
+    if isinstance(paths, (str, bytes, os.PathLike)):
+        raise BadArgument(f"paths: {shown(paths)} is no sequence of paths")
+    return [os.fspath(path) for path in paths]
+
+
+def certificates_of(files: Sequence[str], folder: str) -> Dict[str, str]:
+    """Where the certificate of each file is put. Raises BadArgument."""
     places: Dict[str, str] = {}
     for file in files:
         place = os.path.join(folder, os.path.splitext(os.path.basename(file))[0] + ".cert")
@@ -162,44 +162,54 @@ def _is_written(place: str, text: str) -> bool:
         return False
 
 
-def _reports_of(part: Part, answer: bytes, places: Dict[str, str]) -> Iterator[FileReport]:
+def _reports_of(part: Part, answer: bytes, files: Sequence[str], places: Dict[str, str]) -> Iterator[FileReport]:
     outcomes = iter(json.loads(answer))
-    for file, content in zip(part.files, part.contents):
-        if content is None:
+    for number, is_read in zip(part.numbers, part.are_read):
+        file = files[number]
+        if not is_read:
             yield FileReport(file, Status.DEVICE, "Device")
             continue
         status, fault, said, certificate = next(outcomes)
-        if said is None:
-            yield FileReport(file, Status(status), fault)
-        elif places and not _is_written(places[file], certificate):
-            yield FileReport(file, Status.DEVICE, "Device")
-        else:
-            yield FileReport(file, Status.DONE, "", _report_of(said))
+        if said and places and not _is_written(places[file], certificate):
+            status, fault = Status.DEVICE, "certificate: Device"
+        yield FileReport(file, Status(status), fault, said and _report_of(said))
 
 
 def report_files(
         paths: Iterable[Path], certificates: Optional[Path] = None, workers: Optional[int] = None,
-        executor: Optional[Executor] = None,
+        executor: Optional[Executor] = None, ordered: bool = True,
 ) -> Iterator[FileReport]:
-    """What ``minorder`` reports of each of many PLA files, in their order, as soon as those before it are done.
+    """What ``minorder`` reports of each of many PLA files, in their order, as soon as a file and those before it are done, or
+    with ``ordered=False`` as soon as a file is done.
 
     A file that is refused has its fault in place of a report, and stops no other. With ``certificates``, a folder, each
-    report's certificate is put there, as NAME.cert of NAME.pla. The work is done by ``workers`` threads, as many as there are
-    processors if that is left out, or by an executor of ``concurrent.futures``, whose workers have this package and the library;
-    this process alone reads and writes files. Raises BadArgument if two files have the same name of a certificate, and
-    OSError if the folder can't be made.
+    certificate is put there before its report is yielded, as NAME.cert of NAME.pla. The work is done by ``workers`` threads, as
+    many as there are processors if that is left out, or by an executor of ``concurrent.futures`` with so many workers, which
+    have this package and the library; this process alone reads and writes files. Raises BadArgument if two files have the same
+    name of a certificate, and OSError if the folder can't be made.
     """
-    files = [os.fspath(path) for path in paths]
-    places: Dict[str, str] = {}
+    files, places = files_of(paths), {}
     if certificates is not None:
-        places = _certificates_of(files, os.fspath(certificates))
+        places = certificates_of(files, os.fspath(certificates))
         os.makedirs(certificates, exist_ok=True)
-    begun: Deque[Part] = deque()
-
-    def chunks() -> Iterator[bytes]:
-        for part in _parts_of(files):
-            begun.append(part)
-            yield part.chunk(certificates is not None)
-
-    for answer in in_order(report_chunk, chunks(), workers, executor):
-        yield from _reports_of(begun.popleft(), answer, places)
+    count, first = workers_of(workers), 0
+    waiting = Waiting(files, count)
+    held: Dict[int, FileReport] = {}
+    with Crew[Part](report_chunk, count, executor) as crew:
+        while True:
+            end = first + MOST_AHEAD * count if ordered else len(files)
+            numbers = waiting.next(end) if crew.has_room() else []
+            if numbers:
+                crew.give(*_part_of(numbers, files, certificates is not None))
+                if not crew.is_any_done():
+                    continue
+            if not crew.has_tasks():
+                return
+            part, answer = crew.take()
+            held.update(zip(part.numbers, _reports_of(part, answer, files, places)))
+            if not ordered:
+                yield from held.values()
+                held.clear()
+            while first in held:
+                yield held.pop(first)
+                first += 1

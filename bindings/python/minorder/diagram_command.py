@@ -17,11 +17,12 @@ import sys
 from typing import NamedTuple, Optional, Sequence
 
 from . import _ends
+from ._arguments import shortened
 from ._calls import diagram
 from ._diagrams import TEXTS, Diagram, suffix_of, write_diagrams
 from ._drawings import dot_of
 from ._orders import fault_of, words_of
-from ._tables import Pla, shortened
+from ._tables import Pla
 from .files import REPORT_LINES, parts_of
 from .levels_command import checked, read
 

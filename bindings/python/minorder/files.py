@@ -3,10 +3,12 @@ import os
 from ctypes import Array, byref, c_uint32, c_uint64
 from typing import Dict, Iterable, Tuple, Union
 
+from ._arguments import MOST, numbered_names
 from ._calls import done
 from ._errors import BadPla
 from ._library import Fault, Name, library
-from ._tables import MOST, Pla, TruthTable, named_x_and_f
+from ._tables import Pla
+from ._truth_tables import TruthTable
 from ._writing import path_of
 
 LIMIT = 16_777_216
@@ -38,7 +40,7 @@ def pla_of(content: bytes) -> Pla:
     if status == NO_PLA:
         raise _refusal(fault)
     done(status)
-    xs, fs = named_x_and_f(inputs.value, outputs.value)
+    xs, fs = numbered_names("x", inputs.value), numbered_names("f", outputs.value)
     return Pla(
         _tables(words, inputs.value, outputs.value), _names(content, input_names, xs), _names(content, output_names, fs))
 

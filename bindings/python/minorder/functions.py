@@ -21,6 +21,7 @@ from typing import Iterable, Iterator, NamedTuple, Optional, Sequence
 from . import _ends, benchmarks
 from ._errors import MinorderError
 from ._processes import each
+from ._progress import progress
 from ._writing import write_all
 
 NAME = "minorder-functions"
@@ -154,7 +155,8 @@ def write_functions(
     # the largest first, so that no process is left alone with them
     optima = benchmarks.optima()
     largest = sorted((it for it in wanted if not state[it]), key=lambda it: (-optima[it].inputs, -optima[it].outputs))
-    made = {f"{name}.pla": content for name, content in zip(largest, each(content_of, largest, jobs))}
+    with progress("files made", len(largest)) as show:
+        made = {f"{name}.pla": content for name, content in zip(largest, each(content_of, largest, jobs, show))}
 
     def contents() -> dict[str, bytes]:
         """All files; the list has what lies there by now."""

@@ -11,10 +11,11 @@ import sys
 from typing import Optional, Sequence
 
 from . import _ends
+from ._arguments import shortened
 from ._calls import levels
 from ._errors import BadPla, NoLibrary
 from ._orders import fault_of, numbered, orders_of
-from ._tables import Pla, shortened
+from ._tables import Pla
 from ._writing import named
 from .files import read_pla
 

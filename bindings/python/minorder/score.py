@@ -2,13 +2,13 @@
 
 RESULTS is a file of CSV, whose first line names the columns, or of JSON, a list or an object a line; - is standard input.
 Its columns are name (a function's, or the field's name for it) and order (top first, inputs by number or by name), or name
-and nodes (a size alone, which is a claim); besides them seconds, and start: file, the order of the file, if it is left out,
-or random, or the number of a random order. The word late in place of an order is a run that didn't end. Several lines of a
-function are several runs, of which the median counts. Orders are counted by the library, without complement edges; nodes
-beside an order are compared with what is counted. The place is by the mean ratio on all functions, where a missing one, or
-one of which half the runs or more are late, counts as the worst that any method of the league or the start has there. Each
-of ten random orders counts once, one without a line as a late run. FAMILY, such as "hidden weighted bit", chooses the
-functions of a family; several may be named.
+and nodes (a size alone, which is marked as claimed); besides them seconds, claimed as --csv writes it, and start: file, the
+order of the file, if it is left out, or random, or the number of a random order. The word late in place of an order is a run
+that didn't end. Several lines of a function are several runs, of which the median counts. Orders are counted by the library,
+without complement edges; nodes beside an order are compared with what is counted. The place is by the mean ratio on all
+functions, where a missing one, or one of which half the runs or more are late, counts as the worst that any method of the
+league or the start has there. Each of ten random orders counts once, one without a line as a late run. FAMILY, such as
+"hidden weighted bit", chooses the functions of a family; several may be named.
 Exit status: 0; 1 if there is no library, 2 if the words are refused, 3 if the results are, 4 if memory is out, 5 if a file
 can't be read or written.
 """
@@ -17,11 +17,12 @@ from __future__ import annotations
 import argparse
 import os
 import sys
+import unicodedata
 from typing import Iterable, Optional, Sequence
 
 from . import _ends, _picture, _score_texts, benchmarks
 from ._counting import counted
-from ._results import BadResults, Run, read_results
+from ._results import BadResults, Run, cut, read_results
 from ._scores import Score, scores_of
 
 NAME = "minorder-score"
@@ -54,6 +55,27 @@ def families_of(words: Iterable[str]) -> list[str]:
     return list(dict.fromkeys(known[word.lower()][0].family for word in words))
 
 
+def name_of(parser: argparse.ArgumentParser, given: Optional[str], path: str) -> str:
+    """The method's name, one line of text; the words are refused if it is none, or that of a method of the league."""
+    stem = "results" if path == "-" else os.path.splitext(os.path.basename(path))[0]
+    name = " ".join((cut(stem) if given is None else given).split())
+    if not name or not name.isprintable():
+        parser.error(f"--name: {cut(name)!r}: a name is a line of printable text")
+    if plain(name) in map(plain, league_names()):
+        parser.error(f"--name: {name} is a method of the league; yours has a name of its own")
+    return name
+
+
+def league_names() -> Iterable[str]:
+    """The names of the methods of the league."""
+    return dict.fromkeys(f"{line.package} {line.method}" for line in benchmarks.league())
+
+
+def plain(name: str) -> str:
+    """A name as it is compared: letters of either case and width are the same."""
+    return unicodedata.normalize("NFKC", name).casefold()
+
+
 def draw(scores: Sequence[Score], path: str) -> None:
     if not _picture.is_there():
         _ends.say(NAME, "no picture: matplotlib isn't here (Debian's python3-matplotlib)")
@@ -79,9 +101,9 @@ def command(parser: argparse.ArgumentParser, given: argparse.Namespace) -> int:
         families = families_of(given.families)
     except benchmarks.UnknownName as error:
         parser.error(str(error))
-    stem = "results" if given.results == "-" else os.path.splitext(os.path.basename(given.results))[0]
+    method = name_of(parser, given.name, given.results)
     runs = counted(runs_of(given.results), given.jobs)
-    scores = scores_of(given.name or stem, runs, families)
+    scores = scores_of(method, runs, families)
     if given.picture:
         draw(scores, given.picture)
     if given.csv:

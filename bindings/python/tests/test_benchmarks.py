@@ -7,12 +7,17 @@ import csv
 import hashlib
 import io
 import os
+import pty
+import signal
+import subprocess
 import sys
 import tempfile
+import time
 import unittest
 
 sys.path.insert(0, os.path.dirname(os.path.dirname(os.path.abspath(__file__))))
 
+from folders import heed  # noqa: E402
 import minorder  # noqa: E402
 from minorder import _writing, benchmarks, functions  # noqa: E402
 
@@ -36,6 +41,25 @@ def content_of(folder, name):
 def names_in(folder):
     """The functions of the folder's list."""
     return [row["name"] for row in csv.DictReader(io.StringIO(content_of(folder, "functions.csv")))]
+
+
+def begun(terminal, *words):
+    """The command as a process of its own, whose standard error is a terminal."""
+    program = [sys.executable, "-m", "minorder.functions", *words]
+    place = os.path.dirname(os.path.dirname(os.path.abspath(__file__)))
+    environment = {**os.environ, "PYTHONPATH": place, "TERM": "xterm"}
+    streams = {"stdout": subprocess.PIPE, "stderr": terminal, "text": True}
+    return subprocess.Popen(program, env=environment, preexec_fn=heed, **streams)
+
+
+def read_from(terminal):
+    """All that a terminal shows until its last writer is gone."""
+    found = b""
+    while True:
+        try:
+            found += os.read(terminal, 1 << 16)
+        except OSError:
+            return found.decode()
 
 
 class Benchmarks(unittest.TestCase):
@@ -99,6 +123,33 @@ class Written(unittest.TestCase):
             self.assertEqual(names_in(folder), ["hwb4", "hwb5"])
             self.assertEqual((content_of(folder, "starts.csv"), content_of(folder, "notes")), ("also mine\n", "x"))
             self.assertEqual(len(os.listdir(folder)), 5)
+
+    def test_a_terminal_shows_how_far_it_is(self):
+        for jobs in ("1", "3"):
+            with tempfile.TemporaryDirectory() as folder:
+                reader, terminal = pty.openpty()
+                with begun(terminal, folder, "codes", "hwb4", "--jobs", jobs) as process:
+                    os.close(terminal)
+                    shown = read_from(reader)
+                    os.close(reader)
+                    self.assertRegex(process.stdout.read(), r"^4 files in .*, listed in functions.csv: [0-9.]+ s\n$")
+                lines = [line for line in shown.split("\r\033[K") if line]
+                self.assertEqual(lines, [f"{done} of 4 files made" for done in range(5)])
+                self.assertTrue(shown.endswith("\r\033[K"))
+
+    def test_an_interrupt_ends_it_and_leaves_nothing(self):
+        with tempfile.TemporaryDirectory() as folder:
+            reader, terminal = pty.openpty()
+            with begun(terminal, f"{folder}/new", "--jobs", "2") as process:
+                os.close(terminal)
+                self.assertIn("0 of 256 files made", os.read(reader, 1 << 16).decode())
+                time.sleep(0.5)
+                process.send_signal(signal.SIGINT)
+                # its own processes end with it, so nobody holds the terminal
+                read_from(reader)
+                os.close(reader)
+                self.assertEqual((process.wait(), process.stdout.read()), (-signal.SIGINT, ""))
+            self.assertEqual(os.listdir(folder), [])
 
     def test_random_starts(self):
         with tempfile.TemporaryDirectory() as folder:

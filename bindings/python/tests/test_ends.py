@@ -144,7 +144,7 @@ _writing.write_all("new/one", Slow)
 
     def test_memory(self):
         def limit():
-            resource.setrlimit(resource.RLIMIT_AS, (30000 << 10, 30000 << 10))
+            resource.setrlimit(resource.RLIMIT_AS, (34000 << 10, 34000 << 10))
 
         probe = [sys.executable, "-c", "import minorder.score, minorder.functions, minorder._batch_command"]
         environment = {**os.environ, "PYTHONPATH": PACKAGE}

@@ -1,8 +1,7 @@
-"""The reader of PLA files and the faults of certificates beside random_tests/plain.py, reports, and values.
+"""The reader of PLA files and the faults of certificates beside random_tests/plain.py, and reports.
 
     python3 -m unittest discover -s bindings/python/tests -p test_files.py
 """
-import array
 import copy
 import os
 import pathlib
@@ -38,10 +37,10 @@ class Pla(unittest.TestCase):
         path = f"{TOP}/examples/mux2.pla"
         tables, inputs, outputs = minorder.read_pla(path)
         self.assertEqual((inputs, outputs), (("a", "b", "s"), ("f",)))
-        self.assertEqual(tables, (0b11001010,))
-        self.assertEqual(tables[0].inputs, 3)
+        self.assertEqual(tables, (minorder.TruthTable(0b11001010, 3),))
+        self.assertEqual(tables[0].names, inputs)
         found = files.pla_of(b".i 2\n.o 2\n-1 1~\n11 01\n")
-        self.assertEqual(found, ((0b1100, 0b1000), ("x0", "x1"), ("f0", "f1")))
+        self.assertEqual((list(map(int, found.tables)), *found[1:]), ([0b1100, 0b1000], ("x0", "x1"), ("f0", "f1")))
 
     def test_what_is_refused(self):
         with tempfile.TemporaryDirectory() as folder:
@@ -66,7 +65,9 @@ class Pla(unittest.TestCase):
         found = minorder.read_pla(f"{TOP}/examples/mux2.pla")
         of_lists = minorder.Pla(*map(list, found))
         self.assertEqual({found, of_lists, pickle.loads(pickle.dumps(found)), copy.copy(found)}, {found})
-        self.assertEqual(repr(of_lists), "Pla(tables=(TruthTable(0xca, inputs=3),), inputs=('a', 'b', 's'), outputs=('f',))")
+        self.assertEqual(repr(of_lists._replace(inputs=["x0", "x1", "x2"])),
+                         "Pla(tables=(TruthTable(0xca, inputs=3),), inputs=('x0', 'x1', 'x2'), outputs=('f',))")
+        self.assertEqual(of_lists._replace(inputs=["c", "d", "t"]).tables[0].names, ("c", "d", "t"))
         for refused, error, text in (
                 (lambda: minorder.Pla(found.tables, ["a", "b"], ["f"]), minorder.BadShape, "inputs: 2 names where there are 3"),
                 (lambda: found._replace(outputs=()), minorder.BadShape, "outputs: 0 names where there are 1"),
@@ -83,7 +84,7 @@ class Pla(unittest.TestCase):
         rows = ["-" * 16 + " " + "0" * 15 + "1", "1" + "-" * 15 + " 1" + "0" * 15, "-" * 15 + "1 1" + "0" * 15]
         tables, inputs, outputs = files.pla_of(("\n".join([".i 16", ".o 16", *rows]) + "\n").encode())
         first = sum(1 << p for p in range(1 << 16) if p & 1 or p >> 15)
-        self.assertEqual(tables, (first, *[0] * 14, (1 << (1 << 16)) - 1))
+        self.assertEqual(list(map(int, tables)), [first, *[0] * 14, (1 << (1 << 16)) - 1])
         self.assertEqual((inputs[-1], outputs[-1]), ("x15", "f15"))
 
     def test_random_files_and_certificates(self):
@@ -100,7 +101,7 @@ class Pla(unittest.TestCase):
                 self.assertEqual(answer(minorder.BadPla, lambda: files.pla_of(content)), fault.text)
                 continue
             found = files.pla_of(content)
-            self.assertEqual((list(found.inputs), list(found.tables)), (wanted.names, wanted.tables))
+            self.assertEqual((list(found.inputs), list(map(int, found.tables))), (wanted.names, wanted.tables))
             if wanted.inputs < 6:
                 text = source.edited(source.made(wanted, plain.Functions(wanted)))
                 said = answer(plain.Fault, lambda: plain.certificate_of(text))
@@ -117,41 +118,6 @@ class Reports(unittest.TestCase):
             found = files.parts_of(text)
             self.assertEqual(list(found.items()), re.findall("^([^:]+): (.+)$", text, re.MULTILINE))
             self.assertEqual(len(found), text.count("\n"))
-
-
-class Values(unittest.TestCase):
-    def test_parity(self):
-        parity = minorder.from_values([0, 1, 1, 0, 1, 0, 0, 1])
-        self.assertEqual((parity, parity.inputs, repr(parity)), (0x96, 3, "TruthTable(0x96, inputs=3)"))
-        bools = [False, True, True, False, True, False, False, True]
-        for values in (bools, tuple(bools), iter(bools), array.array("b", bools), memoryview(bytes(bools)), (it for it in bools)):
-            self.assertEqual(minorder.from_values(values), parity)
-        for again in (copy.deepcopy(parity), pickle.loads(pickle.dumps(parity))):
-            self.assertEqual((again, again.inputs), (0x96, 3))
-
-    def test_tables_keep_their_variables(self):
-        a, b, s = minorder.variables(3)
-        for found, number in ((a & b, 0x88), (a | b, 0xEE), (a ^ b, 0x66), (~a, 0x55), (s & b | ~s & a, 0xCA)):
-            self.assertEqual((found, found.inputs), (number, 3))
-            self.assertIsInstance(found, minorder.TruthTable)
-        self.assertEqual([type(it) for it in (a & 1, 1 | a, a ^ 1)], [int] * 3)
-        self.assertRaises(minorder.BadShape, lambda: a & minorder.variables(2)[0])
-        for inputs in (1, 7, 16):
-            wanted = [sum(1 << p for p in range(1 << inputs) if p >> i & 1) for i in range(inputs)]
-            self.assertEqual(list(minorder.variables(inputs)), wanted)
-        for inputs in (0, 17):
-            self.assertRaises(minorder.BadShape, minorder.variables, inputs)
-
-    def test_what_is_refused(self):
-        for values in ([], [1], [0, 1, 1], [0, 2], [0, "1"], [0.5, 1], [[0, 1], [1, 0]], [0] * (1 << 17)):
-            self.assertRaises(minorder.BadShape, minorder.from_values, values)
-        for values in ("0110", b"\0\1", {0, 1}, {0: 1, 1: 0}, 5, None):
-            with self.assertRaises(minorder.BadArgument) as caught:
-                minorder.from_values(values)
-            self.assertTrue(str(caught.exception).startswith("values: "))
-        for number, inputs in ((16, 2), (-1, 2), (1, 0)):
-            self.assertRaises(minorder.BadShape, minorder.TruthTable, number, inputs)
-        self.assertRaises(minorder.BadArgument, minorder.TruthTable, 1, "2")
 
 
 if __name__ == "__main__":

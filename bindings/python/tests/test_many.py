@@ -13,6 +13,7 @@ import signal
 import subprocess
 import sys
 import tempfile
+import threading
 import time
 import unittest
 
@@ -50,7 +51,8 @@ class Dying(concurrent.futures.Executor):
 
 @contextlib.contextmanager
 def dask():
-    """An executor of Dask's, with two processes on this machine, and a way to kill one; None where Dask isn't there."""
+    """An executor of Dask's, with two processes on this machine, a way to kill one, and its address; None where Dask isn't
+    there."""
     try:
         from distributed import Client, LocalCluster
     except ImportError:
@@ -58,7 +60,9 @@ def dask():
         return
     with LocalCluster(n_workers=2, threads_per_worker=1, host="127.0.0.1", dashboard_address=None, silence_logs=50) as cluster:
         with Client(cluster) as client:
-            yield client.get_executor(), lambda: os.kill(next(iter(client.run(os.getpid).values())), signal.SIGKILL)
+            yield (
+                client.get_executor(), lambda: os.kill(next(iter(client.run(os.getpid).values())), signal.SIGKILL),
+                cluster.scheduler_address)
 
 
 class Functions(unittest.TestCase):
@@ -89,8 +93,9 @@ class Functions(unittest.TestCase):
                 with self.assertRaises(error) as caught:
                     minorder.exact_many([*range(16), wrong, 17], 2)
                 self.assertTrue(str(caught.exception).startswith("tables: function 16: "), caught.exception)
-        for workers, error in ((0, minorder.BadShape), (-1, minorder.BadShape), ("2", minorder.BadArgument)):
-            self.assertRaises(error, minorder.exact_many, [1, 2], 2, workers)
+        for workers in (0, -1, 1025, 10 ** 20):
+            self.assertRaises(minorder.BadShape, minorder.exact_many, [1, 2], 2, workers)
+        self.assertRaises(minorder.BadArgument, minorder.exact_many, [1, 2], 2, "2")
         self.assertRaises(minorder.BadArgument, minorder.exact_many, [1, 2])
 
     def test_executors(self):
@@ -111,7 +116,7 @@ class Functions(unittest.TestCase):
         with dask() as given:
             if given is None:
                 self.skipTest("no Dask here")
-            executor, kill = given
+            executor, kill, _ = given
             killer = concurrent.futures.ThreadPoolExecutor(1)
             killed = killer.submit(lambda: (time.sleep(0.3), kill()))
             self.assertEqual(minorder.exact_many(functions, 10, executor=executor, workers=64), wanted)
@@ -200,6 +205,21 @@ class Files(unittest.TestCase):
         with contextlib.redirect_stdout(io.StringIO()) as written, contextlib.redirect_stderr(io.StringIO()):
             status = _batch_command.main(words)
         return status, written.getvalue()
+
+    def test_the_command_on_a_cluster_of_dask(self):
+        status, wanted = self.command(*self.files)
+        with dask() as given:
+            if given is None:
+                self.skipTest("no Dask here")
+            _, kill, address = given
+            for words in ((), ("--unordered",)):
+                found, written = self.command("--dask", address, *words, *self.files)
+                self.assertEqual((found, sorted(written.splitlines())), (status, sorted(wanted.splitlines())))
+            killer = threading.Timer(0.3, kill)
+            killer.start()
+            self.assertEqual(self.command("--dask", address, *self.files * 20), (status, wanted * 20))
+            killer.join()
+            self.assertEqual(self.command("--dask", "no address", *self.files), (2, ""))
 
     def test_the_command(self):
         inner = f"{self.folder}/inner"

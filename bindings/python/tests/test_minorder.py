@@ -73,7 +73,7 @@ def pla(inputs, tables):
     """The functions as a PLA file: a line for each point where one of them is 1."""
     lines = [f".i {inputs}", f".o {len(tables)}"]
     for point in range(1 << inputs):
-        values = [table >> point & 1 for table in tables]
+        values = [int(table) >> point & 1 for table in tables]
         if any(values):
             lines.append("".join(str(point >> i & 1) for i in range(inputs)) + " " + "".join(map(str, values)))
     return "\n".join([*lines, ".e", ""])
@@ -136,6 +136,30 @@ class WorkedCases(Folder):
         self.assertEqual(minorder.exact(products, 6, halves), ((0, 1, 2, 3, 4, 5), (1, 2, 4, 4, 2, 1), 14))
         self.assertEqual(minorder.exact(products, 6, iter([(0, 3), (0, 3)])).total, 6)
 
+    def test_functions_say_how_many_inputs_they_have(self):
+        for function in (multiplexer, lambda a, b, s, /: b if s else a):
+            self.assertEqual(minorder.exact(function), ((2, 0, 1), (1, 1, 1), 3))
+        for tables in ([multiplexer, 0b11001010], [0b11001010, multiplexer], [lambda *x: x[1] if x[2] else x[0], multiplexer]):
+            self.assertEqual(minorder.exact(tables).total, 3)
+        self.assertEqual(minorder.exact_many([multiplexer, lambda x, y, z: x])[0].total, 3)
+        self.assertEqual(minorder.certify(multiplexer), minorder.certify(0b11001010, 3))
+
+    def test_a_result_is_an_order(self):
+        found = minorder.exact(multiplexer)
+        self.assertEqual(minorder.levels(multiplexer, found), found.levels)
+        self.assertEqual(minorder.sift(multiplexer, found), minorder.sift(multiplexer, [2, 0, 1]))
+        self.assertEqual(minorder.diagram(multiplexer, found), minorder.diagram(multiplexer, [2, 0, 1]))
+
+    def test_names_of_an_order(self):
+        a, b, s = minorder.variables("a b s")
+        mux = minorder.read_pla(f"{TOP}/examples/mux2.pla")
+        for tables in (minorder.ite(s, b, a), multiplexer, [0b11001010, multiplexer], mux):
+            self.assertEqual(minorder.exact(tables, 3).names, ("s", "a", "b"))
+        self.assertEqual(minorder.sift(multiplexer, range(3)).names, ("s", "a", "b"))
+        for tables in (0b11001010, lambda *x: x[1] if x[2] else x[0]):
+            self.assertEqual(minorder.exact(tables, 3).names, ("x2", "x0", "x1"))
+        self.assertEqual(minorder.Result((1, 0), (1, 1), 2).names, ("x1", "x0"))
+
     def test_several_outputs_and_constants(self):
         self.assertEqual(minorder.exact([0b1000, 0b0110], 2), ((0, 1), (2, 2), 4))
         self.assertEqual(minorder.exact([0, 0xF], 2), ((0, 1), (0, 0), 0))
@@ -186,20 +210,35 @@ class Refusals(unittest.TestCase):
         self.refused(minorder.BadShape, "order", minorder.levels, 0, [])
         self.refused(minorder.BadShape, "order", minorder.sift, 0, range(17))
         self.refused(minorder.BadShape, "inputs", minorder.check, 0, "", inputs=17)
+        self.refused(minorder.BadShape, "inputs", minorder.exact, multiplexer, 4)
+        self.refused(minorder.BadShape, "inputs", minorder.exact, minorder.variables(2), 3)
 
     def test_values_are_no_tables(self):
         values = [0, 1, 1, 0, 1, 0, 0, 1]
-        several = (tuple(values), 3), (list(map(bool, values)), 3), ([0, 1, 1, 0], 2), ([0, 1], 1), (values * 4, 5)
+        several = (tuple(values), 3), ([0, 1, 1, 0], 2), ([0, 1], 1), (values * 4, 5)
         for tables, inputs in ((values, 3), *several):
             said = self.refused(minorder.BadShape, "tables", minorder.exact, tables, inputs)
             self.assertIn("from_values", str(said))
-        others = {0, 1}, frozenset([3]), {3: 1}, iter([3]), "1", 1.5, None, ["1"], [[1]]
-        for tables in ([True], [False, True, True], True, *others):
-            said = self.refused(minorder.BadArgument, "tables", minorder.exact, tables, 3)
-            self.assertIn("from_values", str(said))
+        for tables in (list(map(bool, values)), [True], [False, True, True], True, False):
+            for inputs in (3, None):
+                said = self.refused(minorder.BadArgument, "tables", minorder.exact, tables, inputs)
+                self.assertRegex(str(said), r"from_values .* ~\(a \^ b\)")
+        self.assertIn("from_values", str(self.refused(minorder.BadArgument, "inputs", minorder.exact, values)))
+        found = minorder.exact(multiplexer)
+        for tables in ({0, 1}, frozenset([3]), {3: 1}, iter([3]), 1.5, None, ["a & b"], [[1]], [1, 1.5], "", "a & b", found):
+            for inputs in (3, None):
+                self.refused(minorder.BadArgument, "tables", minorder.exact, tables, inputs)
         words = array.array("Q", [1])
         for tables in (words, [words], array.array("i", values), memoryview(bytes(64)).cast("B", (8, 8))):
-            self.refused(minorder.BadShape, "tables", minorder.exact, tables, 6)
+            said = self.refused(minorder.BadShape, "tables", minorder.exact, tables, 6)
+            self.assertIn("from_values(array)", str(said))
+
+    def test_texts_are_no_tables(self):
+        for text, call in (("ca", "from_hexadecimal('ca', first="), ("11001010", "from_values('11001010', first=")):
+            for tables in (text, [text]):
+                said = self.refused(minorder.BadArgument, "tables", minorder.exact, tables, 3)
+                self.assertIn(call, str(said))
+                self.assertLess(len(str(said)), 100)
 
     def test_values_of_functions(self):
         for value in (None, "0", 2, 1.0, [], -1, -2):
@@ -207,14 +246,32 @@ class Refusals(unittest.TestCase):
             self.assertIn(f"gives {value!r} at the point 1", str(said))
             self.assertEqual("`not` or `^ 1`" in str(said), value in (-1, -2))
         self.refused(minorder.BadShape, "tables", minorder.exact, lambda a, b: ~(a & b), 2)
+        x, y = minorder.variables(2)
+        said = self.refused(minorder.BadShape, "tables", minorder.exact, lambda a, b: x & y)
+        self.assertIn("a table is given itself", str(said))
         self.assertEqual(minorder.exact([lambda a, b: a & b ^ 1, lambda a, b: int(a)], 2).total, 3)
 
     def test_tables_of_other_inputs(self):
         table = minorder.from_values([0, 1, 1, 0])
-        self.refused(minorder.BadShape, "tables", minorder.exact, table, 3)
-        self.refused(minorder.BadShape, "tables", minorder.levels, [table], [0, 1, 2])
+        self.refused(minorder.BadShape, "inputs", minorder.exact, table, 3)
+        self.refused(minorder.BadArgument, "inputs", minorder.exact, table, table)
+        for call in (minorder.levels, minorder.sift, minorder.diagram):
+            for order in ([0, 1, 2], [0], minorder.exact(multiplexer)):
+                self.refused(minorder.BadOrder, "order", call, [table], order)
         self.refused(minorder.BadShape, "tables", minorder.exact, [table, minorder.from_values([0, 1])])
         self.refused(minorder.BadArgument, "inputs", minorder.exact, 6)
+
+    def test_functions_that_leave_their_inputs_open(self):
+        for function, named in ((products, "(*x)"), (lambda a, b=False: a, "(a, b=False)"), (lambda a, *, b: a, "(a, *, b)"),
+                                (max, "(..)")):
+            said = self.refused(minorder.BadArgument, "inputs", minorder.exact, function)
+            self.assertIn(named, str(said))
+        self.assertEqual(minorder.exact(lambda a, b=False: a or b, 2).total, 2)
+        self.assertEqual(minorder.exact(lambda a, b=False: a or b, 1).total, 1)
+        for inputs in (3, 16):
+            self.refused(minorder.BadShape, "tables", minorder.exact, lambda a, b=False: a, inputs)
+        self.refused(minorder.BadShape, "tables", minorder.exact, [multiplexer, lambda a, b: a])
+        self.refused(minorder.BadShape, "inputs", minorder.exact, lambda: True)
 
     def test_orders(self):
         for order in ([0, 1, 1], [0, 1, 3], [-1, 0, 1], [0, 1, 256]):
@@ -258,26 +315,6 @@ class Refusals(unittest.TestCase):
 
     def test_a_function_that_fails(self):
         self.assertRaises(ZeroDivisionError, minorder.exact, lambda a: 1 // 0, 1)
-
-    def elsewhere(self, script, **environment):
-        """What another interpreter prints."""
-        words = [sys.executable, "-c", f"import sys; sys.path.insert(0, {os.path.dirname(HERE)!r})\nimport minorder\n" + script]
-        return subprocess.run(words, env={**os.environ, **environment}, stdout=subprocess.PIPE, text=True, check=True).stdout
-
-    def test_other_libraries(self):
-        script = "try:\n    minorder.exact(1, 3)\nexcept minorder.NoLibrary as error:\n    print(error)\n"
-        self.assertIn("MINORDER_LIBRARY", self.elsewhere(script, MINORDER_LIBRARY="/there/is/none.so"))
-        self.assertIn("is no libminorder", self.elsewhere(script, MINORDER_LIBRARY="libc.so.6"))
-
-    def test_memory(self):
-        script = (
-            "import resource, random\n"
-            "tables = [random.getrandbits(1 << 16) for _ in range(16)]\n"
-            "minorder.exact(1, 3)\n"
-            "held = int(open('/proc/self/statm').read().split()[0]) * resource.getpagesize()\n"
-            "resource.setrlimit(resource.RLIMIT_AS, (held + (1 << 20),) * 2)\n"
-            "try:\n    minorder.exact(tables, 16)\nexcept MemoryError as error:\n    print(error)\n")
-        self.assertEqual(self.elsewhere(script), "the library was refused memory\n")
 
 
 class BesideTheProgram(Folder):
@@ -340,12 +377,6 @@ class Threads(unittest.TestCase):
             steps += 1
         thread.join()
         self.assertGreater(steps, 1000)
-
-
-class Package(unittest.TestCase):
-    def test_version(self):
-        with open(f"{TOP}/VERSION") as file:
-            self.assertEqual(file.read().strip(), minorder.__version__)
 
 
 if __name__ == "__main__":

@@ -9,17 +9,14 @@ import json
 import os
 import sys
 import tempfile
-import time
 import unittest
 import unittest.mock
 
 sys.path.insert(0, os.path.dirname(os.path.dirname(os.path.abspath(__file__))))
 
 from minorder import _differences, _picture, benchmarks, levels, score  # noqa: E402
-from minorder._results import BadResults, Run, read_results  # noqa: E402
 
 OPTIMA = benchmarks.optima()
-EXAMPLES = f"{os.path.dirname(os.path.abspath(__file__))}/../../../examples"
 
 
 def scored(text, *words):
@@ -35,78 +32,19 @@ def scored(text, *words):
     return status, out.getvalue(), errors.getvalue()
 
 
+def strict(text):
+    """What a text of JSON has, which is that of the standard."""
+    def refuse(word):
+        raise ValueError(word)
+    return json.loads(text, parse_constant=refuse)
+
+
 def rows_of(method, start):
     """A method's lines of the league as claims, of as many runs as are wanted."""
     many = 1 if start == benchmarks.FILE else 10
     lines = [line for line in benchmarks.league() if (line.package, line.method) == method and line.start == start]
     rows = [f"{line.name},{line.median_nodes or 'late'},{line.seconds or ''},{start}" for line in lines]
     return "\n".join(["name,nodes,seconds,start", *rows * many, ""])
-
-
-class Reading(unittest.TestCase):
-    def test_the_same_results_in_each_form(self):
-        wanted = [Run("mux2", "file", (2, 0, 1), None, 0.5), Run("add4", "7", None, 40, None)]
-        comma = 'name, order, nodes, seconds, start\nmux2,s a b,,0.5\nadr4,,40,,7\n'
-        quoted = '\ufeff\n  \nNAME,ORDER,NODES,SECONDS,START\nmux2,"2,0,1",,0.5,file\n\nadd4,,40,,7\n'
-        lines = '{"name": "mux2", "order": [2, 0, 1], "seconds": 0.5}\n\n{"name": "add4", "nodes": 40, "start": 7}\n'
-        several = json.dumps([json.loads(line) for line in lines.splitlines() if line])
-        others = [comma.replace("\n", "\r"), comma.replace("\n", "\r\n"), comma.replace(",", ";"), comma.replace(",", "\t")]
-        for text in (comma, quoted, lines, several, f"\ufeff\n{lines}", f"\ufeff{several}", *others):
-            self.assertEqual(read_results(text), wanted)
-        self.assertEqual(read_results("name,order\nmux2,late\n"), [Run("mux2", "file", None, None, None)])
-        self.assertEqual(read_results("name,order,nodes\nmux2,2 0 1,9\n"), [Run("mux2", "file", (2, 0, 1), 9, None)])
-
-    def test_names_of_the_examples_are_those_of_the_table(self):
-        for name in ("hwb8", "bcd7seg", "majority7", "mux2", "mux4"):
-            with open(f"{EXAMPLES}/{name}.report") as file:
-                report = dict(line.split(": ", 1) for line in file.read().splitlines())
-            [run] = read_results(f"name,order\n{name},{report['names']}\n")
-            sorted_names = sorted(zip(run.order, report["names"].split()))
-            self.assertEqual([it for _, it in sorted_names], benchmarks.entry(name).inputs)
-        self.assertEqual(benchmarks.entry("hwb8").inputs, [f"x{i}" for i in range(1, 9)])
-
-    def test_refusals_name_the_line_and_what_is_wrong(self):
-        refused = [
-            ("", "it names no columns"), ("hwb8,44\n", "it names no columns"), ("name,nodes\n", "there are no results"),
-            ("name,nodes\nhwb8,43\n", "line 2: hwb8: 43 nodes, and no order has fewer than 44: most likely counted with"),
-            ("name,nodes\nparity8,17\n", "line 2: parity8: 17 nodes, and each order has 15: most likely the constants counted"),
-            ("name,nodes\nhwb8,3\n", "line 2: hwb8: 3 nodes, and no order has fewer than 44: most likely another function"),
-            ("name,nodes\n\nhwx8,44\n", "line 3: no function or family is named hwx8; is it hwb8"),
-            ("name,nodes\nhwb8,4e1\n", "line 2: hwb8: nodes 4e1: no number of nodes"),
-            ("name,nodes\nhwb8," + "9" * 5000 + "\n", "no number of nodes"),
-            ("name,nodes,seconds\nhwb8,44,nan\n", "line 2: hwb8: seconds nan: no number of seconds"),
-            ("name,nodes,start\nhwb8,44,11\n", "line 2: hwb8: start 11: it is file, random"),
-            ("name,order\nmux2,2 0 3\n", "line 2: mux2: 3 is no input: they are 0 to 2, or a b s"),
-            ("name,order\nmux2,2 0 s\n", "line 2: mux2: input 2 stands twice"),
-            ("name,order\nmux2,2 0\n", "line 2: mux2: input 1 is missing"),
-            ("name,order\nmux2,2,0,1\n", "line 2: more cells than columns"), ("name,order\nmux2,\n", "line 2: mux2: neither"),
-            ("name,order,nodes\nmux2,2 0 1,x\n", "line 2: mux2: nodes x: no number of nodes"),
-            ("name,order,nodes\nmux2,late,3\n", "line 2: mux2: both late and 3"),
-            ("name,order,nodes\nmux2,2 0 1,Late\n", "line 2: mux2: both late and 2 0 1"),
-            ("name,nodes,Name\n", "line 1: the column name stands twice"),
-            ("\n\nname,nodes\n\nhwb8,x\n", "line 5: hwb8: nodes x"), ("name;nodes\rhwb8;x\r", "line 2: hwb8: nodes x"),
-            ("name,nodes\n\"a\nb\",4\n", "line 3: no function or family is named 'a\\nb'"),
-            ("[1]", "entry 1: no object"), ("[", "the list: no JSON"), ("{}\n", "line 1: no name"), ("{\n", "line 1: no JSON"),
-            ('[{"name": "mux2", "nodes": true}]', "entry 1: mux2: nodes True"), ("[" * 100_000, "the list: no JSON"),
-        ]
-        for text, message in refused:
-            with self.assertRaises(BadResults) as caught:
-                read_results(text)
-            self.assertIn(message, str(caught.exception))
-        with self.assertRaises(BadResults) as caught:
-            read_results("name,nodes\nhwb8,1\nhwb9,2\nhwb9,61\n")
-        self.assertEqual([fault[:6] for fault in caught.exception.faults], ["line 2", "line 3"])
-
-    def test_large_refusals_end_soon_in_a_few_lines(self):
-        start = time.monotonic()
-        unknown = "".join(f"hwb{n}x,1\n" for n in range(200_000))
-        for text in ("x" * 200_000, f"name,{'y' * 200_000}\n", f"name,order{',z' * 100_000}\n",
-                     f"name,order\nhwb8,{'0 ' * 100_000}\n", f"name,nodes\n{unknown}", f"name,nodes\n{'w' * 100_000},1\n"):
-            with self.assertRaises(BadResults) as caught:
-                read_results(text)
-            self.assertLess(len(str(caught.exception)), 3000)
-        self.assertLess(time.monotonic() - start, 60)
-        self.assertEqual(len(caught.exception.faults), 1)
 
 
 class Scores(unittest.TestCase):
@@ -128,11 +66,12 @@ class Scores(unittest.TestCase):
         status, out, errors = scored("name,nodes\nhwb8,55\nlife,26\nz4ml,33\n", "--name", "my method")
         self.assertEqual((status, errors), (0, ""))
         claimed = f"functions: 3 of {len(OPTIMA)}: 0 by their orders, 3 by sizes that are only claimed; 0 late, 253 missing"
-        for line in ("method: my method", "start: the file's order", claimed, "of what ended: 1.166 on 3 functions",
-                     "place: 26 of 26, by the mean ratio on all 256 functions", "worst ratio: 1.27 (addc3), of what ended",
+        place = "place: 26 of 26, by the mean ratio on all 256 functions, 3 of them by sizes that are only claimed"
+        for line in ("method: my method", "start: the file's order", claimed, place, "of what ended: 1.166 on 3 functions",
+                     "worst ratio: 1.27 (addc3), of what ended",
                      "optimum met: 1 of 256", "runs that met it: 1 of 3, 33 %"):
             self.assertIn(f"{line}\n", out)
-        self.assertRegex(out, r"\n> my method +[0-9.]+ +1\.166 of 3 +1\.27 \(addc3\) +1 of 256 +33 %")
+        self.assertRegex(out, r"\n> my method \(3 claimed\) +[0-9.]+ +1\.166 of 3 +1\.27 \(addc3\) +1 of 256 +33 %")
         self.assertRegex(out, r"\ncostliest functions:\n +addc3 +33 nodes +fewest 26 +1\.269\n +hwb8 +55 nodes")
         self.assertIn(f"missing, {len(OPTIMA) - 3}: hwb4 ", out)
         self.assertRegex(out, r" and [0-9]+ more\n$")
@@ -152,10 +91,33 @@ class Scores(unittest.TestCase):
         self.assertEqual((status, found["functions"], found["ended"], found["missing"]), (0, 3, 2, ["bcd7seg"]))
         self.assertEqual(found["of_other_families"], ["hwb8"])
         self.assertEqual(json.loads(scored("name,nodes\ngray8,15\n", "--json", "Codes")[1])[0]["functions"], 3)
-        self.assertIn("by the mean ratio on all 3 functions of codes\n", scored("name,nodes\ngray8,15\n", "codes")[1])
+        self.assertIn("by the mean ratio on all 3 functions of codes, 1 of them by sizes that are only claimed\n",
+                      scored("name,nodes\ngray8,15\n", "codes")[1])
         status, out, errors = scored("name,nodes\ngray8,15\n", "gray8")
         self.assertEqual((status, out), (2, ""))
         self.assertIn("no family is named gray8", errors)
+
+    def test_claims_are_marked(self):
+        status, out, errors = scored("name,nodes,start\nhwb8,44,file\nlife,late,file\nhwb8,55,3\n", "--json")
+        from_file, from_random = strict(out)
+        self.assertEqual([it["claimed"] for it in (from_file, from_random)], [1, 0])
+        self.assertEqual([it["claimed"] for it in from_file["results"]], [True])
+        self.assertEqual({it["claimed"] for it in from_file["league"]}, {0})
+        rows = list(csv.DictReader(io.StringIO(scored("name,nodes\nhwb8,44\nlife,late\n", "--csv")[1])))
+        self.assertEqual([row["claimed"] for row in rows], ["1", "0"])
+        best = "".join(f"{name},{it.optimum}\n" for name, it in OPTIMA.items())
+        status, out, errors = scored(f"name,nodes\n{best}")
+        said = "place: 1 of 26, by the mean ratio on all 256 functions, 256 of them by sizes that are only claimed"
+        self.assertIn(f"\n{said}\n", out)
+        self.assertRegex(out, r"\n> mine \(256 claimed\) +1\.000 ")
+
+    def test_several_runs_are_named(self):
+        said = "with several runs, 2: life addc3: the lower median of a function's runs counts\n"
+        self.assertIn(said, scored("name,nodes\nhwb8,55\nlife,26\nz4ml,26\nlife,26\naddc3,33\n")[1])
+        tens = "".join(f"{name},44,{start}\n" for name, start in [("hwb8", "random")] * 11 + [("life", "random")] * 10)
+        out = scored(f"name,nodes,start\n{tens}hwb9,70,3\nhwb9,61,3\n", "--json")[1]
+        self.assertEqual(strict(out)[0]["several_runs"], ["hwb8", "hwb9"])
+        self.assertNotIn("several runs", scored("name,nodes,start\nhwb8,55,file\nhwb8,55,1\nhwb8,44,2\n")[1])
 
     def test_nothing_is_left_out_silently(self):
         status, out, errors = scored("name,nodes,start\nhwb8,55,7\nhwb16,1000,random\nhwb13,late,3\n")
@@ -268,12 +230,26 @@ class Commands(unittest.TestCase):
     def test_a_picture_where_matplotlib_is_there(self):
         with tempfile.TemporaryDirectory() as folder:
             path = f"{folder}/it.svg"
-            status, out, errors = scored("name,nodes,start\nhwb8,55,file\nhwb8,44,3\n", "--picture", path)
+            text = "name,nodes,start\nhwb8,55,file\nhwb8,44,3\n"
+            status, out, errors = scored(text, "--picture", path, "--name", r"_$\no$")
             self.assertEqual((status, errors == "", os.path.exists(path)), (0, _picture.is_there(), _picture.is_there()))
             with unittest.mock.patch.object(_picture, "is_there", lambda: False):
-                status, same, errors = scored("name,nodes,start\nhwb8,55,file\nhwb8,44,3\n", "--picture", path)
+                status, same, errors = scored(text, "--picture", path, "--name", r"_$\no$")
             self.assertEqual((status, same), (0, out))
             self.assertEqual(errors, "minorder-score: no picture: matplotlib isn't here (Debian's python3-matplotlib)\n")
+
+    def test_a_name_that_another_method_has_or_that_is_no_line(self):
+        for name in ("CUDD SIFT", " cudd  sift ", "\uff23\uff35\uff24\uff24 SIFT", "minorder sifting"):
+            status, out, errors = scored("name,nodes\nhwb8,44\n", "--name", name)
+            self.assertEqual((status, out), (2, ""))
+            self.assertIn("is a method of the league; yours has a name of its own", errors)
+        for name in ("", " ", "a\x1b[2J", "a\u202eb", "a\0"):
+            status, out, errors = scored("name,nodes\nhwb8,44\n", f"--name={name}")
+            self.assertEqual((status, out), (2, ""))
+            self.assertIn("a name is a line of printable text", errors)
+        status, out, errors = scored("name,nodes\nhwb8,44\n", "--name", "a\nplace: 1 of 26")
+        self.assertTrue(out.startswith("method: a place: 1 of 26\nstart: "), out)
+        self.assertEqual(scored("name,nodes\nhwb8,44\n", "--name", "<b>SIFT</b>")[0], 0)
 
     def test_statuses(self):
         self.assertEqual(scored("name,nodes\nhwb8,43\n")[0], 3)

@@ -1,0 +1,89 @@
+"""What arguments are, and how a refusal shows them."""
+from functools import lru_cache
+from operator import index
+from typing import Iterable, Mapping, Sequence, Tuple
+
+from ._errors import BadArgument, BadOrder, BadShape
+
+# variables, and tables
+MOST = 16
+
+
+def shortened(text: str) -> str:
+    """A text as a message has it."""
+    return text if len(text) <= 60 else text[:57] + "..."
+
+
+def shown(value: object) -> str:
+    """A value as a message has it."""
+    try:
+        return shortened(repr(value))
+    except Exception:  # such as that of a number with too many digits
+        return f"a value of type {type(value).__name__}"
+
+
+def whole(value: object, named: str) -> int:
+    """A whole number that isn't a bool."""
+    if not isinstance(value, bool) and hasattr(value, "__index__"):
+        try:
+            return index(value)
+        except TypeError:
+            pass
+    raise BadArgument(f"{named}: {shown(value)} is no whole number")
+
+
+def items_of(value: object, named: str, said: str) -> Sequence[object]:
+    """The items of an argument whose order counts or not; a text or a mapping has none that are meant."""
+    if isinstance(value, (str, bytes, bytearray, Mapping)) or not isinstance(value, Iterable):
+        raise BadArgument(f"{named}: {shown(value)} is no {said}")
+    return list(value)
+
+
+def in_turn(value: object, named: str, said: str) -> Sequence[object]:
+    """The items of an argument whose order counts."""
+    if isinstance(value, (set, frozenset)):
+        raise BadArgument(f"{named}: {shown(value)} is no {said}: it has no first item")
+    return items_of(value, named, said)
+
+
+def native(it: object) -> object:
+    """What an array or an item of one is without its package."""
+    return it.tolist() if hasattr(it, "tolist") else it
+
+
+def order_of(order: Sequence[int]) -> Tuple[int, ...]:
+    """An order, top first. Raises BadArgument, BadShape, BadOrder."""
+    variables = tuple(whole(variable, "order") for variable in in_turn(order, "order", "sequence of variables"))
+    if not 1 <= len(variables) <= MOST:
+        raise BadShape(f"order: {len(variables)} variables: there are 1 to {MOST}")
+    if sorted(variables) != list(range(len(variables))):
+        raise BadOrder(f"order: {shown(variables)}: an order has each of 0 to {len(variables) - 1} once")
+    return variables
+
+
+def checked_inputs(inputs: object) -> int:
+    """A number of variables that there may be."""
+    number = whole(inputs, "inputs")
+    if not 1 <= number <= MOST:
+        raise BadShape(f"inputs: {shown(number)} variables: there are 1 to {MOST}")
+    return number
+
+
+# ---- names
+
+def names_of(names: object, named: str, count: int) -> Tuple[str, ...]:
+    """So many names. Raises BadArgument, BadShape."""
+    found = []
+    for name in in_turn(names, named, "sequence of names"):
+        if not isinstance(name, str):
+            raise BadArgument(f"{named}: {shown(name)} is no name")
+        found.append(name)
+    if len(found) != count:
+        raise BadShape(f"{named}: {len(found)} names where there are {count}")
+    return tuple(found)
+
+
+@lru_cache(maxsize=None)
+def numbered_names(letter: str, count: int) -> Tuple[str, ...]:
+    """The names of inputs, x0, x1, .., or of outputs, f0, f1, .., that have no others."""
+    return tuple(f"{letter}{i}" for i in range(count))
