@@ -3,8 +3,9 @@
 # install.sh --uninstall [PREFIX]   takes away what it installed
 # What isn't built is built first. Everything is put under $DESTDIR$PREFIX if DESTDIR is set. CC is the C compiler, cc if it isn't set.
 set -euo pipefail
+unset CDPATH
 umask 022
-top=$(cd "$(dirname "${BASH_SOURCE[0]}")" && pwd)
+top=$(cd -- "$(dirname -- "${BASH_SOURCE[0]}")" && pwd)
 . "$top/build/tools.sh"
 instead='a release needs none: unpack it and set the variables of docs/USING.md, "Install"'
 list=share/minorder/files

@@ -2,13 +2,14 @@
 # Builds the native baseline, and CUDD out of the source of Debian's berkeley-abc with its harness, into a folder.
 # usage: bench/peers.sh FOLDER      wants rustc, cc, ar, tar, xz, and for CUDD dpkg-dev and an apt with a deb-src line; without that the baseline alone
 set -eu
+unset CDPATH
 [ $# -eq 1 ] || { sed -n 3p "$0"; exit 2; }
 for tool in rustc cc ar tar xz; do
     command -v $tool > /dev/null || { echo "peers.sh: not found: $tool" >&2; exit 127; }
 done
-here=$(cd "$(dirname "$0")" && pwd)
+here=$(cd -- "$(dirname -- "$0")" && pwd)
 mkdir -p "$1/objects"
-cd "$1"
+cd -- "$1"
 rustc --edition 2021 -O -C target-cpu=native "$here/baseline.rs" -o baseline
 if ! ls berkeley-abc_*.orig.tar.* >/dev/null 2>&1; then
     apt-get source --download-only berkeley-abc >/dev/null 2>&1 || { echo "no source of berkeley-abc: the baseline alone was built" >&2; exit 0; }

@@ -4,10 +4,12 @@ top=${here%/*}
 instead='a release needs none (README.md, "Install")'
 
 # is_built NAME FILE      whether FILE of the crate's out/ was made from the sources as they are: none of the files and folders that were
-# there changed after the stamp (a new, moved or removed file changes its folder). What `find` says of a missing one counts, too.
+# there changed after the stamp (a new, moved or removed file changes its folder), nor FILE after it was compared with its sum. What `find`
+# says of a missing one counts, too.
 is_built() {
     local out=crates/$1/out
-    cd "$top" && [ -r "$out/$2" ] && [ -r "$out/stamp" ] && [ -r "$out/files" ] \
+    CDPATH='' cd -- "$top" && [ -r "$out/$2" ] && [ -r "$out/stamp" ] && [ -r "$out/files" ] \
+        && [ -z "$(find "$out/$2" -cnewer "$out/sources" 2>&1)" ] \
         && [ -z "$(find -files0-from "$out/files" -maxdepth 0 -cnewer "$out/stamp" -print -quit 2>&1)" ]
 }
 

@@ -13,13 +13,14 @@ import os
 import resource
 import signal
 import sys
+import time
 from typing import NoReturn, Sequence
 
 import library
 from builds import build
 from calls import SIGNALS, Interrupt, end_on_signals, go_on, interrupts, kept_alone, lock
 from crates import TOP, all_of, is_static
-from sources import is_up_to_date, made_of, stamped, sums_of, take_as_built
+from sources import is_up_to_date, made_of, stamped, sums_of, take_as_built, take_as_compared
 
 
 def fill_streams() -> None:
@@ -39,7 +40,10 @@ def main(name: str, words: Sequence[str] = ()) -> None:
         try:
             os.makedirs(folder, exist_ok=True)
             with stamped(name):
-                if not is_up_to_date(name):
+                start = time.time_ns()
+                if is_up_to_date(name):
+                    take_as_compared(name, start)
+                else:
                     sums = sums_of(name)
                     build(name, words)
                     take_as_built(name, sums)

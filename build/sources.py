@@ -9,6 +9,9 @@ from typing import Iterator, List, Tuple
 from crates import TOP, all_of, is_static, listed
 from writing import written
 
+# how late the clock of files may be, in nanoseconds
+FILE_CLOCK = 20_000_000
+
 
 def folders_of(crate: str) -> Iterator[Tuple[str, List[str]]]:
     """A crate's folders with the names of their files, but for what is made in it and the edits that must fail."""
@@ -30,10 +33,9 @@ def sum_of(crate: str) -> str:
 
 
 def is_touched(crate: str, since: int) -> bool:
-    """Whether a file of a crate has changed since a time in nanoseconds, also if it was changed back. The clock of files is some
-    milliseconds late."""
+    """Whether a file of a crate has changed since a time in nanoseconds, also if it was changed back."""
     files = (f"{at}/{file}" for at, names in folders_of(crate) for file in names)
-    return any(os.lstat(it).st_ctime_ns > since - 20_000_000 for it in files)
+    return any(os.lstat(it).st_ctime_ns > since - FILE_CLOCK for it in files)
 
 
 def sums_of(name: str) -> bytes:
@@ -85,3 +87,8 @@ def stamped(name: str) -> Iterator[None]:
 def take_as_built(name: str, sums: bytes) -> None:
     with written(f"{made_of(name)[0]}/sources") as it:
         it.write(with_made(name, sums))
+
+
+def take_as_compared(name: str, since: int) -> None:
+    """Notes for program.sh that what was built was compared with its sum after a time in nanoseconds."""
+    os.utime(f"{made_of(name)[0]}/sources", ns=(since - FILE_CLOCK, since - FILE_CLOCK))

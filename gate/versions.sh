@@ -1,7 +1,8 @@
 #!/usr/bin/env bash
 # versions.sh     compares VERSION with each file that names the version
 set -euo pipefail
-cd "$(dirname "${BASH_SOURCE[0]}")/.."
+unset CDPATH
+cd -- "$(dirname -- "${BASH_SOURCE[0]}")/.."
 version=$(< VERSION)
 status=0
 # has FILE LINE: a line that the file has
@@ -12,8 +13,13 @@ has CITATION.cff "version: $version"
 has include/minorder.h "#define MINORDER_VERSION \"$version\""
 has bindings/python/minorder/__init__.py "__version__ = \"$version\""
 has bindings/rust/Cargo.toml "version = \"$version\""
-for line in line:minorder ordercheck_line:ordercheck; do
-    grep -qF "\"${line#*:} $version " "crates/command_line/src/${line%:*}.rt" || { echo "--help of ${line#*:} is not of version $version" >&2; status=1; }
+has coq/main.ml "  | (\"--version\" | \"-V\") :: _ -> print_endline \"ordercheck-coq $version\"; 0"
+has scripts/check.py "        print(\"check.py $version\")"
+for file in line ordercheck_line; do
+    has "crates/command_line/src/$file.rt" "        .version(\"$version\")"
+done
+for program in minorder ordercheck; do
+    has crates/worked_cases/data/command_lines.cases "|$program $version"
 done
 grep -qF "    $((${version%%.*} * 10000 + $(cut -d. -f2 VERSION) * 100 + ${version##*.}))" <(tr -d _ < crates/minorder_c/src/version.rt) ||
     { echo "crates/minorder_c/src/version.rt is not of version $version" >&2; status=1; }

@@ -1,9 +1,10 @@
 #!/usr/bin/env bash
 # check.sh PREFIX     judges the form of the manual pages, and compares what their EXAMPLES show with what the installed programs print
 set -euo pipefail
+unset CDPATH
 [ $# = 1 ] || { echo "usage: man/check.sh PREFIX" >&2; exit 1; }
-prefix=$(cd "$1" && pwd)
-here=$(cd "$(dirname "${BASH_SOURCE[0]}")" && pwd)
+prefix=$(cd -- "$1" && pwd)
+here=$(cd -- "$(dirname -- "${BASH_SOURCE[0]}")" && pwd)
 made=$(mktemp -d)
 trap 'rm -rf "$made"' EXIT
 

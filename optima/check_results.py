@@ -19,9 +19,9 @@ class Results(Opened):
         with tempfile.TemporaryDirectory() as folder:
             with open(f"{folder}/{name}", "w") as file:
                 file.write(text)
+            self.driver.execute_script("unsay()")
             self.one("#file").send_keys(f"{folder}/{name}")
-            self.until(lambda: self.one("#said").text)
-        return self.one("#said").text
+            return self.said()
 
     def test_a_file_stands_as_a_method(self):
         lines = [f"{line.name},{line.counted_nodes or 'late'}" for line in FILE[SIFT].lines]
@@ -29,30 +29,33 @@ class Results(Opened):
         its = FILE[SIFT]
         self.assertIn(f"mean ratio {fixed(its.mean, 3)} on all {len(OPTIMA)} functions", said)
         rows = [[it.text for it in row.find_elements("css selector", "th, td")] for row in self.all("#league-table tbody tr")]
-        rows = {row[0]: row for row in rows}
+        rows = {row[0].split("\n")[0]: row for row in rows}
         self.assertEqual(rows["mine"][1:6], rows["CUDD SIFT"][1:6])
-        self.assertEqual(self.all("#families-table thead th")[3].text, "mine")
+        self.assertEqual(self.all("#families-table thead th")[3].text, "mine (claimed)")
         self.assertEqual(len(self.all("#curves-chart .curve.yours")), 1)
-        self.assertEqual(self.one("#functions-table th[data-key=nodes]").text, "mine")
+        self.assertEqual(self.one("#functions-table th[data-key=nodes]").text, "mine (claimed)")
         starts = "".join(f"hwb8,45,{start}\n" for start in range(1, 10))
         self.give("mine.csv", f'\ufeffname,nodes,start\n"hwb8",50,file\nhwb8,44,\nz4ml,26,file\n{starts}')
-        self.until(lambda: "on 2 functions" in self.one("#said").text)
+        self.assertIn("on 2 functions", self.one("#said").text)
         ended = {"mine": f"{fixed(its.mean_of_ended, 3)} of {len(its.ended)}", "mine 2": "1.000 of 2"}
         self.assertEqual(self.own_rows(3), ended)
         self.assertIn("of what ended 1.023 on 1 function;", self.one("#said").text)
-        self.assertIn("; 1 run late;", self.one("#said").text)
+        self.assertIn("; 1 run late.", self.one("#said").text)
 
     def own_rows(self, column):
         """Of the reader's methods in the league the cells of a column, by the methods' names."""
         rows = "#league-table tbody tr.yours"
-        return dict(zip(self.texts(f"{rows} th"), self.texts(f"{rows} td:nth-child({column})")))
+        return dict(zip(self.texts(f"{rows} th .name"), self.texts(f"{rows} td:nth-child({column})")))
 
     def names_everywhere(self):
-        """The names of the reader's methods: in the league, families, curves, list and choice of a method."""
+        """The names of the reader's methods, whose sizes are claims: in the league, families, curves, list and choice."""
         curves = [it.get_attribute("textContent") for it in self.all(".curve.yours title")]
         listed = [it.get_attribute("value") for it in self.all("#own input")]
         chosen = [it.text for it in self.all("#method option")][len(FILE):]
-        places = [list(self.own_rows(2)), self.texts("#families-table th.yours"), curves, listed, chosen]
+        marked = [self.texts("#families-table th.yours"), curves, chosen]
+        for place in marked:
+            self.assertEqual([name for name in place if not name.endswith(" (claimed)")], [])
+        places = [list(self.own_rows(2)), *([name[:-len(" (claimed)")] for name in place] for place in marked), listed]
         return [sorted(place) for place in places]
 
     def test_methods_are_told_apart_named_and_taken_off(self):
@@ -73,7 +76,7 @@ class Results(Opened):
         self.assertEqual(self.names_everywhere(), [["BuDDy SIFT 2", "one 2"]] * 5)
         self.assertIn("CUDD SIFT 2 is taken off", self.one("#said").text)
         self.open("#hwb8")
-        self.assertEqual(self.texts("#function tr.yours td:nth-child(2)"), ["50", "55"])
+        self.assertEqual(self.texts("#function tr.yours td:nth-child(2)"), ["50 claimed", "55 claimed"])
 
     def test_the_browser_keeps_them(self):
         self.drop_in("one.csv", "hwb8,55\nlife,late\nhwb8,50\n", "two.csv", "name,nodes,start\nhwb8,44,3\nhwb8,44,file\n")
@@ -115,12 +118,61 @@ class Results(Opened):
             self.assertEqual([it.split(":")[0] for it in self.texts("#said")], said)
             self.assertEqual(self.names_everywhere(), [[]] * 5)
 
+    def test_orders_are_counted_here(self):
+        starts = {name: list(benchmarks.random_starts(it.inputs)) for name, it in OPTIMA.items()}
+        wanted = {
+            "best": {(name, "file"): (it.first_optimal_order, it.optimum) for name, it in OPTIMA.items()},
+            "sifted": {(name, "file"): (it.sifted_order, it.sifted_nodes) for name, it in OPTIMA.items()},
+            "same": {(name, "file"): (range(it.inputs), it.file_order_nodes) for name, it in OPTIMA.items()},
+            "random": {(name, number): (order, nodes) for name, it in OPTIMA.items()
+                       for (number, order), nodes in zip(starts[name], it.random_order_nodes)},
+        }
+        for name, its in wanted.items():
+            lines = [f"{of},{' '.join(map(str, order))},{start},{nodes}" for (of, start), (order, nodes) in its.items()]
+            said = self.drop_in(f"{name}.csv", "\n".join(["name,order,start,nodes", *lines]))
+            self.assertTrue(said.startswith(f"{name}, from "), said)
+            self.assertNotIn("another own size", said)
+        self.assertEqual(self.own_rows(4)["best"], "1.00 (hwb4)")
+        self.assertEqual([self.own_rows(column)["sifted"] for column in (2, 5)], [
+            fixed(FILE["minorder", "sifting"].mean, 3), f"{FILE['minorder', 'sifting'].met} of {len(OPTIMA)}"])
+        self.assertEqual((self.all(".claims"), [it for it in self.texts(".yours") if "claimed" in it]), ([], []))
+
+    def test_what_is_said_of_sizes_is_not_believed_beside_an_order(self):
+        orders = "hwb8,0 1 2 3 4 5 7 6,44\nhwb8,x1 x2 x3 x4 x5 x6 x8 x7,43\nlife,late,\n"
+        said = self.drop_in("mine.csv", f"name,order,nodes\n{orders}")
+        self.assertIn("of what ended 1.250 on 1 function;", said)
+        self.assertIn("\nmine, another own size, 2 runs, as hwb8, 44 in place of 55.", said)
+        self.assertIn("\nmine, with several runs, 1: hwb8: the lower median of a function's runs counts.", said)
+        self.assertEqual(self.all(".claims"), [])
+        self.driver.refresh()
+        self.assertEqual((list(self.own_rows(2)), self.all(".claims")), (["mine"], []))
+        believed = "1 size claimed, not counted: the page believes the file; it counts orders, as minorder-score does"
+        said = self.drop_in("claims.csv", "name,nodes,counted\nhwb8,44,1\nlife,late,1\n")
+        self.assertTrue(said.startswith(f"claims ({believed}), from the file's order: place "), said)
+        for _ in range(2):
+            self.assertEqual(self.texts("#league-table tr.yours .claims"), [believed])
+            self.assertTrue(self.texts("#own li")[1].endswith("1 of 256 functions from the file's order, 1 only claimed"))
+            self.driver.refresh()
+
+    def test_a_browser_that_cannot_count(self):
+        self.driver.execute_script("delete window.DecompressionStream")
+        said = "mine.csv is refused:\nthis browser can't count orders, for want of DecompressionStream; minorder-score does"
+        self.assertEqual(self.drop_in("mine.csv", "name,order\nmux2,2 0 1\n"), said)
+
+    def test_names_that_would_mislead(self):
+        names = ["<img src=x onerror=document.title='no'>.csv", "cudd  sift.csv", "\uff23\uff35\uff24\uff24 SIFT.csv",
+                 "a\u202eb\x07c.csv"]
+        self.drop_in(*(part for i, name in enumerate(names) for part in (name, f"hwb8,{50 + i}\n")))
+        wanted = ["<img src=x onerror=document.title='no'>", "cudd sift 2", "\uff23\uff35\uff24\uff24 SIFT 3", "abc"]
+        self.assertEqual(self.names_everywhere(), [sorted(wanted)] * 5)
+        self.assertEqual((self.all("main img"), self.driver.title), ([], "True optima: the fewest BDD nodes of 256 functions"))
+
     def test_files_are_dropped(self):
         said = self.drop_in("dropped.csv", "hwb8,55\nlife,26\n")
-        self.assertIn("dropped, from the file's order: place ", said)
+        self.assertIn("as minorder-score does), from the file's order: place ", said)
         self.assertIn("of what ended 1.118 on 2 functions; 0 late, 254 missing; worst ratio 1.25 (hwb8); optimum met in 1", said)
         said = self.drop_in("one.csv", "hwb8,55\n", "two.csv", "hwx8,55\n", "three.csv", "life,26\n")
-        for text in ("one, from the file's order", "two.csv is refused:\nline 1: no function is named hwx8", "three, from"):
+        for text in ("one (1 size claimed", "two.csv is refused:\nline 1: no function is named hwx8", "three (1 size claimed"):
             self.assertIn(text, said)
 
     def test_what_is_said_stands_at_the_edge_of_the_window(self):
@@ -177,7 +229,8 @@ class Results(Opened):
                 if 0 < len(its.ended) < its.whole:
                     self.assertIn(f"; of what ended {fixed(its.mean_of_ended, 3)} on {len(its.ended)} function", said)
                 if its.ended:
-                    self.assertRegex(said, f"; {score.claimed} (size is|sizes are) only claimed\\.")
+                    claims = rf"{score.claimed} sizes? claimed, not counted: the page believes .*"
+                    self.assertRegex(said, rf"(?m)^{name} \({claims}\), from ")
                 if score.left_out:
                     self.assertIn(f"left out, {len(score.left_out)}: {' '.join(score.left_out)}: ", said)
                 row = _score_texts.league_row(name, its)
@@ -196,15 +249,24 @@ class Results(Opened):
     def test_what_is_refused(self):
         said = self.give("bad.csv", "name,nodes\nhwb8,43\nhwx8,44\nhwb8,\nhwb8,4x\nparity8,17\n")
         for text in ("line 2: hwb8: 43 nodes, and no order has fewer than 44", "line 3: no function is named hwx8",
-                     "line 4: hwb8: nothing is no number", "line 5: hwb8: 4x is no number",
+                     "line 4: hwb8: neither an order nor a number of nodes", "line 5: hwb8: nodes 4x: no number of nodes",
                      "line 6: parity8: 17 nodes, and each order has 15"):
             self.assertIn(text, said)
         for text, why in (
-                ("name,order\nhwb4,0 1 2 3\n", "it has orders"), ("name,size\nhwb4,7\n", "it has no column nodes"),
+                ("name,order\nmux2,2 0 3\n", "line 2: mux2: 3 is no input: they are 0 to 2, or a b s"),
+                ("name,order\nmux2,2 0 b\n", "line 2: mux2: 2 and b: an order has numbers or names, not both"),
+                ("name,order\nmux2,s a a\nmux2,2 0\n", "mux2: input a stands twice\nline 3: mux2: input 1 is missing"),
+                ("name,order\nmux2,+2 0 1\nmux2,02 0 1\n", "mux2: +2 is no input: they are 0 to 2, or a b s\nline 3: mux2: 02"),
+                ("name,order,nodes\nmux2,2 0 1,x\n", "line 2: mux2: nodes x: no number of nodes"),
+                ("name,order,nodes,claimed\nhwb4,0 1 2 3,7,1\nhwb4,,7,0\nhwb4,,7,2\n", "line 2: hwb4: claimed 1, but it has an "
+                 "order, which is counted here\nline 3: hwb4: claimed 0, but a number of nodes without an order is a claim\n"
+                 "line 4: hwb4: claimed 2: it is 0 or 1"),
+                ("name,size\nhwb4,7\n", "it has no column order or nodes"),
                 ("name,nodes,nodes\n", "the column nodes stands twice"), ('\ufeff[{"name": "hwb4"}]', "it is JSON"),
                 ("name,nodes\n\n", "there are no results"), ("", "there are no results"),
                 ("name,nodes\nhwb4,7,8\n", "line 2: more cells than columns"), (",7\n", "line 1: no function is named by an"),
-                ("name,nodes,seconds\nhwb4,7,soon\n", "line 2: hwb4: seconds soon"),
+                *((f"name,nodes,seconds\nhwb4,7,{it}\n", f"line 2: hwb4: seconds {it}: no number of seconds: decimal, from 0 to "
+                   "1000000000") for it in ("soon", "1e308", "NaN", "Infinity", "-0", "-1", "0x1", "1_0", "1000000001")),
                 ("\0\1\x7f", "line 1: no function is named ???"),
                 ("name,nodes,order\nhwb4,late,0 1 2 3\nhwb4,7,late\n", "both late and 0 1 2 3\nline 3: hwb4: both late and 7"),
                 ("x" * 200_000, f"line 1: no function is named {'x' * 40}…"), ("hwx4,7\n" * 200_000, "and 199988 more")):

@@ -52,7 +52,7 @@ def in_chunks(name, room, items, of_item):
                 found[outcome, 0] += 1
                 found[outcome, 1] += weight
             lines = [[*outcome, which, count] for (outcome, which), count in found.items()]
-            write(kept, json.dumps([lines, time.process_time() - start]))
+            write(kept, json.dumps([lines, time.process_time() - start], allow_nan=False))
         with open(kept) as file:
             lines, took = json.load(file)
         for *outcome, which, count in lines:

@@ -100,7 +100,7 @@ def measure(row, programs, minorder):
         found = {"file": runs_from(list(range(n)), list(SEEDS), path, judge, programs.peers)}
         for k, start in random_starts(n):
             found[str(k)] = runs_from(start, [k], path, judge, programs.peers)
-        table.write(kept, json.dumps(found))
+        table.write(kept, json.dumps(found, allow_nan=False))
     with open(kept) as file:
         return json.load(file)
 

@@ -85,8 +85,18 @@ class Opened(unittest.TestCase):
             for (let i = 0; i < arguments.length; i += 2) carried.items.add(new File([arguments[i + 1]], arguments[i]));
             unsay();
             dispatchEvent(new DragEvent("drop", {dataTransfer: carried, bubbles: true, cancelable: true}));""", *names_and_texts)
-        self.until(lambda: self.all("#said"))
-        return self.one("#said").text
+        return self.said()
+
+    def said(self):
+        """What the page says when all is counted."""
+        said = []
+
+        def is_all():
+            said[:] = self.driver.execute_script("return [...document.querySelectorAll('#said')].map(it => it.textContent)")
+            return said != [] and not said[0].startswith("Counting:")
+
+        self.until(is_all)
+        return said[0]
 
     def names(self):
         """The functions in the table, from the top."""

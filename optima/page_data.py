@@ -1,5 +1,7 @@
 """What optima.html shows of the functions and the methods, as one object."""
+import base64
 import re
+import zlib
 
 import league
 import page_diagrams
@@ -33,6 +35,12 @@ def stem_of(row):
     return found[1] if found and row.family != "74 series" else None
 
 
+def packed(tables, inputs):
+    """The truth tables one behind another, compressed: the bit p of each is its value at the point p."""
+    size = max(1, (1 << inputs) // 8)
+    return base64.b64encode(zlib.compress(b"".join(table.to_bytes(size, "little") for table in tables), 9)).decode()
+
+
 def function_of(row):
     entry = benchmarks.entry(row.name)
     tables, inputs = entry.tables(), range(row.inputs)
@@ -41,7 +49,7 @@ def function_of(row):
         "outputs": row.outputs, "fileOrder": row.file_order_nodes, "sifted": row.sifted_nodes, "optimum": row.optimum,
         "order": row.first_optimal_order, "siftedOrder": row.sifted_order, "stem": stem_of(row),
         "levels": [row.level_counts, levels(tables, row.sifted_order), levels(tables, inputs)],
-        "sums": [row.pla_sha256, row.certificate_sha256],
+        "sums": [row.pla_sha256, row.certificate_sha256], "tables": packed(tables, row.inputs),
     }
     if row.optimum <= page_diagrams.MOST:
         found["diagram"] = page_diagrams.diagram_of(entry, row.first_optimal_order)

@@ -14,14 +14,14 @@ from minorder import __version__, benchmarks
 from minorder.benchmarks import fixed
 
 HERE = os.path.dirname(os.path.abspath(__file__))
-SCRIPTS = ("data", "message", "tables", "filters", "keys", "curves", "function", "results", "own_rows", "own", "link")
+SCRIPTS = ("data", "message", "tables", "filters", "keys", "curves", "function", "results", "count", "own_rows", "own", "link")
 SHARED = "/usr/share/javascript"
 LIBRARIES = {
     "libjs-jquery": f"{SHARED}/jquery/jquery.min.js",
     "libjs-jquery-datatables": f"{SHARED}/jquery-datatables/jquery.dataTables.min.js",
     "libjs-d3": f"{SHARED}/d3/d3.min.js",
 }
-MOST_BYTES = 1_500_000
+MOST_BYTES = 2_000_000
 # the columns of the tables, by their names in the page's address
 LEAGUE_COLUMNS = dict(zip(
     ("method", "mean", "ended", "worst", "met", "late", "seconds", "random", "random-worst", "random-met"),
@@ -144,7 +144,7 @@ def licences():
 
 def as_script(data):
     """An object as JSON that a script element may hold, a line for each function and method."""
-    text = json.dumps(data, separators=(",", ":"))
+    text = json.dumps(data, separators=(",", ":"), allow_nan=False)
     return re.sub(r'(\{"(?:name|package)":)', r"\n\1", text).replace("</", "<\\/")
 
 

@@ -94,7 +94,7 @@ def measure(entry, programs, room):
     names = [entry.family, entry.name, " ".join(aliases.of(entry.name)), entry.words]
     values = [*names, *shape, *sizes, *orders, listed, sum_of(pla), sum_of(cert)]
     row = dict(zip(COLUMNS, map(str, values)), seconds=[between - start, used() - between])
-    write(kept, json.dumps(row))
+    write(kept, json.dumps(row, allow_nan=False))
     return row
 
 

@@ -3,8 +3,9 @@
 #                           the Python package
 # MAINTAINER is their maintainer, as `Name <address>`, else the author of the last commit. SOURCE_DATE_EPOCH is their time.
 set -euo pipefail
+unset CDPATH
 umask 022
-top=$(cd "$(dirname "${BASH_SOURCE[0]}")/.." && pwd)
+top=$(cd -- "$(dirname -- "${BASH_SOURCE[0]}")/.." && pwd)
 [ $# = 2 ] || { echo "usage: release/debian.sh TREE FOLDER" >&2; exit 1; }
 . "$top/build/tools.sh"
 need dpkg-deb git gzip objdump
@@ -119,4 +120,4 @@ package python3-minorder all python "exact minimum BDD variable orders, for Pyth
  .
  This is the package that calls the shared library, with the commands
  minorder-batch, minorder-diagram, minorder-functions, minorder-levels and
- minorder-score." "Depends: python3, libminorder1 (>= $version)" "Recommends: python3-tqdm" "Suggests: graphviz"
+ minorder-score." "Depends: python3, libminorder1 (>= $version)" "Suggests: graphviz, python3-distributed"

@@ -1,12 +1,14 @@
 #!/usr/bin/env bash
 # release.sh VERSION     makes out/minorder-VERSION-linux-x86_64.tar.gz, a wheel, out/minorder-VERSION-certificates.tar.xz, Debian packages
-#                        where dpkg-deb is there, out/minorder-VERSION.crate where cargo is there, and out/SHA256SUMS
+#                        where dpkg-deb is there, out/minorder-VERSION.crate where cargo is there, out/minorder-VERSION-coq.tar.gz where
+#                        coqc is there, and out/SHA256SUMS
 # release.sh --without-certificates VERSION     the same but for the certificates
 # The certificates of the table of optima are taken from optima/out where they all lie there, and else made, in two minutes of processor
 # time.
 set -euo pipefail
+unset CDPATH
 umask 022
-top=$(cd "$(dirname "${BASH_SOURCE[0]}")/.." && pwd)
+top=$(cd -- "$(dirname -- "${BASH_SOURCE[0]}")/.." && pwd)
 . "$top/build/tools.sh"
 fail() { echo "release.sh: $*" >&2; exit 1; }
 
@@ -68,11 +70,28 @@ crate() {
         return
     fi
     mkdir "$made/crate"
-    cp -R "$top"/bindings/rust/{Cargo.toml,build.rs,examples,src} "$made/crate"
+    cp -R "$top"/bindings/rust/{Cargo.toml,README.md,build.rs,examples,src} "$made/crate"
     (cd "$made/crate" && MINORDER_LIB_DIR=$made/$name/lib cargo package --offline --target-dir "$made/target" > "$made/log" 2>&1) ||
         fail "the crate can't be packed: $(grep -m 1 '^error' "$made/log")"
     mv "$made/target/package/minorder-$version.crate" "$made"
     files+=("minorder-$version.crate")
+}
+
+# The checker proved in Coq: its sources, and a static program.
+coq() {
+    if ! command -v coqc > /dev/null || ! command -v ocamlfind > /dev/null; then
+        echo "left out: the checker proved in Coq, since coq or ocaml-findlib isn't here"
+        return
+    fi
+    local folder=minorder-$version-coq
+    mkdir "$made/$folder"
+    cp "$top"/coq/{*.v,main.ml,memory.c,Makefile,prove.sh,README.md} "$made/$folder"
+    cp -R "$made/$folder" "$made/built"
+    make -C "$made/built" ordercheck-coq LINK="-ccopt -static" > "$made/log" 2>&1 || fail "the checker proved in Coq can't be built: $(tail -1 "$made/log")"
+    ! command -v strip > /dev/null || strip "$made/built/ordercheck-coq"
+    mv "$made/built/ordercheck-coq" "$made/$folder"
+    tar -C "$made" --sort=name --mtime="@$seconds" --owner=0 --group=0 --numeric-owner -cf - "$folder" | gzip -9n > "$made/$folder.tar.gz"
+    files+=("$folder.tar.gz")
 }
 
 # The certificates of the table of optima: those of an earlier run if all lie in optima/out, else made anew.
@@ -90,6 +109,7 @@ archive
 packages
 wheel
 crate
+coq
 ! "$with_certificates" || certificates
 (cd "$made" && sha256sum "${files[@]}" > SHA256SUMS)
 mkdir -p "$top/out" || fail "$top/out can't be made"

@@ -1,9 +1,10 @@
 #!/usr/bin/env bash
 # try.sh         tries the release that release/release.sh made, from an empty folder: its sums, the programs alone on the path, the
-#                library for C by pkg-config, the shared library from Python, the wheel, the crate, the certificates of the table of
-#                optima; the tree of the Debian packages likewise, and what lintian says of them
+#                library for C by pkg-config, the shared library from Python, the wheel, the crate, the checker proved in Coq, the
+#                certificates of the table of optima; the tree of the Debian packages likewise, and what lintian says of them
 set -euo pipefail
-top=$(cd "$(dirname "${BASH_SOURCE[0]}")/.." && pwd)
+unset CDPATH
+top=$(cd -- "$(dirname -- "${BASH_SOURCE[0]}")/.." && pwd)
 version=$(< "$top/VERSION")
 made=$(mktemp -d)
 trap 'rm -rf "$made"' EXIT
@@ -151,17 +152,23 @@ for file in sys.argv[1:]:
     echo "the wheel in an empty environment: answers, commands and certificates as they are to be"
 }
 
-# The Rust program that USING.md shows, with the packed crate and the archive.
+# The Rust program that USING.md shows, with the packed crate: by cargo with both libraries, and alone with the rpath that README.md shows.
 crate() {
     [ -e "$top/out/minorder-$version.crate" ] || { echo "left out: the crate, which the release hasn't"; return 0; }
     has cargo || return 0
+    local kind answer="3 7 2 6 1 5 0 4: 29 nodes"
     tar -xzf "$top/out/minorder-$version.crate"
     install -d "$made/adder/src"
-    printf '%s\n' '[package]' 'name = "adder"' 'version = "0.1.0"' 'edition = "2021"' '[dependencies]' \
-        "minorder = { path = \"../minorder-$version\", features = [\"static\"] }" > "$made/adder/Cargo.toml"
     sed -n '/^```rust$/,/^```$/{/^```/d;p}' "$tree/share/doc/minorder/docs/USING.md" > "$made/adder/src/main.rs"
-    [ "$(cd "$made/adder" && MINORDER_LIB_DIR=$libraries cargo run --offline --quiet)" = "[3, 7, 2, 6, 1, 5, 0, 4]: 29 nodes" ] ||
-        fail "the Rust example prints something else"
+    on_cargo() { (cd "$made/adder" && env -u LD_LIBRARY_PATH MINORDER_LIB_DIR="$libraries" cargo "$1" --offline --quiet); }
+    for kind in '"static"' ""; do
+        printf '%s\n' '[package]' 'name = "adder"' 'version = "0.1.0"' 'edition = "2021"' '[dependencies]' \
+            "minorder = { path = \"../minorder-$version\", features = [$kind] }" > "$made/adder/Cargo.toml"
+        [ "$(on_cargo run)" = "$answer" ] || fail "the Rust example prints something else"
+    done
+    { echo 'fn main() {'; sed -n '/^```rust,no_run$/,/^```$/{/^```/d;p}' "minorder-$version/README.md"; echo '}'; } > "$made/adder/build.rs"
+    on_cargo build
+    [ "$(env -u LD_LIBRARY_PATH "$made/adder/target/debug/adder")" = "$answer" ] || fail "the Rust example prints something else by its rpath"
     echo "the Rust example with the packed crate: as USING.md says"
 }
 
@@ -172,6 +179,18 @@ try_tree() {
     c_example
     python
     own_method
+}
+
+# The static program judges the examples' certificates as ordercheck does.
+coq() {
+    local folder=minorder-$version-coq file
+    [ -e "$top/out/$folder.tar.gz" ] || { echo "left out: the checker proved in Coq, which the release hasn't"; return; }
+    tar -xzf "$top/out/$folder.tar.gz"
+    for file in "$tree"/share/doc/minorder/examples/*.cert; do
+        [ "$(PATH="" "$made/$folder/ordercheck-coq" "${file%.cert}.pla" "$file")" = "$(run ordercheck "${file%.cert}.pla" "$file")" ] ||
+            fail "$file: ordercheck-coq has another verdict"
+    done
+    echo "the checker proved in Coq: as ordercheck on the examples"
 }
 
 # Each certificate has the sum that the table says, and is judged with its file.
@@ -207,6 +226,7 @@ cat "$tree/share/doc/minorder/PROVED_WITH"
 try_tree "$tree" lib share/minorder/python
 wheel
 crate
+coq
 certificates
 packages=("$top"/out/{minorder,libminorder1,libminorder-dev}_"$version"_amd64.deb "$top/out/python3-minorder_${version}_all.deb")
 if [ -e "${packages[0]}" ] && has dpkg-deb; then

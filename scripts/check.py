@@ -399,6 +399,9 @@ def main(words):
     if words in (["--help"], ["-h"]):
         print(__doc__)
         return 0
+    if words[:1] in (["--version"], ["-V"]):
+        print("check.py 1.0.0")
+        return 0
     if len(words) != 2 or any(word.startswith("-") and word != "-" for word in words):
         print("usage: check.py FILE CERT", file=sys.stderr)
         return 2

@@ -1,8 +1,9 @@
 #!/usr/bin/env bash
 # try_drawings.sh PREFIX     lets the minorder-diagram of an installation draw all examples under the orders of minorder's reports
 set -euo pipefail
+unset CDPATH
 [ $# = 1 ] || { echo "usage: scripts/try_drawings.sh PREFIX" >&2; exit 1; }
-here=$(cd "$(dirname "${BASH_SOURCE[0]}")" && pwd)
+here=$(cd -- "$(dirname -- "${BASH_SOURCE[0]}")" && pwd)
 prefix=$1
 made=$(mktemp -d)
 trap 'rm -rf "$made"' EXIT

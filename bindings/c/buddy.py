@@ -41,7 +41,7 @@ def compare(program, path, saved):
     count, *tables = subprocess.run(words, stdout=subprocess.PIPE, text=True, check=True).stdout.split()
     if int(count) != found.total:
         sys.exit(f"buddy.py: {path}: BuDDy counts {count} nodes, and the fewest are {found.total}")
-    if [int.from_bytes(bytes.fromhex(table), "little") for table in tables] != list(file.tables):
+    if [int.from_bytes(bytes.fromhex(table), "little") for table in tables] != list(map(int, file.tables)):
         sys.exit(f"buddy.py: {path}: BuDDy has other functions")
 
 

@@ -229,6 +229,92 @@ static void diagrams(void) {
     EXPECT(count == 77 && roots[0] == 66 && nodes[0].variable == 1);
 }
 
+/* the optimum with its diagram: what the two calls write, and only what there is room for */
+static void exact_diagrams(void) {
+    for (uint32_t inputs = 1; inputs <= 8; inputs++)
+        for (uint32_t outputs = 1; outputs <= 16; outputs += 5) {
+            uint64_t tables[16 * 4], seed = 17 * inputs + outputs;
+            size_t words = outputs * minorder_words(inputs), count = 0;
+            static minorder_node nodes[2048], wanted[2048];
+            uint32_t levels[8], counts[8], roots[16], wanted_roots[16], total = 0, size = 0;
+            uint8_t order[8], best[8];
+            for (size_t i = 0; i < words; i++) {
+                seed = seed * 6364136223846793005u + 1442695040888963407u;
+                tables[i] = seed & seed >> 29;
+            }
+            memset(nodes, 66, sizeof nodes);
+            memset(roots, 66, sizeof roots);
+            EXPECT(minorder_exact(tables, words, inputs, outputs, best, counts, &size) == MINORDER_DONE);
+            EXPECT(minorder_diagram(tables, words, inputs, outputs, best, wanted, 2048, wanted_roots, &count) == MINORDER_DONE && count == size);
+            if (size != 0) {
+                EXPECT(minorder_exact_diagram(tables, words, inputs, outputs, order, levels, NULL, 0, roots, &total) == MINORDER_SHORT_TEXT);
+                EXPECT(total == size && memcmp(order, best, inputs) == 0 && memcmp(levels, counts, inputs * sizeof *levels) == 0);
+                EXPECT(minorder_exact_diagram(tables, words, inputs, outputs, order, levels, nodes, size - 1, roots, &total) == MINORDER_SHORT_TEXT);
+            }
+            EXPECT(nodes[0].low == 0x42424242 && roots[0] == 0x42424242);
+            memset(order, 66, sizeof order);
+            memset(levels, 66, sizeof levels);
+            EXPECT(minorder_exact_diagram(tables, words, inputs, outputs, order, levels, nodes, size, roots, &total) == MINORDER_DONE);
+            EXPECT(total == size && memcmp(order, best, inputs) == 0 && memcmp(levels, counts, inputs * sizeof *levels) == 0);
+            EXPECT(memcmp(nodes, wanted, size * sizeof *nodes) == 0 && nodes[size].low == 0x42424242);
+            EXPECT(memcmp(roots, wanted_roots, outputs * sizeof *roots) == 0);
+            size_t no_words = words - 1;
+            order[0] = 77;
+            EXPECT(minorder_exact_diagram(tables, no_words, inputs, outputs, order, levels, nodes, 2048, roots, &total) == MINORDER_BAD_SHAPE);
+            EXPECT(minorder_exact_diagram(tables, words, inputs, 17, order, levels, nodes, 2048, roots, &total) == MINORDER_BAD_SHAPE);
+            EXPECT(minorder_exact_diagram(tables, words, 17, outputs, order, levels, nodes, 2048, roots, &total) == MINORDER_BAD_SHAPE);
+            EXPECT(minorder_exact_diagram_with_lengths(tables, words, inputs, outputs, order, inputs, levels, inputs + 1, nodes, 2048, roots, outputs, &total) == MINORDER_BAD_SHAPE);
+            EXPECT(order[0] == 77 && total == size);
+        }
+
+    /* x0 x3 + x1 x4 + x2 x5 and its complement, from Bryant 1986: a chain of six nodes, one root the other with the terminals exchanged */
+    uint64_t tables[2] = {0, 0};
+    for (unsigned p = 0; p < 64; p++)
+        tables[(p & p >> 3 & 7) == 0] |= (uint64_t)1 << p;
+    minorder_node nodes[12];
+    uint32_t levels[6], roots[2], total = 0;
+    uint8_t order[6];
+    EXPECT(minorder_exact_diagram(tables, 2, 6, 2, order, levels, nodes, 12, roots, &total) == MINORDER_DONE && total == 12);
+    EXPECT(memcmp(order, (uint8_t[]){0, 3, 1, 4, 2, 5}, 6) == 0 && sum(levels, 6) == 12);
+    EXPECT(nodes[0].variable == 5 && nodes[1].variable == 5 && nodes[0].low + nodes[0].high == 1 && nodes[1].low == nodes[0].high);
+    EXPECT(value_at(nodes, roots[0], 9) == 1 && value_at(nodes, roots[1], 9) == 0 && value_at(nodes, roots[0], 10) == 0);
+}
+
+/* many problems by one call: the answers are those of a call for each, one behind the other */
+static void many_diagrams(void) {
+    enum { COUNT = 30, OUTPUTS = 2 };
+    static minorder_node nodes[COUNT * 256], own[256];
+    for (uint32_t inputs = 1; inputs <= 7; inputs++) {
+        uint64_t tables[COUNT * OUTPUTS * 2], seed = inputs + 5;
+        uint8_t orders[COUNT * 7], order[7];
+        uint32_t levels[COUNT * 7], totals[COUNT], counts[7], roots[COUNT * OUTPUTS], own_roots[OUTPUTS], total;
+        size_t each = OUTPUTS * minorder_words(inputs), words = COUNT * each, needed = 0, at = 0;
+        for (size_t i = 0; i < words; i++) {
+            seed = seed * 6364136223846793005u + 1442695040888963407u;
+            tables[i] = seed & seed >> 29;
+        }
+        memset(nodes, 66, sizeof nodes);
+        roots[0] = 77;
+        EXPECT(minorder_exact_diagram_many(tables, words, inputs, OUTPUTS, COUNT, orders, levels, NULL, 0, roots, totals) == MINORDER_SHORT_TEXT);
+        for (size_t i = 0; i < COUNT; i++)
+            needed += totals[i];
+        EXPECT(minorder_exact_diagram_many(tables, words, inputs, OUTPUTS, COUNT, orders, levels, nodes, needed - 1, roots, totals) == MINORDER_SHORT_TEXT);
+        EXPECT(nodes[0].low == 0x42424242 && roots[0] == 77);
+        EXPECT(minorder_exact_diagram_many(tables, words, inputs, OUTPUTS, COUNT, orders, levels, nodes, needed, roots, totals) == MINORDER_DONE);
+        for (size_t i = 0; i < COUNT; at += totals[i++]) {
+            EXPECT(minorder_exact_diagram(tables + i * each, each, inputs, OUTPUTS, order, counts, own, 256, own_roots, &total) == MINORDER_DONE);
+            EXPECT(total == totals[i] && memcmp(order, orders + i * inputs, inputs) == 0 && memcmp(counts, levels + i * inputs, inputs * sizeof *counts) == 0);
+            EXPECT(memcmp(own, nodes + at, total * sizeof *own) == 0 && memcmp(own_roots, roots + i * OUTPUTS, sizeof own_roots) == 0);
+        }
+        EXPECT(at == needed && nodes[needed].low == 0x42424242);
+        totals[0] = 77;
+        EXPECT(minorder_exact_diagram_many(tables, words - 1, inputs, OUTPUTS, COUNT, orders, levels, nodes, needed, roots, totals) == MINORDER_BAD_SHAPE);
+        EXPECT(minorder_exact_diagram_many_with_lengths(tables, words, inputs, OUTPUTS, totals, COUNT, orders, COUNT * inputs, levels, COUNT * inputs,
+                                                        nodes, needed, roots, COUNT) == MINORDER_BAD_SHAPE);
+        EXPECT(totals[0] == 77 && minorder_exact_diagram_many(NULL, 0, inputs, OUTPUTS, 0, NULL, NULL, NULL, 0, NULL, NULL) == MINORDER_DONE);
+    }
+}
+
 static const char good[] = "bddorder-certificate 1\ninputs 1\noutputs 1\norder 0\nlevels 1\ntotal 1\ncells 1\n0000 0\nend\n";
 
 static uint32_t checked(const char *text, minorder_verdict *verdict) {
@@ -391,6 +477,85 @@ static void no_pairs(void) {
     EXPECT(total == fewest && memcmp(order, plain, sizeof order) == 0 && memcmp(levels, plain_levels, sizeof levels) == 0);
 }
 
+/* ---- all orders, against a walk over each of them */
+
+struct walk {
+    const uint64_t *tables;
+    const uint32_t *widths;
+    const minorder_pair *pair;
+    uint32_t inputs;
+    size_t words;
+    uint8_t order[5];
+    minorder_figures found;
+};
+
+static void take_order(struct walk *walk) {
+    uint32_t levels[5], size = 0, mask = 0, below = 0;
+    EXPECT(minorder_levels(walk->tables, walk->words, walk->inputs, 2, walk->order, levels) == MINORDER_DONE);
+    for (uint32_t i = walk->inputs; i-- > 0;) {
+        size += levels[i];
+        mask |= 1u << walk->order[i];
+        below += walk->widths[mask * walk->inputs + walk->order[i]];
+    }
+    EXPECT(size == below);
+    if (walk->pair != NULL && place_in(walk->order, walk->pair->above) > place_in(walk->order, walk->pair->below))
+        return;
+    minorder_figures *found = &walk->found;
+    if (found->orders++ == 0 || size < found->fewest_nodes)
+        found->fewest_nodes = size, found->optimal_orders = 0;
+    if (found->orders == 1 || size > found->most_nodes)
+        found->most_nodes = size, found->worst_orders = 0;
+    found->optimal_orders += size == found->fewest_nodes;
+    found->worst_orders += size == found->most_nodes;
+    found->total_nodes += size;
+}
+
+static void take_orders(struct walk *walk, uint32_t chosen, uint32_t mask) {
+    if (chosen == walk->inputs)
+        take_order(walk);
+    for (uint32_t x = 0; chosen < walk->inputs && x < walk->inputs; x++)
+        if ((mask >> x & 1) == 0) {
+            walk->order[chosen] = (uint8_t)x;
+            take_orders(walk, chosen + 1, mask | 1u << x);
+        }
+}
+
+static void all_orders(void) {
+    uint64_t seed = 11;
+    const minorder_pair last_above = {1, 0}, itself = {0, 0};
+    for (uint32_t inputs = 1; inputs <= 5; inputs++)
+        for (int round = 0; round < 24; round++) {
+            uint64_t tables[2];
+            uint32_t widths[160];
+            size_t count = inputs > 1 && round % 2 == 1 ? 1 : 0;
+            for (int i = 0; i < 2; i++) {
+                seed = seed * 6364136223846793005u + 1442695040888963407u;
+                tables[i] = round < 2 ? 0 : round < 16 ? seed & seed >> 29 : seed >> 11 & 0x8080808080808080u;
+            }
+            EXPECT(minorder_widths(tables, 2, inputs, 2, widths) == MINORDER_DONE);
+            for (uint32_t place = 0; place < inputs << inputs; place++)
+                EXPECT(place / inputs >> place % inputs & 1 || widths[place] == 0);
+            struct walk walk = {tables, widths, count == 1 ? &last_above : NULL, inputs, 2, {0}, {0, 0, 0, 0, 0, 0}};
+            take_orders(&walk, 0, 0);
+            minorder_figures figures;
+            EXPECT(minorder_orders(tables, 2, inputs, 2, count == 1 ? &last_above : NULL, count, &figures) == MINORDER_DONE);
+            EXPECT(figures.orders == walk.found.orders && figures.total_nodes == walk.found.total_nodes);
+            EXPECT(figures.fewest_nodes == walk.found.fewest_nodes && figures.optimal_orders == walk.found.optimal_orders);
+            EXPECT(figures.most_nodes == walk.found.most_nodes && figures.worst_orders == walk.found.worst_orders);
+        }
+    uint64_t none[1024] = {0};
+    minorder_figures figures;
+    EXPECT(minorder_orders(none, 1024, 16, 1, NULL, 0, &figures) == MINORDER_DONE);
+    EXPECT(figures.orders == 20922789888000u && figures.optimal_orders == figures.orders && figures.worst_orders == figures.orders);
+    EXPECT(figures.fewest_nodes == 0 && figures.most_nodes == 0 && figures.total_nodes == 0);
+    uint32_t widths[2] = {7, 7};
+    figures.orders = 77;
+    EXPECT(minorder_orders(none, 2, 6, 1, NULL, 0, &figures) == MINORDER_BAD_SHAPE && minorder_orders(none, 1, 17, 1, NULL, 0, &figures) == MINORDER_BAD_SHAPE);
+    EXPECT(minorder_orders(none, 1, 6, 1, &itself, 1, &figures) == MINORDER_BAD_PAIRS && figures.orders == 77);
+    EXPECT(minorder_widths(none, 1, 17, 1, widths) == MINORDER_BAD_SHAPE && minorder_widths(none, 0, 1, 1, widths) == MINORDER_BAD_SHAPE);
+    EXPECT(minorder_widths_with_lengths(none, 1, 1, 1, widths, 1) == MINORDER_BAD_SHAPE && widths[0] == 7 && widths[1] == 7);
+}
+
 /* ---- bad arguments, which write nothing */
 
 static void bad_arguments(void) {
@@ -452,9 +617,35 @@ static uint32_t diagram_call(void) {
     EXPECT((status == MINORDER_DONE) == (roots[0] != 0));
     return status;
 }
+static uint32_t exact_diagram_call(void) {
+    minorder_node nodes[32];
+    uint32_t roots[3] = {0};
+    uint32_t status = minorder_exact_diagram(refused_tables, 3, 4, 3, answered_order, answered_levels, nodes, 32, roots, &answered_total);
+    EXPECT((status == MINORDER_DONE) == (roots[0] != 0));
+    return status;
+}
 static uint32_t sift_call(void) { return minorder_sift_with_lengths(refused_tables, 3, 4, 3, answered_order, 4, answered_levels, 4, &answered_total); }
+static uint32_t orders_call(void) {
+    minorder_figures figures = {0, 0, 0, 0, 0, 0};
+    uint32_t status = minorder_orders(refused_tables, 3, 4, 3, NULL, 0, &figures);
+    EXPECT((status == MINORDER_DONE) == (figures.orders == 24));
+    return status;
+}
+static uint32_t widths_call(void) {
+    uint32_t widths[64] = {0};
+    uint32_t status = minorder_widths(refused_tables, 3, 4, 3, widths);
+    EXPECT((status == MINORDER_DONE) == (widths[4] != 0));
+    return status;
+}
 static uint32_t check_call(void) { return checked(good, &answered_verdict); }
 static uint32_t many_call(void) { return minorder_exact_many(refused_tables, 3, 4, 1, 3, many_orders, many_levels, many_totals); }
+static uint32_t many_diagrams_call(void) {
+    minorder_node nodes[32];
+    uint32_t roots[3] = {0};
+    uint32_t status = minorder_exact_diagram_many(refused_tables, 3, 4, 1, 3, many_orders, many_levels, nodes, 32, roots, many_totals);
+    EXPECT((status == MINORDER_DONE) == (roots[0] != 0));
+    return status;
+}
 static uint32_t check_total_call(void) {
     uint64_t itself = 2;
     minorder_pair pair;
@@ -486,8 +677,10 @@ static void clear_answers(void) {
     memset(many_totals, 0, sizeof many_totals);
 }
 
-static void refuse_each(const char *name, uint32_t (*call)(void)) {
+/* `spare` allocations can be done without */
+static void refuse_each(const char *name, uint32_t (*call)(void), int spare) {
     static const uint32_t none[4];
+    int done = 0;
     for (long allocation = 0;; allocation++) {
         clear_answers();
         long before = live_blocks;
@@ -497,11 +690,12 @@ static void refuse_each(const char *name, uint32_t (*call)(void)) {
         until_refused = -1;
         EXPECT(live_blocks == before);
         if (!reached) {
-            EXPECT(status == MINORDER_DONE);
+            EXPECT(status == MINORDER_DONE && done == spare);
             printf("%s: each of %ld allocations refused in turn\n", name, allocation);
             return;
         }
-        EXPECT(status == MINORDER_OUT_OF_MEMORY);
+        done += status == MINORDER_DONE;
+        EXPECT(status == MINORDER_OUT_OF_MEMORY || status == MINORDER_DONE);
         EXPECT(memcmp(answered_order, given_order, sizeof given_order) == 0 && memcmp(answered_levels, none, sizeof none) == 0);
         EXPECT(answered_total == 0 && answered_verdict.reason == 99);
         for (int i = 0; i < 12; i++)
@@ -513,16 +707,20 @@ static void refusals(void) {
     adder(refused_tables, 2);
     for (int i = 0; i < 4; i++)
         given_order[i] = (uint8_t)i;
-    refuse_each("minorder_exact", exact_call);
-    refuse_each("minorder_exact_above", above_call);
-    refuse_each("minorder_levels", levels_call);
-    refuse_each("minorder_diagram", diagram_call);
-    refuse_each("minorder_sift", sift_call);
-    refuse_each("minorder_check", check_call);
-    refuse_each("minorder_certify", certify_call);
-    refuse_each("minorder_exact_many", many_call);
-    refuse_each("minorder_check_total", check_total_call);
-    refuse_each("minorder_read_pla", read_call);
+    refuse_each("minorder_exact", exact_call, 0);
+    refuse_each("minorder_exact_above", above_call, 0);
+    refuse_each("minorder_levels", levels_call, 0);
+    refuse_each("minorder_diagram", diagram_call, 0);
+    refuse_each("minorder_exact_diagram", exact_diagram_call, 0);
+    refuse_each("minorder_sift", sift_call, 0);
+    refuse_each("minorder_orders", orders_call, 1);
+    refuse_each("minorder_widths", widths_call, 1);
+    refuse_each("minorder_check", check_call, 0);
+    refuse_each("minorder_certify", certify_call, 0);
+    refuse_each("minorder_exact_many", many_call, 0);
+    refuse_each("minorder_exact_diagram_many", many_diagrams_call, 0);
+    refuse_each("minorder_check_total", check_total_call, 0);
+    refuse_each("minorder_read_pla", read_call, 0);
 }
 
 /* ---- several threads, each with its own data */
@@ -594,11 +792,14 @@ int main(int count, char **words) {
     worked_cases();
     many_problems();
     diagrams();
+    exact_diagrams();
+    many_diagrams();
     certificates();
     written_certificates();
     pla_files();
     versions();
     no_pairs();
+    all_orders();
     bad_arguments();
     refusals();
     threads();

@@ -3,7 +3,8 @@
 # orders with the program's reports on COUNT random functions (200 if left out).
 # usage: bindings/c/test.sh [COUNT]
 set -euo pipefail
-here=$(cd "$(dirname "${BASH_SOURCE[0]}")" && pwd)
+unset CDPATH
+here=$(cd -- "$(dirname -- "${BASH_SOURCE[0]}")" && pwd)
 top=$here/../..
 . "$top/build/tools.sh"
 read -ra compiler <<< "${CC:-clang}"
@@ -16,6 +17,10 @@ for name in $(sed -n 's/^MINORDER_INLINE .*\(minorder_[a-z_]*\)(.*/\1/p' "$top/i
     { nm -g --defined-only "$top/lib/libminorder.a" && nm -D --defined-only "$top/lib/libminorder.so.1"; } |
         awk -v name="$name" '$3 == name { found++ } END { exit found != 2 }' || { echo "bindings/c/test.sh: $name isn't in both libraries" >&2; exit 1; }
 done
+# a caller in C++ gets no warning of the header
+read -ra cxx <<< "${CXX:-clang++}"
+need "${cxx[0]}"
+"${cxx[@]}" -std=c++11 -Wall -Wextra -Wold-style-cast -Wno-unused-function -Werror -fsyntax-only -x c++ "$top/include/minorder.h"
 made=$(mktemp -d)
 trap 'rm -rf "$made"' EXIT
 flags=(-std=c11 -D_GNU_SOURCE -O2 -Wall -Wextra -Wno-unused-function -I "$top/include" -Wl,--wrap=malloc,--wrap=realloc,--wrap=free)

@@ -1,5 +1,5 @@
-/* The times of minorder_exact, minorder_levels and minorder_sift for OUTPUTS random functions (one if left out) of INPUTS
-   variables, and how many calls of the first one a second takes.
+/* The times of minorder_exact, minorder_exact_diagram, minorder_diagram, minorder_levels and minorder_sift for OUTPUTS random
+   functions (one if left out) of INPUTS variables, and how many calls of the first one a second takes.
    usage: times INPUTS [OUTPUTS] */
 #include <stdio.h>
 #include <stdlib.h>
@@ -44,11 +44,18 @@ int main(int count, char **arguments) {
         table[i] = seed ^ seed >> 29;
     }
     uint8_t order[16];
-    double exact, counted, sifting;
+    uint32_t roots[16];
+    double exact, both, drawn, counted, sifting;
     TIME(exact, minorder_exact(table, words, inputs, outputs, order, levels, &best));
+    minorder_node *nodes = malloc((best + 1) * sizeof *nodes);
+    size_t found;
+    TIME(both, minorder_exact_diagram(table, words, inputs, outputs, order, levels, nodes, best, roots, &best));
+    TIME(drawn, minorder_diagram(table, words, inputs, outputs, order, nodes, best, roots, &found));
     TIME(counted, minorder_levels(table, words, inputs, outputs, order, levels));
     TIME(sifting, (file_order(order, inputs), minorder_sift(table, words, inputs, outputs, order, levels, &sifted)));
-    printf("| %u | %u | %.4g | %.0f | %.2g | %.4g | %u | %u |\n", inputs, outputs, exact, 1e3 / exact, counted, sifting, best, sifted);
+    printf("| %u | %u | %.4g | %.0f | %.4g | %.2g | %.2g | %.4g | %u | %u |\n", inputs, outputs, exact, 1e3 / exact, both, drawn, counted,
+           sifting, best, sifted);
+    free(nodes);
     free(table);
     return 0;
 }

@@ -40,6 +40,35 @@ class Sources(StandIn):
                 made.touch()
                 self.assertEqual(self.build(), "")
 
+    def test_a_program_put_there_by_hand(self):
+        self.build()
+        made, kept = self.top / "crates/minorder/out/minorder", self.room / "kept"
+        shutil.copy2(made, kept)
+        by_hand = {"written over": lambda: made.write_text("#!/bin/sh\necho by hand\n"),
+                   "put in its place": lambda: shutil.copy2(self.room / "other", made)}
+        (self.room / "other").write_text("#!/bin/sh\necho by hand\n")
+        shutil.copystat(kept, self.room / "other")
+        for way, put in by_hand.items():
+            with self.subTest(way):
+                put()
+                self.assertIn("minorder is proved", self.build())
+                self.assertEqual(self.build(), "")
+        made.unlink()
+        kept.rename(made)
+        self.assertEqual((self.build(), self.build()), ("", ""))
+
+    def test_folders_that_the_shell_looks_in_first(self):
+        """CDPATH has a tree of another source, and the call goes by a relative path."""
+        self.build()
+        other = self.room / "other"
+        shutil.copytree(self.top, other / "top", symlinks=True)
+        (self.top / "crates/base/src/lib.rt").write_text("// an edit\n")
+        words = ("env", f"CDPATH={other}", "bash", "-c", 'cd .. && exec "${0#"$PWD/"}" "$@"')
+        with self.begin("a.pla", through=words, MINORDER_PREVIEW="no") as ran:
+            out, said = ran.communicate()
+        self.assertEqual((out, ran.returncode), ("proved: a.pla\n", 7), said)
+        self.assertIn("minorder is proved", said)
+
     def test_an_edit_during_a_build_that_is_taken_back(self):
         edited = self.top / "crates/base/src/lib.rt"
         edited.touch()

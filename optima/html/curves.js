@@ -58,7 +58,7 @@ function switches(id, lines, draw) {
     const input = element("input", {type: "checkbox", value: line.label});
     input.checked = line.on;
     input.addEventListener("change", () => { line.on = input.checked; draw(); });
-    const label = element("label", {}, input, swatch(line), line.label);
+    const label = element("label", {}, input, swatch(line), line.label + line.mark);
     for (const [event, near] of [["mouseenter", true], ["mouseleave", false], ["focusin", true], ["focusout", false]])
       label.addEventListener(event, () => d3.selectAll(".curve").filter((it) => it === line).classed("near", near));
     return label;
@@ -69,7 +69,7 @@ function addPaths(svg, lines, pathOf) {
   const paths = svg.selectAll(".curve").data(lines.filter((line) => line.on)).enter().append("path")
     .attr("class", (line) => `curve${line.yours ? " yours" : ""}`).attr("d", pathOf)
     .style("stroke", (line) => line.colour).attr("stroke-dasharray", (line) => line.dash);
-  paths.append("title").text((line) => line.label);
+  paths.append("title").text((line) => line.label + line.mark);
   return paths;
 }
 
@@ -93,7 +93,8 @@ function addNames(id, svg, ends) {
     its.forEach(({line, x, y}, i) => {
       svg.append("path").attr("class", "leader").attr("d", `M${x},${y}L${beside},${heights[i]}`).style("stroke", line.colour);
       const text = svg.append("text").attr({class: "name", x: beside + 3, y: heights[i], dy: "0.35em"});
-      text.text(line.label.length > NAMES.letters ? `${line.label.slice(0, NAMES.letters - 1)}…` : line.label);
+      const room = NAMES.letters - line.mark.length;
+      text.text((line.label.length > room ? `${line.label.slice(0, room - 1)}…` : line.label) + line.mark);
     });
   }
 }
@@ -110,7 +111,8 @@ function leagueLines() {
   return page.methods.map((method) => {
     const on = before.get(method);
     const style = method.yours ? {...styleOf(own().indexOf(method)), colour: "var(--text)"} : styleOf(places.indexOf(method));
-    return {label: labelOf(method), method, yours: method.yours, first: method.curve, on: on ?? method.curve, ...style};
+    const {yours, curve} = method;
+    return {label: labelOf(method), mark: markOf(method), method, yours, first: curve, on: on ?? curve, ...style};
   });
 }
 
@@ -162,7 +164,8 @@ function growthLines() {
   const stems = [...found].filter(([, its]) => new Set(its.map((it) => it.inputs.length)).size > 2);
   const places = [...stems.filter(([stem]) => FIRST.has(stem)), ...stems.filter(([stem]) => !FIRST.has(stem))];
   return stems.map(([stem, its]) => ({
-    label: stem, on: FIRST.has(stem), points: its.map((it) => [it.inputs.length, it.optimum, it.name]).sort((a, b) => a[0] - b[0]),
+    label: stem, mark: "", on: FIRST.has(stem),
+    points: its.map((it) => [it.inputs.length, it.optimum, it.name]).sort((a, b) => a[0] - b[0]),
     ...styleOf(places.findIndex(([other]) => other === stem)),
   }));
 }

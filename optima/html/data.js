@@ -16,6 +16,11 @@ for (const it of page.functions) for (const alias of it.aliases) if (!byName.has
 const functionNamed = (name) => byName.get(name) || byName.get(name.toLowerCase());
 const labelOf = (method) => [method.package, method.name].join(" ").trim();
 const own = () => page.methods.filter((it) => it.yours);
+/** How many sizes of a method are only claimed, from one start or from all. */
+const claimsOf = (method, starts = page.starts) => sumOf(starts.map((start) => method.yours ? method.claimed[start].size : 0));
+const markOf = (method) => claimsOf(method) ? " (claimed)" : "";
+/** A method's name as it is shown; that sizes are only claimed stands behind it. */
+const saidOf = (method) => labelOf(method) + markOf(method);
 const MOST_LETTERS = 40, RANDOM_ORDERS = 10;
 // means that differ by less are equal
 const SAME = 1e-9;

@@ -42,7 +42,7 @@ function makeFilters() {
 // ---- the method whose sizes stand there
 
 function listMethods() {
-  field("method").replaceChildren(...page.methods.map((it) => element("option", {}, labelOf(it))));
+  field("method").replaceChildren(...page.methods.map((it) => element("option", {value: labelOf(it)}, saidOf(it))));
   field("method").value = labelOf(shownMethod.method);
 }
 
@@ -51,7 +51,7 @@ function showMethod(label) {
   shownMethod.method = page.methods.find((it) => labelOf(it) === label);
   field("method").value = label;
   const head = headsOf("functions").find((it) => it.dataset.key === "nodes");
-  head.firstChild.nodeValue = label === labelOf(firstMethod) ? "Sifted" : label;
+  head.firstChild.nodeValue = shownMethod.method === firstMethod ? "Sifted" : saidOf(shownMethod.method);
   tables.functions.rows().every(function () {
     const row = this.node(), sizes = shownMethod.method.file[row.dataset.name] || [null];
     const nodes = sizes[COUNTED], ratio = nodes === null ? null : ratioOf(nodes, row.dataset.name);

@@ -24,6 +24,10 @@ function facts(it) {
 
 // ---- sizes
 
+/** A number of nodes, and whether it is only claimed. */
+const nodesCell = (nodes, it, method, start) =>
+  element("td", {}, `${nodes}${method.yours && method.claimed[start].has(it.name) ? " claimed" : ""}`);
+
 function sizeRow(it, method, longest) {
   const sizes = method.file[it.name], random = method.randomStarts[it.name];
   const row = element("tr", method.yours ? {class: "yours"} : {});
@@ -33,9 +37,9 @@ function sizeRow(it, method, longest) {
   const median = random && random[COUNTED] !== null ? random[COUNTED] : null;
   const medianRatio = median === null ? "" : ratioOf(median, it.name).toFixed(3);
   row.append(
-    element("th", {scope: "row"}, labelOf(method)), element("td", {}, ratio === null ? late : String(sizes[COUNTED])),
+    element("th", {scope: "row"}, labelOf(method)), nodesCell(ratio === null ? late : sizes[COUNTED], it, method, "file"),
     element("td", {}, ratio === null ? "" : ratio.toFixed(3)), element("td", {class: "drawn"}, bar),
-    element("td", {}, median === null ? "" : String(median)), element("td", {}, medianRatio));
+    nodesCell(median ?? "", it, method, "randomStarts"), element("td", {}, medianRatio));
   return row;
 }
 

@@ -30,17 +30,26 @@ function sizesOf(its, start) {
     nodes.filter((it) => it === best).length, known.length ? sumOf(known) / known.length : undefined];
 }
 
+/** Whether a function has several runs from the file's order or of one random order, or more than ten random orders. */
+function hasSeveral(its, start) {
+  const numbered = its.map(({label}) => label).filter((it) => it !== "random");
+  return its.length > (start === "file" ? 1 : RANDOM_ORDERS) || numbered.length > new Set(numbered).size;
+}
+
 /** A method of results. What the league hasn't from a start is left out; a size that nobody counted is claimed. */
 function methodOf(name, results) {
-  const method = {package: "", name, random: false, curve: true, yours: true, text: textOf(results), leftOut: {}, claimed: {}};
+  const method = {package: "", name, random: false, curve: true, yours: true, text: textOf(results)};
+  Object.assign(method, {leftOut: {}, several: {}, few: {}, claimed: {}});
   for (const [start] of STARTS) {
     const here = results.filter((it) => it.start === start), runs = new Map(here.map((it) => [it.name, []]));
     for (const it of here) runs.get(it.name).push(it);
     const inside = [...runs].filter(([of]) => of in page.worst[start]);
     method[start] = Object.fromEntries(inside.map(([of, its]) => [of, sizesOf(its, start)]));
     method.leftOut[start] = [...runs.keys()].filter((of) => !(of in page.worst[start]));
-    const ended = inside.filter(([of]) => method[start][of][COUNTED] !== null);
-    method.claimed[start] = ended.filter(([, its]) => its.some((it) => it.isClaimed)).length;
+    const namesWhere = (isWished) => inside.filter(([of, its]) => isWished(its, method[start][of])).map(([of]) => of);
+    method.several[start] = namesWhere((its) => hasSeveral(its, start));
+    method.few[start] = start === "file" ? [] : namesWhere((its) => countsOfOrders(its).length < RANDOM_ORDERS);
+    method.claimed[start] = new Set(namesWhere((its, sizes) => sizes[COUNTED] !== null && its.some((it) => it.isClaimed)));
   }
   return method;
 }
@@ -51,42 +60,57 @@ function placeOf(method, start) {
   return `${1 + others.filter((it) => standing(it, start).mean < mean * (1 - SAME)).length} of ${1 + others.length}`;
 }
 
-/** What of a method's results doesn't count. */
-function leftOutOf(method, start, from) {
-  const out = method.leftOut[start], names = out.slice(0, MOST_FAULTS).join(" ") + (out.length > MOST_FAULTS ? " .." : "");
-  const why = `the league has ${from} for functions of up to ${page.mostInputs} inputs alone`;
-  return out.length ? `${method.name}, left out, ${out.length}: ${names}: ${why}.` : "";
+/** A line on some functions of a method; none if there are none. */
+function lineOn(method, what, names, why) {
+  const said = names.slice(0, MOST_FAULTS).join(" ") + (names.length > MOST_FAULTS ? " .." : "");
+  return names.length ? `\n${method.name}, ${what}, ${names.length}: ${said}: ${why}.` : "";
+}
+
+/** What of a method's results doesn't count, or counts otherwise than a run each. */
+function notesOn(method, start, from) {
+  const {leftOut, few, several} = method, whose = start === "file" ? "a function's" : "a numbered order's";
+  return [
+    lineOn(method, "left out", leftOut[start], `the league has ${from} for functions of up to ${page.mostInputs} inputs alone`),
+    lineOn(method, "with fewer than ten random orders", few[start], "each that is missing counts as a late run"),
+    lineOn(method, "with several runs", several[start], `the lower median of ${whose} runs counts`),
+  ].join("");
 }
 
 const countOf = (count, what) => `${count} ${what}${count === 1 ? "" : "s"}`;
 
+/** What is said beside the name of a method with claims. */
+const saidOfClaims = (count) =>
+  `${countOf(count, "size")} claimed, not counted: the page believes the file; it counts orders, as minorder-score does`;
+
 function wordsFrom(method, start, from) {
-  const it = standing(method, start), left = leftOutOf(method, start, from);
-  if (!it.has) return left;
-  const isWhole = it.ended === it.whole, claimed = method.claimed[start], place = placeOf(method, start);
+  const it = standing(method, start), notes = notesOn(method, start, from);
+  if (!it.has) return notes.trim();
+  const isWhole = it.ended === it.whole, claims = claimsOf(method, [start]), place = placeOf(method, start);
   const isPlain = isWhole && it.mean.toFixed(6) === it.meanOfEnded.toFixed(6);
   return [
-    `${method.name}, from ${from}: place ${place}, by the mean ratio ${it.mean.toFixed(3)} on all ${it.whole} functions`,
+    method.name, claims ? ` (${saidOfClaims(claims)})` : "",
+    `, from ${from}: place ${place}, by the mean ratio ${it.mean.toFixed(3)} on all ${it.whole} functions`,
     isPlain ? "" : " (late and missing ones count as the worst of the league or the start, and none counts more)",
     isPlain || !it.ended ? "" : `; of what ended ${it.meanOfEnded.toFixed(3)} on ${countOf(it.ended, "function")}`,
     isWhole ? "" : `; ${it.late} late, ${it.missing} missing`,
     it.worst ? `; worst ratio ${it.worst.ratio.toFixed(2)} (${it.worst.name})` : "",
     `; optimum met in ${it.met} of ${it.whole} functions, and by ${it.runsMet} of ${countOf(it.runs, "run")}`,
     `, ${percentOf(it.runsMet, it.runs)}`, it.lateRuns ? `; ${countOf(it.lateRuns, "run")} late` : "",
-    claimed ? `; ${claimed} ${claimed === 1 ? "size is" : "sizes are"} only claimed.` : ".", left && `\n${left}`].join("");
+    ".", notes].join("");
 }
 
 const wordsOf = (method) => STARTS.map(([start, from]) => wordsFrom(method, start, from)).filter(Boolean).join("\n");
 
 // ---- names
 
-const tidied = (name) => name.replace(/\s+/g, " ").trim().slice(0, MOST_LETTERS);
+const tidied = (name) => name.replace(/\s+/g, " ").replace(/\p{C}/gu, "").trim().slice(0, MOST_LETTERS);
+const plain = (name) => name.normalize("NFKC").toLowerCase();
 
 /** A wished name, with a number behind it if another method has it. */
 function freeName(wish, mine = null) {
-  const others = new Set(page.methods.filter((it) => it !== mine).map(labelOf));
+  const others = new Set(page.methods.filter((it) => it !== mine).map((it) => plain(labelOf(it))));
   let name = wish;
-  for (let k = 2; others.has(name); k += 1) name = `${wish} ${k}`;
+  for (let k = 2; others.has(plain(name)); k += 1) name = `${wish} ${k}`;
   return name;
 }
 
@@ -136,7 +160,7 @@ function showKept() {
   const refused = [];
   page.methods = page.methods.filter((it) => !it.yours);
   for (const {name, text} of kept()) {
-    const {results, faults} = read(text);
+    const {results, faults} = read(text, true);
     if (faults.length) refused.push(refusal(`${name}, which this browser kept,`, faults).text);
     else page.methods.push(methodOf(freeName(name), results));
   }
@@ -148,12 +172,22 @@ function showKept() {
 
 // ---- files
 
+/** What is said of a method's runs whose own nodes aren't those that are counted. */
+function differencesOf({name}, results) {
+  const others = results.filter((it) => it.own !== null && it.own !== it.nodes), [first] = others;
+  const said = `${name}, another own size, ${countOf(others.length, "run")}`;
+  return others.length ? `\n${said}, as ${first.name}, ${first.own} in place of ${first.nodes}.` : "";
+}
+
 /** Takes a file's text; answers what is to be said of it. */
-function taken(name, text) {
+async function taken(name, text) {
   const {results, faults} = read(text);
-  if (faults.length) return refusal(name, faults);
+  if (!canCount() && results.some((it) => it.order))
+    faults.push("this browser can't count orders, for want of DecompressionStream; minorder-score does");
+  if (faults.length) return refusal(shortened(name), faults);
+  await countedResults(results);
   const same = own().find((it) => it.text === textOf(results));
-  if (same) return {text: `${name} has the results of ${same.name}, which stands here already.`, isFault: false};
+  if (same) return {text: `${shortened(name)} has the results of ${same.name}, which stands here already.`, isFault: false};
   const method = methodOf(freeName(tidied(name.replace(/\.[^.]*$/, "")) || "mine"), results);
   page.methods.push(method);
   shownMethod.method = method;
@@ -161,19 +195,26 @@ function taken(name, text) {
   const said = keep();
   showOwn();
   listOwn();
-  return {text: wordsOf(method) + said, isFault: false};
+  return {text: wordsOf(method) + differencesOf(method, results) + said, isFault: false};
 }
 
 async function takenFile(file) {
-  if (file.size > MOST_BYTES) return refusal(file.name, [`it is larger than ${MOST_BYTES / 1e6} MB`]);
+  if (file.size > MOST_BYTES) return refusal(shortened(file.name), [`it is larger than ${MOST_BYTES / 1e6} MB`]);
   const text = await file.text().catch(() => null);
-  return text === null ? refusal(file.name, ["it can't be read"]) : taken(file.name, text);
+  return text === null ? refusal(shortened(file.name), ["it can't be read"]) : taken(file.name, text);
 }
 
-async function takeFiles(files) {
+async function takeAll(files) {
   const found = [];
   for (const file of files) found.push(await takenFile(file));
   if (found.length) say(found.map((it) => it.text).join("\n"), {isFault: found.some((it) => it.isFault)});
+}
+
+// files that come meanwhile wait
+let taking = Promise.resolve();
+function takeFiles(files) {
+  const take = () => takeAll(files);
+  taking = taking.then(take, take);
 }
 
 const chooser = field("file");

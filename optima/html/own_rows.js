@@ -26,9 +26,15 @@ function cellsFromRandom({has, mean, worst, runs, runsMet}) {
   return [meanCell(mean), worstCell(worst, false), cellOf(percentOf(runsMet, runs), runsMet / runs)];
 }
 
+/** A method's name in the league; under it that the page believes its claims. */
+function nameCell(method) {
+  const claims = claimsOf(method), note = claims ? element("span", {class: "claims"}, saidOfClaims(claims)) : null;
+  return element("th", {scope: "row", "data-order": labelOf(method)}, element("span", {class: "name"}, labelOf(method)), note);
+}
+
 /** A row of the league, with the cells of the other rows. */
 function leagueRow(method) {
-  const row = element("tr", {class: "yours", "data-method": labelOf(method)}, element("th", {scope: "row"}, labelOf(method)));
+  const row = element("tr", {class: "yours", "data-method": labelOf(method)}, nameCell(method));
   row.append(...cellsFromFile(standing(method, "file")), ...cellsFromRandom(standing(method, "randomStarts")));
   return row;
 }
@@ -36,7 +42,7 @@ function leagueRow(method) {
 /** A column of the families behind their inputs. */
 function addToFamilies(method) {
   const [headRow, ...rows] = field("families-table").rows, label = labelOf(method);
-  headRow.insertBefore(element("th", {scope: "col", class: "yours", "data-key": label}, label), headRow.cells[3]);
+  headRow.insertBefore(element("th", {scope: "col", class: "yours", "data-key": label}, saidOf(method)), headRow.cells[3]);
   for (const row of rows) {
     const names = new Set(page.functions.filter((it) => it.family === row.cells[0].textContent).map((it) => it.name));
     const {ended, whole, meanOfEnded} = standing(method, "file", names), mark = ended < whole ? "*" : "";
@@ -67,7 +73,8 @@ function showOwn() {
 /** What stands of a method from each start. */
 function countsOf(method) {
   const found = STARTS.map(([start, from]) => [standing(method, start), from]).filter(([{has}]) => has);
-  return found.map(([{ended, whole}, from]) => `${ended} of ${whole} functions from ${from}`).join(", ");
+  const counts = found.map(([{ended, whole}, from]) => `${ended} of ${whole} functions from ${from}`), claims = claimsOf(method);
+  return [...counts, ...(claims ? [`${claims} only claimed`] : [])].join(", ");
 }
 
 function ownItem(method) {

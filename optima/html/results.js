@@ -1,12 +1,15 @@
 "use strict";
-// A file of results, `name,nodes`: read, and what is wrong with it.
-const MOST_BYTES = 20e6, MOST_FAULTS = 12;
+// A file of results, `name,order` or `name,nodes`: read, and what is wrong with it.
+const MOST_BYTES = 20e6, MOST_FAULTS = 12, MOST_SECONDS = 1e9;
 const MARKS = [",", ";", "\t"];
 const TAKEN = "minorder-score RESULTS --csv writes a file that this page takes";
-const COLUMNS = ["name", "nodes", "start", "claimed", "seconds"];
+const COLUMNS = ["name", "order", "nodes", "start", "claimed", "seconds"];
+// what the browser keeps: whether the nodes were counted here stands in place of an order
+const KEPT = ["name", "nodes", "start", "counted", "seconds"];
+const DECIMAL = /^(\d+\.?\d*|\.\d+)(e[+-]?\d+)?$/i;
 
 /** A text of the reader's as far as a message has room for it. */
-const shortened = (text) => (text.length > 40 ? `${text.slice(0, 40)}…` : text).replace(/[\p{Cc}\ufffd]/gu, "?");
+const shortened = (text) => (text.length > 40 ? `${text.slice(0, 40)}…` : text).replace(/[\p{C}\ufffd]/gu, "?");
 
 /** The cells of a line, which a mark parts. */
 function cellsOf(line, mark) {
@@ -17,7 +20,7 @@ function cellsOf(line, mark) {
 }
 
 /** The mark that parts the cells: the first one in the line outside quotes. */
-function markOf(line) {
+function separatorOf(line) {
   const found = line.replace(/"[^"]*"/g, "").match(/[,;\t]/);
   return found ? found[0] : MARKS[0];
 }
@@ -26,58 +29,90 @@ function markOf(line) {
 function startOf(text) {
   const start = (text || "file").toLowerCase();
   if (start === "file") return "file";
-  return start === "random" || (/^\d+$/.test(start) && start >= 1 && start <= 10) ? "randomStarts" : null;
+  return start === "random" || /^([1-9]|10)$/.test(start) ? "randomStarts" : null;
 }
 
 const isLate = (word) => word.toLowerCase() === "late";
 
-/** Why a result is refused; null if it isn't. */
-function faultOf({name, nodes, start, seconds, order}) {
-  const it = byName.get(name);
-  if (!it) return `no function is named ${shortened(name) || "by an empty cell"}`;
-  if (startOf(start) === null) return `${name}: start ${shortened(start)}: it is file, random, or 1 to 10`;
-  const words = [order, nodes].filter(Boolean), others = words.filter((it) => !isLate(it));
-  if (words.some(isLate) && others.length) return `${name}: both late and ${shortened(others[0])}`;
-  if (!words.some(isLate) && !/^\d{1,9}$/.test(nodes)) return `${name}: ${shortened(nodes) || "nothing"} is no number of nodes`;
-  if (nodes && Number(nodes) < it.optimum)
-    return `${name}: ${nodes} nodes, and no order has fewer than ${it.optimum}: counted with complement edges?`;
-  if (nodes && Number(nodes) > it.optimum && it.family === "symmetric")
-    return `${name}: ${nodes} nodes, and each order has ${it.optimum}: constants counted?`;
-  if (seconds && !(Number(seconds) >= 0 && Number(seconds) < Infinity))
-    return `${name}: seconds ${shortened(seconds)}: no number of seconds`;
-  return null;
+// ---- what is refused; each answers why, and nothing if it isn't
+
+/** Of the words of an order. */
+function faultOfOrder(words, it) {
+  const most = it.inputs.length - 1, isName = (word) => it.inputs.includes(word);
+  const isNumber = (word) => /^(0|[1-9]\d*)$/.test(word) && Number(word) <= most;
+  const unknown = words.find((word) => !isNumber(word) && !isName(word));
+  if (unknown !== undefined) return `${shortened(unknown)} is no input: they are 0 to ${most}, or ${it.inputs.join(" ")}`;
+  const other = words.find((word) => isName(word) !== isName(words[0]));
+  if (other !== undefined) return `${words[0]} and ${other}: an order has numbers or names, not both`;
+  const twice = words.find((word, i) => words.indexOf(word) !== i);
+  if (twice !== undefined) return `input ${twice} stands twice`;
+  const missing = it.inputs.findIndex((name, x) => !words.includes(name) && !words.includes(String(x)));
+  return missing >= 0 ? `input ${missing} is missing` : "";
 }
 
-/** Why the heads are refused; null if they aren't. */
+/** Of a number of nodes without an order. */
+function faultOfClaim(nodes, it) {
+  if (nodes < it.optimum) return `${nodes} nodes, and no order has fewer than ${it.optimum}: counted with complement edges?`;
+  if (nodes > it.optimum && it.family === "symmetric")
+    return `${nodes} nodes, and each order has ${it.optimum}: constants counted?`;
+  return "";
+}
+
+/** Of a mark that says otherwise than the line. */
+function faultOfMark(mark, hasOrder) {
+  if (!["", "0", "1"].includes(mark)) return `claimed ${shortened(mark)}: it is 0 or 1`;
+  if (!hasOrder && mark === "0") return "claimed 0, but a number of nodes without an order is a claim";
+  return hasOrder && mark === "1" ? "claimed 1, but it has an order, which is counted here" : "";
+}
+
+function faultOf({start, nodes, order, claimed, seconds}, it, isKept) {
+  const words = [order, nodes].filter(Boolean), others = words.filter((word) => !isLate(word));
+  if (startOf(start) === null) return `start ${shortened(start)}: it is file, random, or 1 to 10`;
+  if (seconds && !(DECIMAL.test(seconds) && Number(seconds) <= MOST_SECONDS))
+    return `seconds ${shortened(seconds)}: no number of seconds: decimal, from 0 to ${MOST_SECONDS}`;
+  if (!words.length) return "neither an order nor a number of nodes";
+  if (words.some(isLate)) return others.length ? `both late and ${shortened(others[0])}` : "";
+  if (nodes && !/^\d{1,9}$/.test(nodes)) return `nodes ${shortened(nodes)}: no number of nodes: one to nine decimal digits`;
+  const fault = isKept ? "" : faultOfMark(claimed, order !== "");
+  return fault || (order ? faultOfOrder(wordsOfOrder(order), it) : faultOfClaim(Number(nodes), it));
+}
+
+/** Of the columns that the first line names. */
 function faultOfHeads(heads) {
   const twice = COLUMNS.find((it) => heads.indexOf(it) !== heads.lastIndexOf(it));
   if (twice) return `the column ${twice} stands twice`;
-  if (heads.includes("nodes")) return null;
-  return heads.includes("order")
-    ? `it has orders; ${TAKEN}`
-    : "it has no column nodes";
+  return heads.includes("nodes") || heads.includes("order") ? "" : "it has no column order or nodes";
 }
 
+// ---- what is read
+
+const wordsOfOrder = (text) => text.split(/[\s,]+/).filter(Boolean);
+const numbered = (words, it) => words.map((word) => it.inputs.includes(word) ? it.inputs.indexOf(word) : Number(word));
+
 /** What a line says: a result, or a fault. */
-function resultOf(cells, heads) {
+function resultOf(cells, heads, isKept) {
   if (cells.length > heads.length) return {fault: "more cells than columns"};
-  const row = Object.fromEntries(heads.map((it, i) => [it, cells[i] || ""])), fault = faultOf(row);
-  if (fault) return {fault};
-  const {claimed, seconds} = row, nodes = isLate(row.nodes || row.order) ? null : Number(row.nodes);
+  const row = Object.fromEntries([...COLUMNS, ...KEPT].map((it) => [it, cells[heads.indexOf(it)] || ""]));
+  const it = byName.get(row.name);
+  if (!it) return {fault: `no function is named ${shortened(row.name) || "by an empty cell"}`};
+  const fault = faultOf(row, it, isKept);
+  if (fault) return {fault: `${row.name}: ${fault}`};
+  const late = isLate(row.order || row.nodes), order = late || !row.order ? null : numbered(wordsOfOrder(row.order), it);
   return {result: {
-    name: byName.get(row.name).name, nodes, start: startOf(row.start), label: (row.start || "file").toLowerCase(),
-    isClaimed: nodes !== null && claimed !== "0", seconds: seconds ? Number(seconds) : null,
+    name: it.name, order, nodes: late || !row.nodes ? null : Number(row.nodes), own: null, start: startOf(row.start),
+    label: (row.start || "file").toLowerCase(), isClaimed: !late && !order && !(isKept && row.counted === "1"),
+    seconds: row.seconds ? Number(row.seconds) : null,
   }};
 }
 
 /** The results of a text, and what is wrong with it. The first line names the columns, or is a result of name and nodes. */
-function read(text) {
+function read(text, isKept = false) {
   const results = [], faults = [];
   let heads = null, mark = null;
   if (/^\s*[[{]/.test(text)) return {results, faults: [`it is JSON; ${TAKEN}`]};
   for (const [number, line] of text.replace(/^\ufeff/, "").split(/\r\n|\r|\n/).entries()) {
     if (!line.trim()) continue;
-    mark = mark || markOf(line);
+    mark = mark || separatorOf(line);
     const cells = cellsOf(line, mark);
     if (!heads) {
       const words = cells.map((cell) => cell.toLowerCase()), hasHeads = words.includes("name");
@@ -86,7 +121,7 @@ function read(text) {
       if (fault) return {results, faults: [fault]};
       if (hasHeads) continue;
     }
-    const {result, fault} = resultOf(cells, heads);
+    const {result, fault} = resultOf(cells, heads, isKept);
     if (fault) faults.push(`line ${number + 1}: ${fault}`);
     else results.push(result);
   }
@@ -94,9 +129,9 @@ function read(text) {
   return {results, faults};
 }
 
-/** Results as a text that `read` takes. */
-const textOf = (results) => [COLUMNS.join(), ...results.map(({name, nodes, label, isClaimed, seconds}) =>
-  [name, nodes ?? "late", label, Number(isClaimed), seconds ?? ""].join())].join("\n");
+/** Results that are counted, as a text that the browser keeps. */
+const textOf = (results) => [KEPT.join(), ...results.map(({name, nodes, label, isClaimed, seconds}) =>
+  [name, nodes ?? "late", label, Number(nodes !== null && !isClaimed), seconds ?? ""].join())].join("\n");
 
 /** What is said of a file that is refused. */
 function refusal(name, faults) {
