@@ -1,20 +1,26 @@
 #!/usr/bin/env bash
-# prove.sh FILE CERT     proves in Coq that a certificate is right: Coq's kernel runs the checker, so neither extraction nor
-#                        OCaml need be trusted. Files of up to 12 inputs take from seconds to minutes. Call `make` before.
-# It prints the theorem in words. If the certificate is invalid or a text is refused it prints the answer, with ordercheck's
-# status.
-set -euo pipefail
-export LC_ALL=C
+# prove.sh FILE CERT     proves in Coq that a certificate is right: Coq's kernel runs the checker, so neither the checker's
+#                        extraction nor its compiling need be trusted. Files of up to 12 inputs take from seconds to minutes.
+#                        Call `make` before.
+# It prints the theorem in words. If the certificate is invalid or a text is refused it prints the answer. The statuses are
+# ordercheck's, with 5 for what can't be read, and 6 if Coq or the script fails.
+set -Eeuo pipefail
+trap 'exit 6' ERR
+export LC_ALL=C SHELL=/bin/sh
 [ $# = 2 ] || { echo "usage: coq/prove.sh FILE CERT" >&2; exit 2; }
+for file in "$1" "$2"; do
+    [[ -r $file && ! -d $file ]] || { echo "prove.sh: Device" >&2; exit 5; }
+done
+fail() { echo "prove.sh: $*" >&2; exit 6; }
 here=$(cd "$(dirname "${BASH_SOURCE[0]}")" && pwd)
 made=$(mktemp -d)
 trap 'rm -rf "$made"' EXIT
 
-# text NAME FILE: defines a text of Coq that has the file's bytes
+# text NAME FILE: defines a text of Coq that has the file's bytes, in strings that are short enough for any stack
 text() {
-    printf 'Definition %s : text := list_ascii_of_string "' "$1"
-    sed 's/"/""/g' < "$2"
-    printf '".\n'
+    printf 'Definition %s : text := flat_map list_ascii_of_string [' "$1"
+    split -b 4096 --filter='printf \"; sed "s/\"/\"\"/g"; printf "\"%%string; "' < "$2"
+    printf '""%%string].\n'
 }
 
 {
@@ -52,10 +58,11 @@ answer=$(sed -n 's/^answer_text = "\(.*\)"%string.*/\1/p' <<< "$said")
 order=$(sed -n 's/^order_text = "\(.*\)"%string.*/\1/p' <<< "$said")
 case $answer in
     valid*)
-        [[ $said == *"Closed under the global context"* ]] || { echo "prove.sh: the proof has axioms" >&2; exit 1; }
+        [[ $said == *"Closed under the global context"* ]] || fail "the proof has axioms"
         read -r _ nodes _ pairs <<< "$answer"
         echo "this file's functions have an ordered diagram of $nodes nodes under the order$order," \
             "and none${pairs:+ under an order that keeps the pairs of the certificate} has fewer" ;;
     invalid*) echo "$answer"; exit 1 ;;
+    "") fail "Coq prints no answer" ;;
     *) echo "prove.sh: $answer" >&2; exit 3 ;;
 esac

@@ -1,11 +1,11 @@
 #!/usr/bin/env python3
-"""test.py [--count COUNT] [BIN]      tries ordercheck-coq, and compares it with ordercheck in the folder BIN
+"""Tries ordercheck-coq, and compares it with the ordercheck in the folder BIN, or the one that the repository has built:
 
 - the worked cases of crates/worked_cases/data, whose answers are expected there;
 - certificates in which each word of each line is changed, and each line is left out, doubled or cut;
-- COUNT random files and certificates (500 if it is left out), most of them with a line edited or some bytes damaged;
-- texts at their limits on a stack of 8 MB, files that can't be read, memory that is refused; prove.sh; the theorems' axioms.
-Without BIN it takes the ordercheck that the repository has built, or scripts/check.py if it has built none."""
+- COUNT random files and certificates, most of them with a line edited or some bytes damaged;
+- texts at their limits on a stack of 8 MB, files that can't be read, memory that is refused; the theorems' axioms;
+- prove.sh, and judge.py on a table of three functions."""
 import argparse
 import collections
 import functools
@@ -14,6 +14,7 @@ import pathlib
 import random
 import re
 import resource
+import shutil
 import subprocess
 import sys
 import tempfile
@@ -176,26 +177,66 @@ def proofs() -> None:
     assert axioms == {"Closed under the global context"}, axioms
     pla = pathlib.Path("it.pla")
     content = pathlib.Path("multiplexer.pla").read_bytes()
-    pla.write_bytes(content.replace(b"\n", b"\r\n").rstrip(b"\r\n") + b" # \"(*\xc3\xa9")
+    pla.write_bytes(content.replace(b"\n", b"\r\n").rstrip(b"\r\n") + b" # \"(*\0\xc3" + b"\xa9\"" * 30_000)
     for certificate, nodes, order, others in (
             ("multiplexer", 3, "2 0 1", "none has"),
             ("multiplexer_pair", 4, "0 2 1", "none under an order that keeps the pairs of the certificate has")):
         said = subprocess.run([HERE / "prove.sh", pla, f"{certificate}.cert"], capture_output=True, text=True, check=True).stdout
         assert said == (f"this file's functions have an ordered diagram of {nodes} nodes under the order {order}, "
                         f"and {others} fewer\n"), said
-    assert subprocess.run([HERE / "prove.sh", "parity.pla", "multiplexer.cert"], capture_output=True).returncode == 1
+    for status, folder, words in (
+            (1, ".", "parity.pla multiplexer.cert"), (2, ".", "parity.pla"), (3, ".", "parity.pla parity.pla"),
+            (5, ".", "none multiplexer.cert"), (5, ".", "parity.pla ."), (6, "none", "multiplexer.pla multiplexer.cert")):
+        ran = subprocess.run(["env", f"TMPDIR={folder}", HERE / "prove.sh", *words.split()], capture_output=True)
+        assert ran.returncode == status, (words, ran)
+
+
+def judging() -> None:
+    """judge.py beside a table of three functions of the worked cases."""
+    for name in ("judging/coq", "judging/optima"):
+        os.makedirs(name)
+    for path in (HERE / "judge.py", CHECKER):
+        shutil.copy(path, "judging/coq")
+    table, judged = pathlib.Path("judging/optima/optima.csv"), pathlib.Path("judging/optima/judged_by_coq.csv")
+    unfinished = pathlib.Path("judging/coq/judged.unfinished")
+    head, *rows = (TOP / "optima/optima.csv").read_text().splitlines()[:4]
+
+    def judge(status: int, words: str) -> str:
+        ran = subprocess.run(["judging/coq/judge.py", *words.split()], capture_output=True, text=True)
+        assert ran.returncode == status, (words, ran)
+        return ran.stdout
+
+    table.write_text("\n".join([head, *rows]).replace(",8,7,7,", ",8,7,6,"))
+    judged.write_text("before\n")
+    for status, words in ((0, "--help"), (2, ""), (2, "optima x"), (1, "examples"), (1, "optima --jobs 2")):
+        judge(status, words)
+        assert judged.read_text() == "before\n", words
+    table.write_text("\n".join([head, *rows]))
+    judge(0, "optima")
+    first, *lines = judged.read_text().splitlines()
+    assert [line.split(",")[:3:2] for line in lines] == [["hwb4", "valid 7"], ["hwb5", "valid 14"], ["hwb6", "valid 21"]], lines
+    assert judge(0, "optima 5").startswith("2 certificates") and not unfinished.exists()
+    unfinished.write_text("\n".join([first, lines[1].rsplit(",", 1)[0] + ",77.0", ""]))
+    judge(0, "optima")
+    assert [",77.0" in line for line in judged.read_text().splitlines()] == [False, False, True, False]
+    unfinished.write_text(judged.read_text())
+    os.utime(unfinished, (0, 0))
+    judge(0, "optima")
+    assert ",77.0" not in judged.read_text()
 
 
 def main() -> None:
     given = argparse.ArgumentParser(description=__doc__, formatter_class=argparse.RawDescriptionHelpFormatter)
-    given.add_argument("--count", type=int, default=500)
-    given.add_argument("bin", nargs="?", type=pathlib.Path, default=TOP / "crates/ordercheck/out")
+    given.add_argument("--count", type=int, default=500, help="how many random files (500 if it is left out)")
+    given.add_argument("--python", action="store_true", help="compare with scripts/check.py instead")
+    given.add_argument("bin", nargs="?", type=pathlib.Path, default=TOP / "crates/ordercheck/out", metavar="BIN")
     words = given.parse_args()
     program = (words.bin / "ordercheck").absolute()
-    is_built = program.is_file()
+    if not words.python and not program.is_file():
+        sys.exit(f"test.py: {program}: absent; --python compares with scripts/check.py")
     resource.setrlimit(resource.RLIMIT_STACK, (8 * MEGABYTE, resource.getrlimit(resource.RLIMIT_STACK)[1]))
     comparison = Comparison(functools.partial(answer_of, program))
-    if not is_built:
+    if words.python:
         comparison = Comparison(python_answer)
     with tempfile.TemporaryDirectory() as folder:
         subprocess.run(["cp", "-R", DATA, f"{folder}/data"], check=True)
@@ -205,8 +246,9 @@ def main() -> None:
         random_ones(comparison, words.count)
         limits(comparison)
         proofs()
+        judging()
         os.chdir(HERE)
-    print(f"ordercheck-coq answers as {program.name if is_built else 'scripts/check.py'}: ", end="")
+    print(f"ordercheck-coq answers as {'scripts/check.py' if words.python else program.name}: ", end="")
     print(", ".join(f"{count} {said}" for said, count in sorted(comparison.seen.items())))
 
 
