@@ -126,6 +126,9 @@ uint32_t minorder_exact_diagram_many_with_lengths(const uint64_t *tables, size_t
                                                   uint32_t *roots, size_t roots_length);
 uint32_t minorder_orders_with_pairs(const uint64_t *tables, size_t words, uint32_t inputs, uint32_t outputs,
                                     const minorder_pair *pairs, size_t count, minorder_figures *figures);
+uint32_t minorder_sizes_with_pairs(const uint64_t *tables, size_t words, uint32_t inputs, uint32_t outputs,
+                                   const minorder_pair *pairs, size_t count, uint32_t most, uint64_t *orders, size_t room,
+                                   uint32_t *fewest, size_t *sizes);
 uint32_t minorder_widths_with_lengths(const uint64_t *tables, size_t words, uint32_t inputs, uint32_t outputs,
                                       uint32_t *widths, size_t widths_length);
 uint32_t minorder_sift_with_lengths(const uint64_t *tables, size_t words, uint32_t inputs, uint32_t outputs,
@@ -136,9 +139,9 @@ static inline size_t minorder_places(uint32_t count) { return count <= 16 ? coun
 
 /* Writes the first order of the fewest nodes, its level counts and its size. `order` and `levels` have `inputs` entries.
 
-   All functions of an NPN class have one size: it stays if inputs are permuted or complemented, and if all outputs are complemented.
-   If g(x) = f(y), where y_i is x_p(i) or its complement, and i_0, i_1, .. is an order of the fewest nodes of f, then p(i_0), p(i_1),
-   .. is one of g, though perhaps not the first, and has the same level counts. */
+   The functions of an NPN class all have the same fewest nodes: these stay if inputs are permuted or complemented, and if all outputs
+   are complemented. If g(x) = f(y), where y_i is x_p(i) or its complement, and i_0, i_1, .. is an order of the fewest nodes of f, then
+   p(i_0), p(i_1), .. is one of g, though perhaps not the first, and has the same level counts. */
 MINORDER_INLINE uint32_t minorder_exact(const uint64_t *tables, size_t words, uint32_t inputs, uint32_t outputs,
                                       uint8_t *order, uint32_t *levels, uint32_t *total) {
     size_t places = minorder_places(inputs);
@@ -245,6 +248,21 @@ MINORDER_INLINE uint32_t minorder_orders(const uint64_t *tables, size_t words, u
                                        const minorder_pair *pairs, size_t count, minorder_figures *figures) {
     const minorder_pair none = {0, 0};
     return minorder_orders_with_pairs(tables, words, inputs, outputs, count == 0 ? &none : pairs, count, figures);
+}
+
+/* Writes how many of the orders that keep `count` pairs have each size up to `most` nodes: orders[i] is how many have *fewest + i, for
+   *sizes entries, of which the first and the last aren't 0. If no order has so few as `most`, both numbers are 0. `orders` has `room`
+   entries; if there are more, only the two numbers are written and the call returns MINORDER_SHORT_TEXT. So the orders that are better
+   than one of n nodes are the sum of the entries up to n - 1, which costs little if they are few. Without pairs `pairs` may be null,
+   and without room `orders`. Beside what minorder_orders takes it needs 8 bytes for each size up to `most` that the orders of a set can
+   have, for the sets of two layers: 2.2 GB for the product of two numbers of 8 bits without a bound. */
+MINORDER_INLINE uint32_t minorder_sizes(const uint64_t *tables, size_t words, uint32_t inputs, uint32_t outputs,
+                                      const minorder_pair *pairs, size_t count, uint32_t most, uint64_t *orders, size_t room,
+                                      uint32_t *fewest, size_t *sizes) {
+    const minorder_pair no_pair = {0, 0};
+    uint64_t no_size = 0;
+    return minorder_sizes_with_pairs(tables, words, inputs, outputs, count == 0 ? &no_pair : pairs, count, most,
+                                     room == 0 ? &no_size : orders, room, fewest, sizes);
 }
 
 /* Writes the widths of all sets of variables: at mask * inputs + x how many nodes the level of x has where the other members of the set

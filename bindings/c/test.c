@@ -477,6 +477,30 @@ static void no_pairs(void) {
     EXPECT(total == fewest && memcmp(order, plain, sizeof order) == 0 && memcmp(levels, plain_levels, sizeof levels) == 0);
 }
 
+/* ---- one size for all functions of an NPN class */
+
+static uint64_t moved(uint64_t table, uint32_t x, uint32_t y, uint32_t flipped) {
+    uint64_t made = 0;
+    for (uint32_t p = 0; p < 16; p++) {
+        uint32_t differs = (p >> x ^ p >> y) & 1, q = p ^ (differs << x | differs << y) ^ flipped;
+        made |= (table >> q & 1) << p;
+    }
+    return made;
+}
+
+static void npn_classes(void) {
+    uint64_t seed = 5;
+    for (int round = 0; round < 200; round++) {
+        seed = seed * 6364136223846793005u + 1442695040888963407u;
+        uint64_t table = seed >> 40 & 0xffff;
+        uint8_t order[4];
+        uint32_t levels[4], size, other, x = (uint32_t)round & 3, y = (uint32_t)round >> 2 & 3, flipped = (uint32_t)round >> 4 & 15;
+        EXPECT(minorder_exact(&table, 1, 4, 1, order, levels, &size) == MINORDER_DONE);
+        uint64_t same = moved(table, x, y, flipped) ^ (round & 1 ? 0xffff : 0);
+        EXPECT(minorder_exact(&same, 1, 4, 1, order, levels, &other) == MINORDER_DONE && other == size);
+    }
+}
+
 /* ---- all orders, against a walk over each of them */
 
 struct walk {
@@ -487,6 +511,7 @@ struct walk {
     size_t words;
     uint8_t order[5];
     minorder_figures found;
+    uint64_t of_size[64];
 };
 
 static void take_order(struct walk *walk) {
@@ -508,6 +533,7 @@ static void take_order(struct walk *walk) {
     found->optimal_orders += size == found->fewest_nodes;
     found->worst_orders += size == found->most_nodes;
     found->total_nodes += size;
+    walk->of_size[size]++;
 }
 
 static void take_orders(struct walk *walk, uint32_t chosen, uint32_t mask) {
@@ -518,6 +544,29 @@ static void take_orders(struct walk *walk, uint32_t chosen, uint32_t mask) {
             walk->order[chosen] = (uint8_t)x;
             take_orders(walk, chosen + 1, mask | 1u << x);
         }
+}
+
+/* the sizes up to `most` nodes, with room for all, for one less and for none */
+static void sizes_up_to(const struct walk *walk, uint32_t most) {
+    uint64_t orders[64] = {0}, counted = 0, expected = 0;
+    uint32_t fewest = 77;
+    size_t sizes = 77, pairs = walk->pair != NULL;
+    EXPECT(minorder_sizes(walk->tables, walk->words, walk->inputs, 2, walk->pair, pairs, most, orders, 64, &fewest, &sizes) == MINORDER_DONE);
+    for (uint32_t size = 0; size < 64; size++) {
+        EXPECT((size >= fewest && size - fewest < sizes ? orders[size - fewest] : 0) == (size <= most ? walk->of_size[size] : 0));
+        expected += size <= most ? walk->of_size[size] : 0;
+    }
+    for (size_t i = 0; i < 64; i++)
+        counted += orders[i];
+    EXPECT(counted == expected && (sizes == 0 ? fewest == 0 : orders[0] != 0 && orders[sizes - 1] != 0));
+    for (size_t room = 0; room < 2 && room < sizes; room++) {
+        uint64_t kept = 99;
+        uint32_t again = 77;
+        size_t wanted = 77;
+        EXPECT(minorder_sizes(walk->tables, walk->words, walk->inputs, 2, walk->pair, pairs, most, &kept, room, &again, &wanted)
+               == (room < sizes ? MINORDER_SHORT_TEXT : MINORDER_DONE));
+        EXPECT(again == fewest && wanted == sizes && kept == 99);
+    }
 }
 
 static void all_orders(void) {
@@ -535,19 +584,31 @@ static void all_orders(void) {
             EXPECT(minorder_widths(tables, 2, inputs, 2, widths) == MINORDER_DONE);
             for (uint32_t place = 0; place < inputs << inputs; place++)
                 EXPECT(place / inputs >> place % inputs & 1 || widths[place] == 0);
-            struct walk walk = {tables, widths, count == 1 ? &last_above : NULL, inputs, 2, {0}, {0, 0, 0, 0, 0, 0}};
+            struct walk walk = {tables, widths, count == 1 ? &last_above : NULL, inputs, 2, {0}, {0, 0, 0, 0, 0, 0}, {0}};
             take_orders(&walk, 0, 0);
             minorder_figures figures;
             EXPECT(minorder_orders(tables, 2, inputs, 2, count == 1 ? &last_above : NULL, count, &figures) == MINORDER_DONE);
             EXPECT(figures.orders == walk.found.orders && figures.total_nodes == walk.found.total_nodes);
             EXPECT(figures.fewest_nodes == walk.found.fewest_nodes && figures.optimal_orders == walk.found.optimal_orders);
             EXPECT(figures.most_nodes == walk.found.most_nodes && figures.worst_orders == walk.found.worst_orders);
+            sizes_up_to(&walk, UINT32_MAX);
+            sizes_up_to(&walk, figures.most_nodes);
+            sizes_up_to(&walk, figures.fewest_nodes);
+            sizes_up_to(&walk, (figures.fewest_nodes + figures.most_nodes) / 2);
+            sizes_up_to(&walk, figures.fewest_nodes == 0 ? 0 : figures.fewest_nodes - 1);
         }
     uint64_t none[1024] = {0};
     minorder_figures figures;
     EXPECT(minorder_orders(none, 1024, 16, 1, NULL, 0, &figures) == MINORDER_DONE);
     EXPECT(figures.orders == 20922789888000u && figures.optimal_orders == figures.orders && figures.worst_orders == figures.orders);
     EXPECT(figures.fewest_nodes == 0 && figures.most_nodes == 0 && figures.total_nodes == 0);
+    uint64_t sized[2] = {7, 7};
+    uint32_t fewest = 77;
+    size_t sizes = 77;
+    EXPECT(minorder_sizes(none, 1, 6, 1, &itself, 1, 9, sized, 2, &fewest, &sizes) == MINORDER_BAD_PAIRS);
+    EXPECT(minorder_sizes(none, 1, 17, 1, NULL, 0, 9, sized, 2, &fewest, &sizes) == MINORDER_BAD_SHAPE && fewest == 77 && sizes == 77);
+    EXPECT(minorder_sizes(none, 1024, 16, 1, NULL, 0, 0, sized, 2, &fewest, &sizes) == MINORDER_DONE && fewest == 0 && sizes == 1);
+    EXPECT(sized[0] == 20922789888000u && sized[1] == 7);
     uint32_t widths[2] = {7, 7};
     figures.orders = 77;
     EXPECT(minorder_orders(none, 2, 6, 1, NULL, 0, &figures) == MINORDER_BAD_SHAPE && minorder_orders(none, 1, 17, 1, NULL, 0, &figures) == MINORDER_BAD_SHAPE);
@@ -629,6 +690,16 @@ static uint32_t orders_call(void) {
     minorder_figures figures = {0, 0, 0, 0, 0, 0};
     uint32_t status = minorder_orders(refused_tables, 3, 4, 3, NULL, 0, &figures);
     EXPECT((status == MINORDER_DONE) == (figures.orders == 24));
+    return status;
+}
+static uint32_t sizes_call(void) {
+    uint64_t orders[32], all = 0;
+    uint32_t fewest;
+    size_t sizes = 0;
+    uint32_t status = minorder_sizes(refused_tables, 3, 4, 3, NULL, 0, UINT32_MAX, orders, 32, &fewest, &sizes);
+    for (size_t i = 0; i < sizes; i++)
+        all += orders[i];
+    EXPECT(all == (status == MINORDER_DONE ? 24 : 0));
     return status;
 }
 static uint32_t widths_call(void) {
@@ -714,6 +785,7 @@ static void refusals(void) {
     refuse_each("minorder_exact_diagram", exact_diagram_call, 0);
     refuse_each("minorder_sift", sift_call, 0);
     refuse_each("minorder_orders", orders_call, 1);
+    refuse_each("minorder_sizes", sizes_call, 1);
     refuse_each("minorder_widths", widths_call, 1);
     refuse_each("minorder_check", check_call, 0);
     refuse_each("minorder_certify", certify_call, 0);
@@ -799,6 +871,7 @@ int main(int count, char **words) {
     pla_files();
     versions();
     no_pairs();
+    npn_classes();
     all_orders();
     bad_arguments();
     refusals();

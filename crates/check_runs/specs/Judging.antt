@@ -13,7 +13,7 @@ use Rattle.pla_reader.specs.Covers.{NamedCover, functions_of}
 use Rattle.pla_reader.specs.Reading.{FirstFault}
 use Rattle.command_line.specs.declared.ordercheck_line.CheckLine.{CheckLine}
 use Rattle.command_line.specs.Lines.{IsCheckLineOf, ordercheck}
-use Rattle.command_line.specs.Usages.{AsksForHelp}
+use Rattle.command_line.specs.Usages.{AsksForInformation}
 use Rattle.counted_io.specs.Counts.{one_more}
 use Rattle.counted_io.specs.declared.whole.Refused.{Refused as NoBytes}
 use Rattle.counted_io.specs.declared.whole.Refused.TheVariants as refused
@@ -110,7 +110,7 @@ Checks words before after outcome = IsCheckOf words × Verdicts before after out
 
 -- what the program writes that ends with status 0: help or the version, if clap answers the words with it, else the line of a good certificate of some cover
 abbrev pub ChecksWell : List (List ℕ) → Option (List ℕ) → Option (List ℕ) → Type 0
-ChecksWell words before after = AsksForHelp ordercheck words ⊎ Checks words before after Done
+ChecksWell words before after = AsksForInformation ordercheck words ⊎ Checks words before after Done
 
 -- what it writes that ends with status 1: the line of the first reason why a certificate is not good
 abbrev pub IsInvalid : List (List ℕ) → Option (List ℕ) → Option (List ℕ) → Type 0

@@ -10,9 +10,9 @@ use Rattle.clap.proofs.WalkLemmas.{first_value-rows, one_text-rows}
 use Rattle.command_line.specs.declared.ordercheck_line.CheckLine.{CheckLine}
 use Rattle.command_line.specs.declared.line.Line.{Line}
 use Rattle.command_line.specs.declared.usage.Usage.{Usage}
-use Rattle.command_line.specs.declared.usage.Usage.TheVariants.{Help, Refused, OutOfMemory}
+use Rattle.command_line.specs.declared.usage.Usage.TheVariants.{Information, Refused, OutOfMemory}
 use Rattle.command_line.specs.Lines.{IsCheckLineBy, IsCheckLineOf, IsFlag, IsLineBy, IsLineOf, IsNumber, faults_of, minorder, ordercheck, read_of, value_of}
-use Rattle.command_line.specs.Usages.{Explains, IsNoHelp, usage_kind, usage_of_kind}
+use Rattle.command_line.specs.Usages.{Explains, IsNoInformation, usage_kind, usage_of_kind}
 
 pub minorder_is_simple : is_simple minorder ≡ true
 unfolding clap_on_literals
@@ -122,7 +122,7 @@ module _ (app : App) (Lacks : List Text → Type 0) (words : List Text) where
       (explained e (kind_of e) (subst (λ a. HasKind (fault_of a words) e) is (has (ap is_simple_and_free is ∙ free))))
 
   -- so does an argument that is missing
-  pub lacking_explained : (u : Usage) → IsNoHelp u → Lacks words → Explains app Lacks words u
-  lacking_explained (Help e) h lacks = absurd h
+  pub lacking_explained : (u : Usage) → IsNoInformation u → Lacks words → Explains app Lacks words u
+  lacking_explained (Information e) h lacks = absurd h
   lacking_explained (Refused e) h lacks = inr lacks
   lacking_explained OutOfMemory h lacks = record {}

@@ -3,7 +3,7 @@
 ghost use Rattle.std.specs.Prelude.{◌≡◌, false};
 ghost use Rattle.clap.specs.Words.{rule_of};
 ghost use Rattle.command_line.specs.Lines.{required as required_rule};
-ghost use Rattle.command_line.specs.Usages.{IsNoHelp};
+ghost use Rattle.command_line.specs.Usages.{IsNoInformation};
 
 use crate::usage::Usage;
 use clap::error::ErrorKind;
@@ -23,7 +23,7 @@ pub(crate) fn required_path<'a>(alloc: Global, name: &'a str, help: &'a str) -> 
 /// message `what`, or `OutOfMemory` if memory is refused for the message. No run has this fault,
 /// because clap refuses such a command line first.
 pub(crate) fn missing_argument<'a>(mut command: Command<'a>, what: &str) -> Usage
-    ensures { IsNoHelp result }
+    ensures { IsNoInformation result }
 {
     match command.error(ErrorKind::MissingRequiredArgument, what) {
         Ok(error) => Usage::Refused(error),

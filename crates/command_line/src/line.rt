@@ -140,8 +140,8 @@ fn line_of<'a>(matches: &ArgMatches<'a>) -> Option<Line<'a>>
 impl<'a> Line<'a> {
     /// Parses `words`, those after the program's name, as a command line of minorder, by clap's
     /// rules. Options stand before or after the file, each at most once, and a value may stand in
-    /// the option's word, as in `--workers=2`. The error is `Help` if the words request help or the
-    /// version, `OutOfMemory` if memory is refused, and otherwise `Refused`.
+    /// the option's word, as in `--workers=2`. The error is `Information` if the words request help
+    /// or the version, `OutOfMemory` if memory is refused, and otherwise `Refused`.
     pub fn of_words(alloc: Global, words: &'a [&'a str]) -> Result<Line<'a>, Usage>
         ensures line { IfOk result (IsLineOf (texts words.now)) }
         ensures refused { IfErr result (Explains minorder LacksArguments (texts words.now)) }

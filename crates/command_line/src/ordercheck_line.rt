@@ -53,8 +53,8 @@ fn line_of<'a>(matches: &ArgMatches<'a>) -> Option<CheckLine<'a>>
 
 impl<'a> CheckLine<'a> {
     /// Parses `words`, those after the program's name, as a command line of ordercheck, by clap's
-    /// rules. The error is `Help` if they request help or the version, `OutOfMemory` if memory is
-    /// refused, and otherwise `Refused`.
+    /// rules. The error is `Information` if they request help or the version, `OutOfMemory` if
+    /// memory is refused, and otherwise `Refused`.
     pub fn of_words(alloc: Global, words: &'a [&'a str]) -> Result<CheckLine<'a>, Usage>
         ensures line { IfOk result (IsCheckLineOf (texts words.now)) }
         ensures refused { IfErr result (Explains ordercheck LacksPaths (texts words.now)) }

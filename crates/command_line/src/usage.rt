@@ -12,7 +12,7 @@ use std::alloc::AllocError;
 #[derive(Debug, Drop)]
 pub enum Usage {
     /// Help or the version was requested.
-    Help(Error),
+    Information(Error),
     /// The words are not as the program takes them.
     Refused(Error),
     /// An allocation was refused.
@@ -25,7 +25,7 @@ impl Usage {
         ensures { result ≡ status_of self.now }
     {
         match self {
-            Usage::Help(_) => 0,
+            Usage::Information(_) => 0,
             Usage::Refused(_) => 2,
             Usage::OutOfMemory => 4,
         }
@@ -35,11 +35,11 @@ impl Usage {
 impl From<Error> for Usage {
     ghost from_gives = { λ error usage. usage ≡ usage_kind error };
 
-    /// `Help` for clap's requests for help and for the version, `OutOfMemory` if clap was refused
-    /// memory, and `Refused` for any other error of clap.
+    /// `Information` for clap's requests for help and for the version, `OutOfMemory` if clap was
+    /// refused memory, and `Refused` for any other error of clap.
     fn from(error: Error) -> Usage {
         match error.kind() {
-            ErrorKind::DisplayHelp | ErrorKind::DisplayVersion => Usage::Help(error),
+            ErrorKind::DisplayHelp | ErrorKind::DisplayVersion => Usage::Information(error),
             ErrorKind::OutOfMemory => Usage::OutOfMemory,
             _ => Usage::Refused(error),
         }

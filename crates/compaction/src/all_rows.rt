@@ -10,10 +10,9 @@ use crate::preparation::Preparation;
 use crate::request::WidthRequest;
 use crate::shared_tables::SharedTables;
 use crate::strips::members_only;
-use order_model::{Mask, Pairs, Problem, WidthRow, Workers};
+use order_model::{Mask, Pairs, Problem, WidthRow};
 use pair_numbering::PairMemory;
 use std::alloc::{AllocError, Global};
-use std::thread::Threads;
 
 /// The widths of the members of `set` over the other members, found by a walk of its own; 0 at
 /// other variables. Requires all members of `set` to be variables of the problem.
@@ -61,7 +60,8 @@ impl<'a> Preparation<'a> {
 }
 
 /// A row for each set of variables, at its mask: at each member x the width of x over the other
-/// members, and 0 elsewhere. Takes 64 bytes for each set.
+/// members, and 0 elsewhere. Takes 64 bytes for each set beside the memory in which widths are
+/// found.
 pub fn widths_of_all_sets(alloc: Global, problem: &Problem) -> Result<Vec<WidthRow>, AllocError>
     ensures { IfOk result
         (λ rows. AreAllWidths problem.now.inputs (functions problem.now) rows.items) }
@@ -69,23 +69,5 @@ pub fn widths_of_all_sets(alloc: Global, problem: &Problem) -> Result<Vec<WidthR
     let renaming = renaming_of(alloc, problem)?;
     let mut prepared = Preparation::of(alloc, &renaming, &Pairs::none(problem.inputs()))?;
     prepared.find_all(alloc)?;
-    prepared.all_rows(alloc)
-}
-
-/// A row for each set of variables, at its mask, found by the threads of `workers` workers: at each
-/// member x the width of x over the other members, and 0 elsewhere. Takes 64 bytes for each set.
-pub fn widths_of_all_sets_by_workers<R: Threads + Sync>(
-    rt: &R,
-    alloc: Global,
-    problem: &Problem,
-    workers: Workers,
-) -> Result<Vec<WidthRow>, AllocError>
-    ensures { IfOk result
-        (λ rows. AreAllWidths problem.now.inputs (functions problem.now) rows.items) }
-{
-    let renaming = renaming_of(alloc, problem)?;
-    let n = problem.inputs();
-    let none = Pairs::none(n);
-    let prepared = Preparation::by_workers(rt, alloc, &renaming, &none, n, workers)?;
     prepared.all_rows(alloc)
 }

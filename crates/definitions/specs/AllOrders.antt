@@ -3,7 +3,7 @@
 --     orders_of_size n F P s, size_total n F P, most n F P      how many of them have size s; the sum of their sizes; the greatest of their sizes
 --     lawful_lists P S      the lists of S's members, each once, whose bottom parts are all lawful
 --     ways n F P S c, cost_total n F P S, most_cost n F P S      how many of these lists have cost c; the sum of their costs; the greatest of their costs
---     ways_with_top, cost_total_with_top, most_cost_with_top      the same for the lists of S with x on top, by those of the others
+--     ways_with_top, cost_total_with_top, most_cost_with_top      what a member x on top adds to these if S is lawful, by the lists of the others
 --     width_in n F mask x      the width of a member x of a mask over the others, 0 if x is no member
 --     AreWidthsIn n F mask row, AreAllWidths n F rows      these, at each x; for each mask of n variables
 --     factorial k      1 * 2 * .. * k
@@ -55,7 +55,7 @@ most_cost n F P S = most_of (map (cost n F) (lawful_lists P S))
 abbrev pub ways_above : ℕ → List Function → List Pair → List ℕ → ℕ → ℕ → ℕ
 ways_above n F P T w c = if nat_le w c then ways n F P T (c - w) else 0
 
--- the lists of S with x on top: how many have cost c
+-- what a member x on top adds to these if S is lawful: how many lists with cost c
 abbrev pub ways_with_top : ℕ → List Function → List Pair → List ℕ → ℕ → ℕ → ℕ
 ways_with_top n F P S c x = ways_above n F P (without x S) (width n F (without x S) x) c
 

@@ -3,6 +3,7 @@
 #![tactic(auto)]
 
 mod above;
+mod all_orders;
 mod arguments;
 mod certification;
 mod diagrams;
@@ -12,6 +13,7 @@ mod levels;
 mod many;
 mod many_diagrams;
 mod order_figures;
+mod order_sizes;
 mod pla_files;
 mod rooms;
 mod sift;

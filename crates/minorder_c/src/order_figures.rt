@@ -1,26 +1,26 @@
 //! The figures of all orders, and the widths from which they are found.
 
-ghost use Rattle.std.specs.Prelude.{◌≡◌, ◌≢◌, ◌^◌, ◌⊎◌, ◌↔◌, length, IsTrue, IfOk, IfErr, OnOk};
+ghost use Rattle.std.specs.Prelude.{◌≡◌, ◌≢◌, ◌^◌, ◌⊎◌, ◌↔◌, length, IsTrue, IfOk};
 ghost use Rattle.std.specs.List.{range_with_len};
 ghost use Rattle.definitions.specs.AllOrders.{AreAllWidths};
 ghost use Rattle.definitions.specs.KeptPairs.{CanBeKept};
 ghost use Rattle.definitions.specs.Pairs.{sorted_pairs};
 ghost use Rattle.definitions.specs.Problems.{functions};
-ghost use Rattle.order_counts.specs.Figures.{AreFiguresOfOrders};
 ghost use Rattle.minorder_c.specs.Answers.{AreTables, functions_in, given, pairs_given};
 ghost use Rattle.minorder_c.specs.OrderFigures.{AreFiguresReturned, HasWidthsShape, widths_listed};
-ghost use Rattle.minorder_c.specs.Statuses.{IsPlainStatus, RefusesPairs, ShowsPairs, ShowsShape};
+ghost use Rattle.minorder_c.specs.Statuses.{IsPlainStatus, ShowsPairs, ShowsShape};
 
-use crate::above::{AbovePair, kept_pairs};
-use crate::arguments::{GivenTables, are_tables, tables_of};
+use crate::above::AbovePair;
+use crate::all_orders::AllOrders;
+use crate::arguments::{GivenTables, are_tables};
 use crate::status::Refusal;
 use compaction::widths_of_all_sets;
-use order_counts::{Figures, figures_of_orders};
+use order_counts::figures_of_orders;
 use order_model::{Problem, WidthRow};
 use std::alloc::{AllocError, Global};
 use truth_table::Tables;
 
-/// The figures of all orders in C. If there are no orders, all are 0.
+/// The figures of all orders in C. There is at least one order.
 #[repr(C)]
 #[derive(Clone, Copy, Debug)]
 pub(crate) struct ReturnedFigures {
@@ -36,30 +36,6 @@ pub(crate) struct ReturnedFigures {
     pub fewest_nodes: u32,
     /// The most nodes under an order.
     pub most_nodes: u32,
-}
-
-/// The figures of all orders that keep the pairs `above`. Err is `Shape` if `given` does not have
-/// exactly the words of 1 to 16 truth tables of 1 to 16 inputs. Otherwise it is `Pairs` if no order
-/// of the inputs keeps the pairs, or `OutOfMemory`.
-fn figures_above(
-    alloc: Global,
-    given: &GivenTables,
-    above: &[AbovePair],
-) -> Result<Figures, Refusal>
-    ensures shape { OnOk result (AreTables given.now) }
-    ensures kept { OnOk result (CanBeKept given.now.inputs (pairs_given above.now)) }
-    ensures figures { IfOk result
-        (AreFiguresOfOrders given.now.inputs (functions_in given.now)
-        (sorted_pairs given.now.inputs (pairs_given above.now))) }
-    ensures refused { IfErr result
-        (RefusesPairs (AreTables given.now)
-        (CanBeKept given.now.inputs (pairs_given above.now))) }
-{
-    let tables = tables_of(alloc, given)?;
-    let pairs = kept_pairs(alloc, above, given.inputs as u8)?;
-    let widths = widths_of_all_sets(alloc, tables.problem())?;
-    let figures = figures_of_orders(alloc, tables.problem(), &pairs, &widths)?;
-    Ok(figures)
 }
 
 /// Writes to `figures`, for the packed truth tables `tables`, how many orders keep the pairs
@@ -85,7 +61,11 @@ pub extern "C" fn minorder_orders_with_pairs(
     ensures refused { result ≢ 0 → figures.new ≡ figures.old }
 {
     let given = GivenTables::of(tables, inputs, outputs);
-    match figures_above(alloc, &given, above) {
+    let all = match AllOrders::of(alloc, &given, above) {
+        Ok(all) => all,
+        Err(refusal) => return refusal.status(),
+    };
+    match figures_of_orders(alloc, all.tables.problem(), &all.pairs, &all.widths) {
         Ok(found) => {
             *figures = ReturnedFigures {
                 orders: found.count,
@@ -97,7 +77,7 @@ pub extern "C" fn minorder_orders_with_pairs(
             };
             0
         }
-        Err(refusal) => refusal.status(),
+        Err(_) => Refusal::OutOfMemory.status(),
     }
 }
 

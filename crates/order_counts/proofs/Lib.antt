@@ -3,3 +3,11 @@ pub mod Counts
 pub mod Rows
 pub mod Partial
 pub mod Whole
+pub mod Entries
+pub mod PassedOn
+pub mod LimitsFrom
+pub mod CountsBelow
+pub mod PartialCounts
+pub mod SetCounts
+pub mod LayerCounts
+pub mod AllSizes

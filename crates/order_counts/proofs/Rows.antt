@@ -32,7 +32,7 @@ module _ (n : ℕ) (F : List Function) (few : n ≤ 16) (outputs : length F ≤ 
       let a = (from_lists P (members n mask) xs (distinct_members n mask) m).arrangement in
       cost_small n F xs few outputs a.once (λ y h. members_small n mask y (sym (a.members y) ∙ h))
 
-  no_large : (P : List Pair) (mask c : ℕ) → 262148 < c → ways n F P (members n mask) c ≡ 0
+  pub no_large : (P : List Pair) (mask c : ℕ) → 262148 < c → ways n F P (members n mask) c ≡ 0
   unfolding ways
   no_large P mask c lt =
       sum_nothing (λ xs. cond (nat_eq (cost n F xs) c) 1 0) (lawful_lists P (members n mask))

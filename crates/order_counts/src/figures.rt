@@ -74,7 +74,7 @@ impl SizeCount {
 }
 
 /// Of all orders, or of the orders of a set's variables: how many there are, the fewest and the
-/// most nodes, and the sum of the nodes of all orders. If there are none, all is 0.
+/// most nodes, and the sum of the nodes of all orders.
 #[derive(Clone, Copy, Debug, PartialEq, Eq)]
 pub struct Figures {
     /// How many orders there are.

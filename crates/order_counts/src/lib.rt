@@ -8,4 +8,21 @@ pub mod laws;
 // The figures of all orders.
 mod figures;
 
+// How many orders have each cost.
+mod cost_counts;
+
+// For each set, the costs of its orders that can matter.
+mod limits;
+
+// How many orders of a set's variables have each cost.
+mod set_counts;
+
+// The counts of the sets of a layer.
+mod layer_counts;
+
+// How many of all orders have each size.
+mod sizes;
+
+pub use cost_counts::CostCounts;
 pub use figures::{Figures, figures_of_orders};
+pub use sizes::sizes_of_orders;

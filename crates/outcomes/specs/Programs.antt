@@ -12,7 +12,7 @@ use Rattle.outcomes.specs.declared.fault_lines.Program.TheVariants.{Minorder, Or
 use Rattle.outcomes.specs.declared.outcome.Fault.{Fault}
 use Rattle.outcomes.specs.declared.outcome.Fault.TheVariants.{OutOfMemory}
 use Rattle.outcomes.specs.Messages.{IsTold, Receives, Writer, fault_line}
-use Rattle.outcomes.specs.Statuses.{IsHelp, IsRefusal, check_exits, exits, usage_exits}
+use Rattle.outcomes.specs.Statuses.{IsInformation, IsRefusal, check_exits, exits, usage_exits}
 
 -- what a program's output holds, if it is known, and its standard error
 pub record Streams : Type 0 where
@@ -57,7 +57,7 @@ pub record ProgramEnds (program : Program) (MayEnd : Fault → Type 0) (words : 
 pub record UsageEnds (program : Program) (usage : Usage) (status : ℕ) (before after : Streams) : Type 0 where
   pub is_an_exit_status : IsTrue (has usage_exits status)
   -- 0: only if help or the version was asked for, and standard error gets nothing
-  pub is_help : status ≡ 0 → IsHelp usage
+  pub is_information : status ≡ 0 → IsInformation usage
   pub reports_no_fault : status ≡ 0 → after.err.holds ≡ before.err.holds
   -- 2: only if the words are refused
   pub is_refusal : status ≡ 2 → IsRefusal usage

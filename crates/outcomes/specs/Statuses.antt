@@ -39,9 +39,9 @@ certificate_refusal cert.TooLong = CertificateTooLong
 certificate_refusal cert.OutOfMemory = OutOfMemory
 
 -- help or the version was asked for
-abbrev pub IsHelp : Usage → Type 0
-IsHelp (usage.Help error) = Unit {0}
-IsHelp _ = ⊥
+abbrev pub IsInformation : Usage → Type 0
+IsInformation (usage.Information error) = Unit {0}
+IsInformation _ = ⊥
 
 -- words are refused
 abbrev pub IsRefusal : Usage → Type 0

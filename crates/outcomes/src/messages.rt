@@ -66,7 +66,7 @@ pub fn write_usage<W: CountedWrite, E: CountedWrite>(
         (streams (W.contents out.new) (writer (E.contents err.new) (E.failures err.new))) }
 {
     let text = match usage {
-        Usage::Help(error) | Usage::Refused(error) => format!(in alloc; "{error}").ok(),
+        Usage::Information(error) | Usage::Refused(error) => format!(in alloc; "{error}").ok(),
         Usage::OutOfMemory => None,
     };
     let Some(text) = text else {
@@ -74,7 +74,7 @@ pub fn write_usage<W: CountedWrite, E: CountedWrite>(
         return MEMORY_STATUS;
     };
     let _ = match usage {
-        Usage::Help(_) => write_whole(out, text.as_bytes()),
+        Usage::Information(_) => write_whole(out, text.as_bytes()),
         Usage::Refused(_) | Usage::OutOfMemory => write_whole(err, text.as_bytes()),
     };
     usage.status()

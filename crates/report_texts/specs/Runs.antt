@@ -22,7 +22,7 @@ use Rattle.pla_reader.specs.Reading.{Reads, FirstFault}
 use Rattle.command_line.specs.declared.line.RunPlan.{RunPlan}
 use Rattle.command_line.specs.declared.line.Line.{Line as CommandLine}
 use Rattle.command_line.specs.Lines.{IsLineOf, minorder}
-use Rattle.command_line.specs.Usages.{AsksForHelp}
+use Rattle.command_line.specs.Usages.{AsksForInformation}
 use Rattle.outcomes.specs.declared.outcome.Fault.{Fault}
 use Rattle.outcomes.specs.declared.outcome.Outcome.{Outcome}
 use Rattle.outcomes.specs.declared.outcome.Outcome.TheVariants.{Done, Invalid, Refused}
@@ -131,7 +131,7 @@ WritesGood plan file before after Invalid = Unit {0}
 -- what a program writes to its output that ends with status 0: help or the version, if clap answers the words with it, else the text of some cover
 abbrev pub EndsWell : List (List ℕ) → Option (List ℕ) → Option (List ℕ) → Type 0
 EndsWell words before after =
-    AsksForHelp minorder words ⊎
+    AsksForInformation minorder words ⊎
     ((line : CommandLine) × IsLineOf words line × (cover : NamedCover) × (text : List ℕ) × IsCover cover
     × IsTextOf line.plan cover text × Appends before after text)
 

@@ -21,7 +21,8 @@ use std::alloc::{AllocError, Global};
 pub struct DiagramMemory {
     /// The nodes of the last diagram that was made, lower levels first.
     pub nodes: Vec<NumberedNode>,
-    /// The number of each output's root in that diagram, numbered as the children of its nodes are.
+    /// The number of each output's root in that diagram, numbered as the children of its nodes are;
+    /// while a diagram is made, the values of the functions at all points, in which levels are found.
     pub roots: Vec<u32>,
     /// Working memory: the points of all assignments.
     points: Vec<u32>,
@@ -43,7 +44,7 @@ impl DiagramMemory {
 
 /// Turns the values of some functions under `order`, which `memory.roots` has, into their reduced
 /// diagram under it: writes its nodes, lower levels first, and its roots to `memory`. If memory is
-/// refused, this has no meaning. Requires at most 2^20 values.
+/// refused, `memory` has no meaning. Requires at most 2^20 values.
 fn add_levels(order: &[VarIx], memory: &mut DiagramMemory) -> Result<(), AllocError>
     requires { length memory.old.roots.items ≤ 2 ^ 20 }
     ensures diagram { OnOk result ((t : TruthTables) →

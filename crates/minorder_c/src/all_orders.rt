@@ -1,0 +1,51 @@
+//! What the figures and the sizes of all orders are found from.
+
+ghost use Rattle.std.specs.Prelude.{IfOk, IfErr, OnOk};
+ghost use Rattle.definitions.specs.KeptPairs.{CanBeKept};
+ghost use Rattle.minorder_c.specs.Answers.{AreTables, pairs_given};
+ghost use Rattle.minorder_c.specs.OrderFigures.{IsForOrders};
+ghost use Rattle.minorder_c.specs.Statuses.{RefusesPairs};
+
+use crate::above::{AbovePair, kept_pairs};
+use crate::arguments::{GivenTables, tables_of};
+use crate::status::Refusal;
+use compaction::widths_of_all_sets;
+use order_model::{Pairs, WidthRow};
+use std::alloc::Global;
+use truth_table::Tables;
+
+/// Truth tables, the pairs that orders keep, and the widths of all sets.
+#[derive(Drop)]
+pub(crate) struct AllOrders {
+    pub tables: Tables,
+    pub pairs: Pairs,
+    /// For each set, at its mask: at each member x the width of x over the others.
+    pub widths: Vec<WidthRow>,
+}
+
+impl AllOrders {
+    /// Those of `given` and of the pairs `above`. Err is `Shape` if `given` does not have exactly
+    /// the words of 1 to 16 truth tables of 1 to 16 inputs. Otherwise it is `Pairs` if no order of
+    /// the inputs keeps the pairs, or `OutOfMemory`.
+    pub(crate) fn of(
+        alloc: Global,
+        given: &GivenTables,
+        above: &[AbovePair],
+    ) -> Result<AllOrders, Refusal>
+        ensures shape { OnOk result (AreTables given.now) }
+        ensures kept { OnOk result (CanBeKept given.now.inputs (pairs_given above.now)) }
+        ensures all { IfOk result (IsForOrders given.now above.now) }
+        ensures refused { IfErr result
+            (RefusesPairs (AreTables given.now)
+            (CanBeKept given.now.inputs (pairs_given above.now))) }
+    {
+        let tables = tables_of(alloc, given)?;
+        let pairs = kept_pairs(alloc, above, given.inputs as u8)?;
+        let widths = widths_of_all_sets(alloc, tables.problem())?;
+        Ok(AllOrders {
+            tables,
+            pairs,
+            widths,
+        })
+    }
+}

@@ -1,0 +1,5 @@
+use Rattle.order_counts.proofs.LayerCounts.{AreCountsTo}
+use Rattle.order_counts.proofs.layer_counts.counts_of_nothing.Given as goal
+
+abbrev pub invariant-loop-set : goal.invariant-loop-set
+invariant-loop-set l = AreCountsTo l.given 0 l._set l.counts.items
