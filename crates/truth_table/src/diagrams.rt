@@ -21,8 +21,8 @@ use std::alloc::{AllocError, Global};
 pub struct DiagramMemory {
     /// The nodes of the last diagram that was made, lower levels first.
     pub nodes: Vec<NumberedNode>,
-    /// The number of each output's root in that diagram, numbered as the children of its nodes are;
-    /// while a diagram is made, the values of the functions at all points, in which levels are found.
+    /// The number of each output's root in that diagram, numbered as the children of its nodes are.
+    /// While a diagram is made, the values of the functions at all points.
     pub roots: Vec<u32>,
     /// Working memory: the points of all assignments.
     points: Vec<u32>,
