@@ -1,8 +1,12 @@
 use std::slice;
 
 use crate::library::{self, done};
+use crate::many::{shape_of_all, Many};
 use crate::orders::check_order;
-use crate::{Error, Tables};
+use crate::{Error, FoundOrder, Tables};
+
+/// A call for many diagrams has room for at most so many nodes.
+const ROOM: usize = 1 << 20;
 
 /// A node of a diagram: its variable, and its children where that is 0 and where it is 1.
 /// 0 and 1 are the terminals, k + 2 is node k.
@@ -82,8 +86,69 @@ impl<'a> IntoIterator for &'a Diagram {
 /// # Errors
 /// [`Error::BadOrder`], and those of [every call](Error).
 pub fn diagram(tables: &Tables, order: &[u8]) -> Result<Diagram, Error> {
-    check_order(tables, order)?;
+    check_order(tables.inputs(), order)?;
     written(tables, |nodes, roots, count| library::diagram(tables, order, nodes, roots, count))
+}
+
+/// The first order of the fewest nodes, as [`exact`](crate::exact) gives it, and the reduced shared
+/// diagram under it, as [`diagram`] gives it, by one call.
+///
+/// ```
+/// use minorder::{exact_diagram, Tables};
+///
+/// let mux = Tables::from_words(3, 1, vec![0xca])?;
+/// let (found, best) = exact_diagram(&mux)?;
+/// assert_eq!(found.to_string(), "2 0 1: 3 nodes");
+/// assert_eq!(best.nodes.len(), 3);
+/// assert!((0..8).all(|point| best.value(point, 0) == mux.value(point, 0)));
+/// # Ok::<(), minorder::Error>(())
+/// ```
+///
+/// # Errors
+/// Those of [every call](Error).
+pub fn exact_diagram(tables: &Tables) -> Result<(FoundOrder, Diagram), Error> {
+    let mut found = FoundOrder::place(vec![0; tables.inputs()]);
+    let best = written(tables, |nodes, roots, count| {
+        let status = library::exact_diagram(tables, &mut found, nodes, roots)?;
+        *count = found.total as usize;
+        Ok(status)
+    })?;
+    Ok((found, best))
+}
+
+/// What [`exact_diagram`] gives for each of many problems with the same numbers of inputs and
+/// outputs. For small problems it takes less time than as many calls.
+///
+/// ```
+/// use minorder::{exact_diagram_many, Tables};
+///
+/// let problems: Vec<Tables> =
+///     (0..16).map(|table| Tables::from_words(2, 1, vec![table])).collect::<Result<_, _>>()?;
+/// let answers = exact_diagram_many(&problems)?;
+/// assert!(answers.iter().all(|(found, best)| best.nodes.len() == found.total as usize));
+/// let xor = &answers[6].1;
+/// assert_eq!([0, 1, 2, 3].map(|point| xor.value(point, 0)), [false, true, true, false]);
+/// # Ok::<(), minorder::Error>(())
+/// ```
+///
+/// # Errors
+/// [`Error::OtherShape`], and those of [every call](Error).
+pub fn exact_diagram_many(problems: &[Tables]) -> Result<Vec<(FoundOrder, Diagram)>, Error> {
+    let (inputs, outputs) = shape_of_all(problems)?;
+    let most = most_nodes(inputs, outputs);
+    let mut answers = Vec::with_capacity(problems.len());
+    for part in problems.chunks(ROOM / most) {
+        let mut many = Many::of(part, (inputs, outputs));
+        let mut nodes = vec![Node::default(); part.len() * most];
+        let mut roots = vec![0; part.len() * outputs];
+        done(library::exact_diagram_many(&mut many, &mut nodes, &mut roots)?)?;
+        let mut nodes = nodes.into_iter();
+        for (found, roots) in many.found().into_iter().zip(roots.chunks(outputs)) {
+            let nodes = nodes.by_ref().take(found.total as usize).collect();
+            answers.push((found, Diagram { inputs, nodes, roots: roots.to_vec() }));
+        }
+    }
+    Ok(answers)
 }
 
 /// The diagram that a call writes: its nodes, its roots, and the number of its nodes.
@@ -101,7 +166,7 @@ fn written(
 
 /// As many nodes as a diagram of such functions has at most: on each level one for each output
 /// and values of the variables above, and one for each function of its variables and those below.
-fn most_nodes(inputs: usize, outputs: usize) -> usize {
+pub(crate) fn most_nodes(inputs: usize, outputs: usize) -> usize {
     let level = |above: usize| match inputs - above {
         below @ 1..=4 => (outputs << above).min(1 << (1 << below)),
         _ => outputs << above,

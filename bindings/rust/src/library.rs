@@ -1,8 +1,9 @@
 //! The calls of the C library as functions over slices, which give its statuses.
 #![allow(unsafe_code)]
 
+use crate::many::Many;
 use crate::version::check_library;
-use crate::{Error, FoundOrder, Node, Pair, Tables};
+use crate::{Error, Figures, FoundOrder, Node, Pair, Tables};
 
 /// The answer of a check.
 #[derive(Default)]
@@ -67,6 +68,29 @@ extern "C" {
         tables: *const u64, words: usize, inputs: u32, outputs: u32,
         order: *const u8, order_length: usize, nodes: *mut Node, room: usize,
         roots: *mut u32, roots_length: usize, count: *mut usize,
+    ) -> u32;
+    fn minorder_exact_diagram_with_lengths(
+        tables: *const u64, words: usize, inputs: u32, outputs: u32,
+        order: *mut u8, order_length: usize, levels: *mut u32, levels_length: usize,
+        nodes: *mut Node, room: usize, roots: *mut u32, roots_length: usize, total: *mut u32,
+    ) -> u32;
+    fn minorder_exact_diagram_many_with_lengths(
+        tables: *const u64, words: usize, inputs: u32, outputs: u32,
+        totals: *mut u32, count: usize, orders: *mut u8, orders_length: usize,
+        levels: *mut u32, levels_length: usize, nodes: *mut Node, room: usize,
+        roots: *mut u32, roots_length: usize,
+    ) -> u32;
+    fn minorder_orders_with_pairs(
+        tables: *const u64, words: usize, inputs: u32, outputs: u32, pairs: *const Pair, count: usize,
+        figures: *mut Figures,
+    ) -> u32;
+    fn minorder_sizes_with_pairs(
+        tables: *const u64, words: usize, inputs: u32, outputs: u32, pairs: *const Pair, count: usize,
+        most: u32, orders: *mut u64, room: usize, fewest: *mut u32, sizes: *mut usize,
+    ) -> u32;
+    fn minorder_widths_with_lengths(
+        tables: *const u64, words: usize, inputs: u32, outputs: u32,
+        widths: *mut u32, widths_length: usize,
     ) -> u32;
     fn minorder_certify_with_pairs(
         tables: *const u64, words: usize, inputs: u32, outputs: u32, pairs: *const Pair, count: usize,
@@ -159,27 +183,21 @@ pub fn exact_above(tables: &Tables, pairs: &[Pair], found: &mut FoundOrder) -> R
     })
 }
 
-/// `shape` is the inputs and outputs of each problem.
-pub fn exact_many(
-    words: &[u64],
-    shape: (usize, usize),
-    orders: &mut [u8],
-    levels: &mut [u32],
-    totals: &mut [u32],
-) -> Result<u32, Error> {
+pub fn exact_many(many: &mut Many) -> Result<u32, Error> {
+    let (inputs, outputs) = many.shape;
     // SAFETY: as in `exact`.
     status_of(|| unsafe {
         minorder_exact_many_with_lengths(
-            words.as_ptr(),
-            words.len(),
-            small(shape.0),
-            small(shape.1),
-            orders.as_mut_ptr(),
-            orders.len(),
-            levels.as_mut_ptr(),
-            levels.len(),
-            totals.as_mut_ptr(),
-            totals.len(),
+            many.words.as_ptr(),
+            many.words.len(),
+            small(inputs),
+            small(outputs),
+            many.orders.as_mut_ptr(),
+            many.orders.len(),
+            many.levels.as_mut_ptr(),
+            many.levels.len(),
+            many.totals.as_mut_ptr(),
+            many.totals.len(),
         )
     })
 }
@@ -242,6 +260,119 @@ pub fn diagram(
             roots.as_mut_ptr(),
             roots.len(),
             count,
+        )
+    })
+}
+
+pub fn exact_diagram(
+    tables: &Tables,
+    found: &mut FoundOrder,
+    nodes: &mut [Node],
+    roots: &mut [u32],
+) -> Result<u32, Error> {
+    let (words, (inputs, outputs)) = (tables.words(), shape(tables));
+    let FoundOrder { order, levels, total } = found;
+    // SAFETY: as in `diagram`.
+    status_of(|| unsafe {
+        minorder_exact_diagram_with_lengths(
+            words.as_ptr(),
+            words.len(),
+            inputs,
+            outputs,
+            order.as_mut_ptr(),
+            order.len(),
+            levels.as_mut_ptr(),
+            levels.len(),
+            nodes.as_mut_ptr(),
+            nodes.len(),
+            roots.as_mut_ptr(),
+            roots.len(),
+            total,
+        )
+    })
+}
+
+pub fn exact_diagram_many(
+    many: &mut Many,
+    nodes: &mut [Node],
+    roots: &mut [u32],
+) -> Result<u32, Error> {
+    let (inputs, outputs) = many.shape;
+    // SAFETY: as in `diagram`.
+    status_of(|| unsafe {
+        minorder_exact_diagram_many_with_lengths(
+            many.words.as_ptr(),
+            many.words.len(),
+            small(inputs),
+            small(outputs),
+            many.totals.as_mut_ptr(),
+            many.totals.len(),
+            many.orders.as_mut_ptr(),
+            many.orders.len(),
+            many.levels.as_mut_ptr(),
+            many.levels.len(),
+            nodes.as_mut_ptr(),
+            nodes.len(),
+            roots.as_mut_ptr(),
+            roots.len(),
+        )
+    })
+}
+
+pub fn orders(tables: &Tables, pairs: &[Pair], figures: &mut Figures) -> Result<u32, Error> {
+    let (words, (inputs, outputs)) = (tables.words(), shape(tables));
+    // SAFETY: as in `exact`; a `Pair` and a `Figures` are laid out as C's.
+    status_of(|| unsafe {
+        minorder_orders_with_pairs(
+            words.as_ptr(),
+            words.len(),
+            inputs,
+            outputs,
+            pairs.as_ptr(),
+            pairs.len(),
+            figures,
+        )
+    })
+}
+
+pub fn sizes(
+    tables: &Tables,
+    pairs: &[Pair],
+    most: u32,
+    orders: &mut [u64],
+    fewest: &mut u32,
+    length: &mut usize,
+) -> Result<u32, Error> {
+    let (words, (inputs, outputs)) = (tables.words(), shape(tables));
+    // SAFETY: as in `exact`; a `Pair` is laid out as C's.
+    status_of(|| unsafe {
+        minorder_sizes_with_pairs(
+            words.as_ptr(),
+            words.len(),
+            inputs,
+            outputs,
+            pairs.as_ptr(),
+            pairs.len(),
+            most,
+            orders.as_mut_ptr(),
+            orders.len(),
+            fewest,
+            length,
+        )
+    })
+}
+
+pub fn widths(tables: &Tables, widths: &mut [u32]) -> Result<u32, Error> {
+    let (words, (inputs, outputs)) = (tables.words(), shape(tables));
+    // SAFETY: as in `exact`.
+    status_of(|| unsafe {
+        minorder_widths_with_lengths(
+            words.as_ptr(),
+            words.len(),
+            inputs,
+            outputs,
+            widths.as_mut_ptr(),
+            widths.len(),
         )
     })
 }

@@ -1,6 +1,7 @@
 use std::fmt;
 
 use crate::library::{self, done};
+use crate::many::{shape_of_all, Many};
 use crate::{Error, Tables};
 
 /// A pair of variables: `above` has to stand above `below`.
@@ -27,7 +28,7 @@ pub struct FoundOrder {
 
 impl FoundOrder {
     /// A place for the library's answer.
-    fn place(order: Vec<u8>) -> Self {
+    pub(crate) fn place(order: Vec<u8>) -> Self {
         Self { levels: vec![0; order.len()], order, total: 0 }
     }
 }
@@ -37,7 +38,7 @@ impl fmt::Display for FoundOrder {
         for (level, variable) in self.order.iter().enumerate() {
             write!(to, "{}{variable}", if level == 0 { "" } else { " " })?;
         }
-        write!(to, ": {} node{}", self.total, if self.total == 1 { "" } else { "s" })
+        write!(to, ": {}", counted(self.total.into(), "node"))
     }
 }
 
@@ -100,24 +101,9 @@ pub fn exact_above(tables: &Tables, pairs: &[Pair]) -> Result<FoundOrder, Error>
 /// # Errors
 /// [`Error::OtherShape`], and those of [every call](Error).
 pub fn exact_many(problems: &[Tables]) -> Result<Vec<FoundOrder>, Error> {
-    let Some(first) = problems.first() else { return Ok(Vec::new()) };
-    if let Some(other) = problems.iter().position(|tables| tables.shape() != first.shape()) {
-        return Err(Error::OtherShape(other));
-    }
-    let inputs = first.inputs();
-    let words: Vec<u64> = problems.iter().flat_map(Tables::words).copied().collect();
-    let mut orders = vec![0; problems.len() * inputs];
-    let mut levels = vec![0; problems.len() * inputs];
-    let mut totals = vec![0; problems.len()];
-    done(library::exact_many(&words, first.shape(), &mut orders, &mut levels, &mut totals)?)?;
-    let each = orders.chunks(inputs).zip(levels.chunks(inputs)).zip(totals);
-    Ok(each
-        .map(|((order, levels), total)| FoundOrder {
-            order: order.to_vec(),
-            levels: levels.to_vec(),
-            total,
-        })
-        .collect())
+    let mut many = Many::of(problems, shape_of_all(problems)?);
+    done(library::exact_many(&mut many)?)?;
+    Ok(many.found())
 }
 
 /// The level counts of the shared diagram under an order.
@@ -131,7 +117,7 @@ pub fn exact_many(problems: &[Tables]) -> Result<Vec<FoundOrder>, Error> {
 /// # Errors
 /// [`Error::BadOrder`], and those of [every call](Error).
 pub fn levels(tables: &Tables, order: &[u8]) -> Result<Vec<u32>, Error> {
-    check_order(tables, order)?;
+    check_order(tables.inputs(), order)?;
     let mut levels = vec![0; tables.inputs()];
     done(library::levels(tables, order, &mut levels)?)?;
     Ok(levels)
@@ -148,15 +134,14 @@ pub fn levels(tables: &Tables, order: &[u8]) -> Result<Vec<u32>, Error> {
 /// # Errors
 /// [`Error::BadOrder`], and those of [every call](Error).
 pub fn sift(tables: &Tables, order: &[u8]) -> Result<FoundOrder, Error> {
-    check_order(tables, order)?;
+    check_order(tables.inputs(), order)?;
     let mut found = FoundOrder::place(order.to_vec());
     done(library::sift(tables, &mut found)?)?;
     Ok(found)
 }
 
 /// Refuses an order that hasn't each variable once.
-pub(crate) fn check_order(tables: &Tables, order: &[u8]) -> Result<(), Error> {
-    let inputs = tables.inputs();
+pub(crate) fn check_order(inputs: usize, order: &[u8]) -> Result<(), Error> {
     let mut sorted = order.to_vec();
     sorted.sort_unstable();
     if sorted.iter().map(|&variable| usize::from(variable)).eq(0..inputs) {
@@ -173,4 +158,9 @@ pub(crate) fn check_pairs(tables: &Tables, pairs: &[Pair]) -> Result<(), Error> 
         Some(&pair) => Err(Error::PairOutOfRange { pair, inputs }),
         None => Ok(()),
     }
+}
+
+/// A number of things, as `1 node` and `2 nodes`.
+pub(crate) fn counted(count: u64, thing: &str) -> String {
+    format!("{count} {thing}{}", if count == 1 { "" } else { "s" })
 }

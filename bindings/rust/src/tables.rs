@@ -224,7 +224,7 @@ impl Tables {
     }
 
     /// The functions that are 0 everywhere.
-    fn zero(inputs: usize, outputs: usize) -> Result<Self, Error> {
+    pub(crate) fn zero(inputs: usize, outputs: usize) -> Result<Self, Error> {
         if !(1..=MOST_INPUTS).contains(&inputs) {
             return Err(Error::BadInputs(inputs));
         }
