@@ -7,6 +7,9 @@
     levels(tables, order)     the level counts under an order
     sift(tables, order)       what one pass of sifting makes of an order
     diagram(tables, order)    the diagram under an order, which a notebook shows
+    orders(tables)            the fewest, the mean and the most nodes over all orders
+    sizes(tables)             how many orders have each size, which a notebook shows as a curve
+    widths(tables)            the widths of all variables over all sets of others
     variables("a b s")        the tables of variables, which &, |, ^, ~ and ite join
     ite(test, high, low)      the table of if, then, else
     from_values(values)       the table of a list or text of values
@@ -49,11 +52,14 @@ The calls are made by the shared library libminorder, without the interpreter's 
 the file that the environment variable MINORDER_LIBRARY names, else one beside this module or in the lib/ of the checkout or
 prefix that it lies in, else what the loader finds.
 """
+from ._all_orders import Widths, orders, sizes, widths
 from ._calls import Result, Verdict, certify, check, diagram, exact, levels, sift
 from ._diagrams import Diagram, Node
 from ._errors import (
-    BadArgument, BadCertificate, BadOrder, BadPairs, BadPath, BadPla, BadShape, BadText, MinorderError, NoGraphviz, NoLibrary)
+    BadArgument, BadCertificate, BadOrder, BadPairs, BadPath, BadPla, BadShape, BadSize, BadText, MinorderError, NoGraphviz,
+    NoLibrary, NoMatplotlib)
 from ._many import exact_many
+from ._sizes import Orders, Sizes
 from ._tables import Pla, Table, Tables
 from ._truth_tables import TruthTable, from_hexadecimal, from_values, ite, variables
 from .batch import FileReport, Report, Status, report_files
@@ -61,9 +67,10 @@ from .files import read_pla
 
 __version__ = "1.0.0"
 __all__ = [
-    "BadArgument", "BadCertificate", "BadOrder", "BadPairs", "BadPath", "BadPla", "BadShape", "BadText", "MinorderError",
-    "NoGraphviz", "NoLibrary",
-    "Diagram", "FileReport", "Node", "Pla", "Report", "Result", "Status", "Table", "Tables", "TruthTable", "Verdict",
-    "certify", "check", "diagram", "exact", "exact_many", "from_hexadecimal", "from_values", "ite", "levels", "read_pla",
-    "report_files", "sift", "variables",
+    "BadArgument", "BadCertificate", "BadOrder", "BadPairs", "BadPath", "BadPla", "BadShape", "BadSize", "BadText",
+    "MinorderError", "NoGraphviz", "NoLibrary", "NoMatplotlib",
+    "Diagram", "FileReport", "Node", "Orders", "Pla", "Report", "Result", "Sizes", "Status", "Table", "Tables", "TruthTable",
+    "Verdict", "Widths",
+    "certify", "check", "diagram", "exact", "exact_many", "from_hexadecimal", "from_values", "ite", "levels", "orders",
+    "read_pla", "report_files", "sift", "sizes", "variables", "widths",
 ]

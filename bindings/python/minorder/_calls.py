@@ -95,7 +95,7 @@ def done(status: int) -> None:
         raise error(text)
 
 
-def _functions_of(tables: Tables, inputs: Optional[int]) -> Functions:
+def functions_of(tables: Tables, inputs: Optional[int]) -> Functions:
     """The functions that are given, of so many variables; of as many as they say themselves if that is left out."""
     each = listed(tables)
     if isinstance(inputs, TruthTable):
@@ -117,12 +117,17 @@ def _in_words(tables: Tables, each: Sequence[Table], inputs: int) -> Functions:
 
 def _ordered(tables: Tables, order: Order) -> Tuple[Functions, Tuple[int, ...]]:
     """The functions that are given, and an order of their variables. Raises BadArgument, BadShape, BadOrder."""
-    variables = order_of(order.order if isinstance(order, Result) else order)
     each = listed(tables)
-    said = inputs_said(each)
-    if said not in (None, len(variables)):
-        raise BadOrder(f"order: {shown(variables)}: the tables have {said} variables, and an order has each once")
+    variables = variables_of(order, inputs_said(each))
     return _in_words(tables, each, len(variables)), variables
+
+
+def variables_of(order: Order, inputs: Optional[int]) -> Tuple[int, ...]:
+    """An order, top first, of so many variables, of any number if that is None. Raises BadArgument, BadShape, BadOrder."""
+    variables = order_of(order.order if isinstance(order, Result) else order)
+    if inputs not in (None, len(variables)):
+        raise BadOrder(f"order: {shown(variables)}: the tables have {inputs} variables, and an order has each once")
+    return variables
 
 
 def _result_of(functions: Functions, order: Iterable[int], levels: Iterable[int], total: int) -> Result:
@@ -131,7 +136,8 @@ def _result_of(functions: Functions, order: Iterable[int], levels: Iterable[int]
     return found
 
 
-def _pairs_of(above: Iterable[Tuple[int, int]], inputs: int) -> "Array[Pair]":
+def pairs_of(above: Iterable[Tuple[int, int]], inputs: int) -> Tuple["Array[Pair]", int]:
+    """The pairs, with room for one at least, and how many they are. Raises BadArgument, BadPairs."""
     pairs = []
     for pair in items_of(above, "above", "sequence of pairs of variables"):
         if isinstance(pair, (set, frozenset)):
@@ -142,7 +148,7 @@ def _pairs_of(above: Iterable[Tuple[int, int]], inputs: int) -> "Array[Pair]":
         if not all(0 <= variable < inputs for variable in both):
             raise BadPairs(f"above: {shown(pair)}: variables are 0 to {inputs - 1}")
         pairs.append(Pair(*both))
-    return (Pair * len(pairs))(*pairs)
+    return (Pair * max(1, len(pairs)))(*pairs), len(pairs)
 
 
 def exact(tables: Tables, inputs: Optional[int] = None, above: Iterable[Tuple[int, int]] = ()) -> Result:
@@ -158,13 +164,13 @@ def exact(tables: Tables, inputs: Optional[int] = None, above: Iterable[Tuple[in
         >>> minorder.exact(0xca, inputs=3, above=[(0, 2)]).order
         (0, 2, 1)
     """
-    functions = _functions_of(tables, inputs)
+    functions = functions_of(tables, inputs)
     given, inputs = functions.given(), functions.inputs
-    pairs = _pairs_of(above, inputs)
+    pairs, count = pairs_of(above, inputs)
     order, levels, total = (c_uint8 * inputs)(), (c_uint32 * inputs)(), c_uint32()
     places = order, inputs, levels, inputs, byref(total)
-    if len(pairs):
-        done(aside(inputs, library().minorder_exact_above_with_lengths, *given, pairs, len(pairs), *places))
+    if count:
+        done(aside(inputs, library().minorder_exact_above_with_lengths, *given, pairs, count, *places))
     else:
         done(aside(inputs, library().minorder_exact_with_lengths, *given, *places))
     return _result_of(functions, order, levels, total.value)
@@ -174,9 +180,8 @@ def certify(tables: Tables, inputs: Optional[int] = None, above: Iterable[Tuple[
     """The text of the certificate of the first order of the fewest nodes, as ``minorder --cert`` writes it and ``check`` and
     ``ordercheck`` accept it. The arguments are those of ``exact``, and so is what it raises; it takes longer.
     """
-    functions = _functions_of(tables, inputs)
-    pairs = _pairs_of(above, functions.inputs)
-    given = *functions.given(), pairs if len(pairs) else (Pair * 1)(), len(pairs)
+    functions = functions_of(tables, inputs)
+    given = *functions.given(), *pairs_of(above, functions.inputs)
     # room for most certificates; where it isn't enough, the call says how long the text is
     room, length = 1 << 16, c_size_t()
     while True:
@@ -194,10 +199,13 @@ def levels(tables: Tables, order: Order) -> Tuple[int, ...]:
         >>> minorder.levels(lambda a, b, s: b if s else a, [0, 1, 2])
         (1, 2, 2)
     """
-    functions, variables = _ordered(tables, order)
+    return levels_of(*_ordered(tables, order))
+
+
+def levels_of(functions: Functions, order: Tuple[int, ...]) -> Tuple[int, ...]:
     inputs = functions.inputs
     counts, given = (c_uint32 * inputs)(), functions.given()
-    done(library().minorder_levels_with_lengths(*given, (c_uint8 * inputs)(*variables), inputs, counts, inputs))
+    done(library().minorder_levels_with_lengths(*given, (c_uint8 * inputs)(*order), inputs, counts, inputs))
     return tuple(counts)
 
 
@@ -228,7 +236,7 @@ def diagram(tables: Tables, order: Order) -> Diagram:
 
 def _diagram_of(functions: Functions, order: Tuple[int, ...]) -> Diagram:
     inputs, outputs = functions.inputs, functions.outputs
-    room = _most_nodes(inputs, outputs)
+    room = most_nodes(inputs, outputs)
     nodes, roots, count = (NodeRow * room)(), (c_uint32 * outputs)(), c_size_t()
     places = nodes, room, roots, outputs, byref(count)
     done(library().minorder_diagram_with_lengths(*functions.given(), (c_uint8 * inputs)(*order), inputs, *places))
@@ -236,7 +244,7 @@ def _diagram_of(functions: Functions, order: Tuple[int, ...]) -> Diagram:
     return Diagram(order, tuple(map(Node._make, rows)), tuple(roots), *functions.names)
 
 
-def _most_nodes(inputs: int, outputs: int) -> int:
+def most_nodes(inputs: int, outputs: int) -> int:
     """No diagram has more: on a level at most a node for each assignment of the variables above and each output, and one for
     each function of the variables from the level on that depends on the first of them."""
     levels = ((outputs << level, 1 << (1 << (inputs - level)), 1 << (1 << (inputs - level - 1))) for level in range(inputs))
@@ -255,7 +263,7 @@ def check(tables: Tables, certificate: Union[str, bytes], inputs: Optional[int] 
     text = certificate.encode("utf-8", "surrogateescape") if isinstance(certificate, str) else bytes(certificate)
     if inputs is None and inputs_said(listed(tables)) is None:
         inputs = inputs_of(text)
-    functions = _functions_of(tables, inputs)
+    functions = functions_of(tables, inputs)
     judged, total, pairs, count = Judged(), c_uint32(), (Pair * MOST_PAIRS)(), c_size_t()
     # an empty text also is given an address
     spelled = (c_uint8 * max(1, len(text))).from_buffer_copy(text or b"\0")

@@ -13,7 +13,7 @@ from ._arguments import in_turn, names_of, order_of, shown, whole
 from ._drawings import counted
 from ._errors import BadPath, BadShape
 from ._truth_tables import TruthTable
-from ._writing import path_of, write_file
+from ._writing import path_of, suffix_among, write_file
 
 T = TypeVar("T")
 # a notebook shows larger ones as bars
@@ -208,13 +208,7 @@ SUFFIXES = (*TEXTS, ".dot", *_drawings.PICTURES)
 
 def suffix_of(path: str) -> str:
     """What the name of a diagram's file ends in. Raises BadPath."""
-    suffix = os.path.splitext(path)[1].lower()
-    if os.path.basename(path).lower() in SUFFIXES:
-        raise BadPath(f"{path}: a diagram's file has a name in front of its suffix")
-    if suffix not in SUFFIXES:
-        ends = f"{', '.join(SUFFIXES[:-1])} or {SUFFIXES[-1]}"
-        raise BadPath(f"{path or repr(path)}: the name of a diagram's file ends in {ends}")
-    return suffix
+    return suffix_among(path, SUFFIXES, "a diagram's file")
 
 
 def write_diagrams(path: str, parts: _drawings.Parts, title: str) -> None:

@@ -1,6 +1,6 @@
 """How each command of the package begins and ends: its statuses, its messages, its signals.
 
-0; 1 without the library, or without Graphviz for a picture, 2 for words that are refused, 3 for a file or results that are,
+0; 1 without the library, or without what makes a picture, 2 for words that are refused, 3 for a file or results that are,
 4 out of memory or threads, 5 where a file isn't read or written or standard output takes no more. Each message is a line.
 Ctrl-C and a reader that takes no more end a command as a shell expects, by the signal.
 """
@@ -15,7 +15,7 @@ import sys
 from contextlib import suppress
 from typing import Any, Callable, NoReturn, Optional, Sequence, TextIO
 
-from ._errors import MinorderError, NoGraphviz, NoLibrary
+from ._errors import MinorderError, NoGraphviz, NoLibrary, NoMatplotlib
 from ._writing import named
 
 NO_LIBRARY, BAD_WORDS, REFUSED, OUT_OF_MEMORY, DEVICE = range(1, 6)
@@ -89,7 +89,7 @@ def _status_of(parser: argparse.ArgumentParser, command: Command, words: Optiona
     except Refused as end:
         say(parser.prog, *end.args)
         return end.status
-    except (NoLibrary, NoGraphviz) as error:
+    except (NoLibrary, NoGraphviz, NoMatplotlib) as error:
         say(parser.prog, error)
         return NO_LIBRARY
     except MinorderError as error:

@@ -28,12 +28,20 @@ class BadPairs(MinorderError, ValueError):
     """A pair has another variable, or the pairs lead from a variable back to itself."""
 
 
+class BadSize(MinorderError, ValueError):
+    """A number of nodes or a share is none, or beyond the bound up to which sizes are counted."""
+
+
 class BadPath(MinorderError, ValueError):
-    """The suffix of a file's name is none that a diagram is written to, or the diagram is too large for a picture."""
+    """The suffix of a file's name is none that is written to, or the diagram is too large for a picture."""
 
 
 class NoGraphviz(MinorderError, OSError):
     """Graphviz, which makes pictures, isn't there or fails."""
+
+
+class NoMatplotlib(MinorderError, ImportError):
+    """Matplotlib, which makes pictures of other formats than .svg, isn't there."""
 
 
 class BadText(MinorderError, ValueError):

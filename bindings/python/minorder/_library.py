@@ -30,6 +30,13 @@ class Judged(Structure):
     _fields_ = [("reason", c_uint32), ("mask", c_uint32), ("variable", c_uint32)]
 
 
+class Figures(Structure):
+    """minorder_figures."""
+    _fields_ = [
+        *((name, c_uint64) for name in ("orders", "optimal_orders", "worst_orders", "total_nodes")),
+        ("fewest_nodes", c_uint32), ("most_nodes", c_uint32)]
+
+
 class Name(Structure):
     """minorder_name."""
     _fields_ = [("start", c_size_t), ("length", c_size_t)]
@@ -44,17 +51,21 @@ TABLES = [POINTER(c_uint64), c_size_t, c_uint32, c_uint32]
 ORDER = [POINTER(c_uint8), c_size_t]
 LEVELS = [POINTER(c_uint32), c_size_t]
 TOTAL = [POINTER(c_uint32)]
+PAIRS = [POINTER(Pair), c_size_t]
 CALLS = {
     "minorder_exact_with_lengths": [*TABLES, *ORDER, *LEVELS, *TOTAL],
-    "minorder_exact_above_with_lengths": [*TABLES, POINTER(Pair), c_size_t, *ORDER, *LEVELS, *TOTAL],
-    "minorder_certify_with_pairs": [*TABLES, POINTER(Pair), c_size_t, POINTER(c_uint8), c_size_t, POINTER(c_size_t)],
+    "minorder_exact_above_with_lengths": [*TABLES, *PAIRS, *ORDER, *LEVELS, *TOTAL],
+    "minorder_certify_with_pairs": [*TABLES, *PAIRS, POINTER(c_uint8), c_size_t, POINTER(c_size_t)],
     "minorder_levels_with_lengths": [*TABLES, *ORDER, *LEVELS],
     "minorder_sift_with_lengths": [*TABLES, *ORDER, *LEVELS, *TOTAL],
     "minorder_diagram_with_lengths": [
         *TABLES, *ORDER, POINTER(NodeRow), c_size_t, POINTER(c_uint32), c_size_t, POINTER(c_size_t)],
     "minorder_exact_many_with_lengths": [*TABLES, *ORDER, *LEVELS, *LEVELS],
+    "minorder_orders_with_pairs": [*TABLES, *PAIRS, POINTER(Figures)],
+    "minorder_sizes_with_pairs": [*TABLES, *PAIRS, c_uint32, POINTER(c_uint64), c_size_t, *TOTAL, POINTER(c_size_t)],
+    "minorder_widths_with_lengths": [*TABLES, *LEVELS],
     "minorder_check_total_with_pairs": [
-        *TABLES, POINTER(c_uint8), c_size_t, POINTER(Judged), *TOTAL, POINTER(Pair), c_size_t, POINTER(c_size_t)],
+        *TABLES, POINTER(c_uint8), c_size_t, POINTER(Judged), *TOTAL, *PAIRS, POINTER(c_size_t)],
     "minorder_read_pla_with_lengths": [
         c_char_p, c_size_t, *TOTAL, *TOTAL, POINTER(Name), c_size_t, POINTER(Name), c_size_t, POINTER(c_uint64), c_size_t,
         POINTER(Fault)],

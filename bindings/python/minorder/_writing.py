@@ -11,10 +11,10 @@ import tempfile
 from contextlib import contextmanager, nullcontext, suppress
 from threading import current_thread, main_thread
 from types import FrameType
-from typing import Callable, Iterator, Mapping, Optional
+from typing import Callable, Iterator, Mapping, Optional, Sequence
 
 from ._arguments import shown
-from ._errors import BadArgument
+from ._errors import BadArgument, BadPath
 
 SIGNALS = (signal.SIGINT, signal.SIGTERM, signal.SIGHUP)
 
@@ -28,6 +28,17 @@ def path_of(path: object) -> str:
     if not isinstance(text, str) or "\0" in text:
         raise BadArgument(f"path: {shown(path)} is no path")
     return text
+
+
+def suffix_among(path: str, suffixes: Sequence[str], said: str) -> str:
+    """What the name of a file ends in, one of these suffixes. Raises BadPath."""
+    suffix = os.path.splitext(path)[1].lower()
+    if os.path.basename(path).lower() in suffixes:
+        raise BadPath(f"{path}: {said} has a name in front of its suffix")
+    if suffix not in suffixes:
+        ends = f"{', '.join(suffixes[:-1])} or {suffixes[-1]}"
+        raise BadPath(f"{path or repr(path)}: the name of {said} ends in {ends}")
+    return suffix
 
 
 def named(error: OSError, path: str) -> OSError:

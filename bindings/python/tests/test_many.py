@@ -126,7 +126,8 @@ class Functions(unittest.TestCase):
 class Interrupts(unittest.TestCase):
     def test_ctrl_c_leaves_a_call(self):
         begins = "import random, minorder\ntables = [random.getrandbits(1 << 16) for _ in range(16)]\nprint(flush=True)\n"
-        for call in ("exact(tables, 16)", "exact_many([tables] * 8, 16)", "certify(tables, 16)"):
+        for call in (*(f"{name}(tables, 16)" for name in ("exact", "certify", "orders", "sizes", "widths")),
+                     "exact_many([tables] * 8, 16)"):
             script = f"{begins}minorder.{call}\n"
             # a shell's background command, as .ci/run begins these tests, ignores interrupts, and what it begins would, too
             pipes = {"stdout": subprocess.PIPE, "stderr": subprocess.PIPE}
