@@ -37,7 +37,7 @@ cd "$made"
 cp "$prefix"/share/doc/minorder/examples/*.pla .
 "$prefix/bin/minorder" --help | grep -q "1 to 64 \[default: 4\]"
 pages=(minorder.1 ordercheck.1)
-! has python3 || pages+=(minorder-batch.1 minorder-diagram.1 minorder-functions.1 minorder-levels.1 minorder-score.1)
+! has python3 || pages+=(minorder-batch.1 minorder-diagram.1 minorder-functions.1 minorder-levels.1 minorder-orders.1 minorder-score.1)
 for page in "${pages[@]}"; do
     examples "$here/$page" > "$page.shown"
     while read -r mark command; do

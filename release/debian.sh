@@ -119,5 +119,6 @@ package python3-minorder all python "exact minimum BDD variable orders, for Pyth
  $said
  .
  This is the package that calls the shared library, with the commands
- minorder-batch, minorder-diagram, minorder-functions, minorder-levels and
- minorder-score." "Depends: python3, libminorder1 (>= $version)" "Suggests: graphviz, python3-distributed"
+ minorder-batch, minorder-diagram, minorder-functions, minorder-levels,
+ minorder-orders and minorder-score." "Depends: python3, libminorder1 (>= $version)" \
+    "Suggests: graphviz, python3-distributed, python3-matplotlib"

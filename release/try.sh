@@ -143,6 +143,7 @@ for file in sys.argv[1:]:
     [[ $(alone minorder-batch "$examples/mux2.pla") == *'"nodes": 3,'* ]] || fail "the wheel's minorder-batch reports something else"
     [[ $(alone minorder-levels "$examples/adder4.pla" 3,7,2,6,1,5,0,4) == *"nodes: 29" ]] || fail "the wheel's minorder-levels counts something else"
     [[ $(alone minorder-diagram "$examples/mux2.pla" s,a,b) == *"another order: 3 nodes"* ]] || fail "the wheel's minorder-diagram draws something else"
+    [[ $(alone minorder-orders "$examples/hwb8.pla") == *"fewest: 44 nodes in 48 orders"* ]] || fail "the wheel's minorder-orders counts something else"
     alone minorder-functions own "hidden weighted bit" > /dev/null
     {
         echo name,order

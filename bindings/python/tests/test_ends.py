@@ -25,9 +25,12 @@ COMMANDS = {
     "minorder-diagram": ("diagram_command", [MULTIPLEXER, "2,0,1"]),
     "minorder-functions": ("functions", ["bench", "hwb4", "hwb5"]),
     "minorder-levels": ("levels_command", [MULTIPLEXER, "2,0,1"]),
+    "minorder-orders": ("orders_command", [MULTIPLEXER]),
     "minorder-score": ("score", ["results.csv"]),
 }
-LASTING = {"minorder-batch": ["."] * 100, "minorder-functions": ["bench"], "minorder-score": ["long.csv"]}
+LASTING = {
+    "minorder-batch": ["."] * 100, "minorder-functions": ["bench"], "minorder-orders": ["hard.pla"] * 100,
+    "minorder-score": ["long.csv"]}
 
 
 class Ends(unittest.TestCase):
@@ -146,7 +149,8 @@ _writing.write_all("new/one", Slow)
         def limit():
             resource.setrlimit(resource.RLIMIT_AS, (34000 << 10, 34000 << 10))
 
-        probe = [sys.executable, "-c", "import minorder.score, minorder.functions, minorder._batch_command"]
+        modules = ", ".join(f"minorder.{COMMANDS[name][0]}" for name in LASTING)
+        probe = [sys.executable, "-c", f"import {modules}"]
         environment = {**os.environ, "PYTHONPATH": PACKAGE}
         if subprocess.run(probe, env=environment, stderr=subprocess.DEVNULL, preexec_fn=limit).returncode:
             self.skipTest("the interpreter needs more than that")

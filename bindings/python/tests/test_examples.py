@@ -13,10 +13,10 @@ PACKAGE = os.path.dirname(os.path.dirname(os.path.abspath(__file__)))
 TOP = os.path.abspath(f"{PACKAGE}/../..")
 sys.path.insert(0, PACKAGE)
 import minorder  # noqa: E402
-from minorder import _calls, _diagrams, _many, _tables, _truth_tables, batch, files  # noqa: E402
+from minorder import _all_orders, _calls, _diagrams, _many, _sizes, _tables, _truth_tables, batch, files  # noqa: E402
 
-MODULES = minorder, _calls, _diagrams, _many, _tables, _truth_tables, batch, files
-SECTIONS = "The diagram itself", "From Python", "Many functions at once"
+MODULES = minorder, _all_orders, _calls, _diagrams, _many, _sizes, _tables, _truth_tables, batch, files
+SECTIONS = "The diagram itself", "How many nodes all orders have", "From Python", "Many functions at once"
 
 
 class Examples(unittest.TestCase):
@@ -32,6 +32,7 @@ class Examples(unittest.TestCase):
         tests = [test for module in MODULES for test in finder.find(module, globs={"minorder": minorder}) if test.examples]
         names = {test.name.rpartition(".")[2] for test in tests}
         calls = {"minorder", "exact", "levels", "sift", "diagram", "variables", "ite", "from_values", "from_hexadecimal"}
+        calls |= {"orders", "sizes", "marked", "widths"}
         self.assertEqual(calls - names, set())
         for test in tests:
             self.assertEqual(doctest.DocTestRunner().run(test).failed, 0, test.name)

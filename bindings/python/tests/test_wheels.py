@@ -58,7 +58,8 @@ class Wheels(unittest.TestCase):
         modules = {f"minorder/{it}" for it in os.listdir(f"{PACKAGE}/minorder") if it.endswith(".py")}
         self.assertEqual(modules - set(files), set())
         scripts = {it.split("/")[-1]: content for it, content in files.items() if "/scripts/" in it}
-        self.assertEqual(sorted(scripts), [f"minorder-{it}" for it in ("batch", "diagram", "functions", "levels", "score")])
+        names = "batch", "diagram", "functions", "levels", "orders", "score"
+        self.assertEqual(sorted(scripts), [f"minorder-{it}" for it in names])
         self.assertTrue(scripts["minorder-score"].startswith(b"#!python\n"))
         with zipfile.ZipFile(f"{self.folder}/{name}") as wheel:
             modes = {it.external_attr >> 16 for it in wheel.infolist() if "/scripts/" in it.filename}
