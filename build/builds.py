@@ -15,10 +15,9 @@ import library
 import preview
 import tools
 from calls import called, go_on, kept_alone
-from costs import Estimate, minutes, seconds_of
-from crates import TOP, all_of, command_of, is_static, listed, named
+from crates import TOP, all_of, command_of, is_static, listed, named, seconds_of
 from plan import GIGABYTES_A_JOB, Plan, free_gigabytes, processors
-from progress import Report, spoken
+from progress import Report, minutes, spoken
 from sources import is_touched, made_of, sum_of
 
 # what rattle and rt say of a library that is damaged, or was proved over other builds of those below than lie there
@@ -39,8 +38,8 @@ class Build:
 
     def __init__(self, name: str) -> None:
         self.name, self.uses, self.crates = name, named(), all_of(name)
-        self.seconds = seconds_of(TOP, self.crates)
-        self.report = Report(command_of(name), self.seconds, Estimate(self.seconds, self.uses, processors()))
+        self.seconds = seconds_of(self.crates)
+        self.report = Report(command_of(name), self.seconds, self.uses, processors())
         self.answer: Optional[preview.Preview] = None
         # whether build/library.py can use the kit
         self.has_kit = True
@@ -50,7 +49,7 @@ class Build:
         passed = preview.passed_on(words)
         obstacle = preview.obstacle(passed, processors(), free_gigabytes(), GIGABYTES_A_JOB)
         comes = "an unproved answer comes in some two minutes" if obstacle is None else obstacle
-        estimate, seconds = self.report.estimate.seconds_left({}), sum(self.seconds.values())
+        estimate, seconds = self.report.seconds_left(), sum(self.seconds.values())
         self.report.say(
             "; ".join(filter(None, (comes, 'a release needs no proof (README.md, "Install")'))),
             f"proving and building {len(self.crates)} crates; from nothing it takes {minutes(estimate)} here, "
@@ -58,8 +57,8 @@ class Build:
             "and 1 GB of disk")
         if obstacle is not None:
             return contextlib.nullcontext()
-        rows = listed()
-        return preview.beside(TOP, self.name, {it: rows[it] for it in self.crates}, passed, self.report.say)
+        rows = {it: row for it, row in listed().items() if it in self.crates}
+        return preview.beside(TOP, self.name, rows, passed, self.report.say)
 
     def words_of(self, crate: str, jobs: int) -> Sequence[str]:
         """The command that builds a library."""
@@ -69,13 +68,12 @@ class Build:
 
     def prove_all(self, held: Sequence[int]) -> None:
         """Proves the libraries, several at a time."""
-        plan = Plan(self.crates[:-1], self.uses, self.seconds, self.answer)
+        plan = Plan({it: self.seconds[it] for it in self.crates[:-1]}, self.uses, self.answer)
         proofs: Dict[Future[Tuple[int, str, float]], str] = {}
         with ThreadPoolExecutor(len(plan.left)) as pool:
             while plan.left or proofs:
-                while started := plan.next(self.report.done):
+                while started := plan.start_next(self.report.done):
                     crate, jobs = started
-                    plan.start(crate, jobs)
                     self.report.start_crate(crate, jobs)
                     proofs[pool.submit(called, crate, self.words_of(crate, jobs), held)] = crate
                 for ended in wait(proofs, timeout=1, return_when=FIRST_COMPLETED).done:
@@ -116,7 +114,6 @@ class Build:
         words = ("rt", "lib") if is_static(self.name) else ("rt", "run", "--", "--help")
         with ThreadPoolExecutor(1) as pool:
             call = pool.submit(called, self.name, words)
-            self.report.show()
             while not wait([call], timeout=1).done:
                 self.report.show()
         go_on()
@@ -131,8 +128,7 @@ class Build:
 
     def build(self) -> None:
         """Proves and builds all, and again what doesn't fit the sources, or the libraries below, by then."""
-        lacking = library.lacking(library.kit())
-        if lacking:
+        if lacking := library.lacking(library.kit()):
             self.has_kit = False
             self.report.say(
                 f"build/library.py doesn't know this kit ({lacking}): `rt lib` builds libraries one at a time, with their proofs")

@@ -46,10 +46,9 @@ def lock(file: Union[int, IO[str]]) -> None:
     """Waits until nobody else has locked a file or a folder."""
     while True:
         go_on()
-        try:
+        with contextlib.suppress(BlockingIOError):
             return fcntl.flock(file, fcntl.LOCK_EX | fcntl.LOCK_NB)
-        except BlockingIOError:
-            time.sleep(0.1)
+        time.sleep(0.1)
 
 
 @contextlib.contextmanager

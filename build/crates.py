@@ -1,12 +1,17 @@
-"""The crates of the repository, as crates.txt lists them."""
+"""The crates of the repository: what crates.txt and build/costs.csv say of them. CONTRIBUTING.md says how the latter is made."""
 from __future__ import annotations
 
+import contextlib
+import csv
 import os
 import sys
-from typing import Dict, List
+from typing import Dict, Iterable, List
 
 TOP = os.path.dirname(os.path.dirname(os.path.abspath(__file__)))
 Uses = Dict[str, List[str]]
+Seconds = Dict[str, float]
+# the seconds of a crate that build/costs.csv lacks
+UNKNOWN = 100.0
 
 
 def listed() -> Dict[str, str]:
@@ -31,8 +36,10 @@ def named() -> Uses:
     return {crate: [it for it in uses if it in every] for crate, uses in every.items()}
 
 
-def needed(name: str, uses: Uses) -> List[str]:
-    """The crates of the repository that a crate builds on, lowest first; itself last."""
+def all_of(name: str) -> List[str]:
+    """The crates that a program or a static library is built from, lowest first; its own last."""
+    row_of(name)
+    uses = named()
     found: List[str] = []
 
     def visit(crate: str, above: List[str]) -> None:
@@ -47,12 +54,6 @@ def needed(name: str, uses: Uses) -> List[str]:
     return found
 
 
-def all_of(name: str) -> List[str]:
-    """The crates that a program or a static library is built from, lowest first; its own last."""
-    row_of(name)
-    return needed(name, named())
-
-
 def is_static(name: str) -> bool:
     return row_of(name).partition(":")[0].split() == [name, "staticlib"]
 
@@ -60,3 +61,19 @@ def is_static(name: str) -> bool:
 def command_of(name: str) -> str:
     """The script at the top that has a program or a static library built."""
     return "libminorder" if is_static(name) else name
+
+
+def seconds_of(crates: Iterable[str]) -> Seconds:
+    """The processor seconds that each crate's proof is expected to take."""
+    known: Seconds = {}
+    with contextlib.suppress(OSError), open(f"{TOP}/build/costs.csv", newline="") as table:
+        known = {row["crate"]: float(row["seconds"]) for row in csv.DictReader(table)}
+    return {it: known.get(it, UNKNOWN) for it in crates}
+
+
+def chains(seconds: Seconds, uses: Uses) -> Seconds:
+    """How many seconds of crates, lowest first, follow each one at least, its own counted."""
+    behind: Seconds = {}
+    for crate in reversed(list(seconds)):
+        behind[crate] = seconds[crate] + max((behind[it] for it in behind if crate in uses[it]), default=0)
+    return behind

@@ -19,11 +19,10 @@ import sys
 from typing import Any, Iterable, Optional, Set
 
 from crates import TOP, named
-from writing import written
+from sources import written
 
 # what is used of the kit's module `rtlib`
-OF_CRATES = ("below", "build_rlib", "call", "is_built", "stamp", "words")
-NAMES = ("RATTLE", "help_of", "root_above", *(f"Crate.{it}" for it in OF_CRATES))
+NAMES = "RATTLE help_of root_above Crate.below Crate.build_rlib Crate.call Crate.is_built Crate.stamp Crate.words".split()
 
 
 @functools.lru_cache(maxsize=None)
@@ -124,8 +123,7 @@ def build(rtlib: Any, name: str, jobs: str) -> int:
         return 0
     forget([name])
     if os.path.isdir(f"{crate.folder}/out/incremental"):
-        status: int = crate.build_rlib(["--jobs", jobs], anew=False)
-        return status
+        return int(crate.build_rlib(["--jobs", jobs], anew=False))
     return build_statements(rtlib, crate, jobs)
 
 

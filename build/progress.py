@@ -6,9 +6,15 @@ import shutil
 import sys
 import threading
 import time
-from typing import Dict, List, Mapping, Tuple
+from typing import Dict, Tuple
 
-from costs import Estimate, minutes
+from crates import Seconds, Uses, chains
+
+# each job of a proof reads all libraries below anew: two take two thirds of the time of one, and all crates an eighth more in all
+CHAIN_SPEED = 1.5
+ALL_JOBS = 1.125
+# a proof that takes less than this share of what is expected was kept by an earlier build
+KEPT = 0.25
 
 
 def spoken(seconds: float) -> str:
@@ -16,14 +22,19 @@ def spoken(seconds: float) -> str:
     return f"{whole} min {seconds:02} s"
 
 
+def minutes(seconds: float) -> str:
+    whole = round(seconds / 60)
+    return f"some {whole} minutes" if whole > 1 else "a minute or so"
+
+
 class Report:
     """Says how far a build is: one line that is written over on a terminal, else a line for each crate. Threads may share it."""
 
-    def __init__(self, name: str, seconds: Mapping[str, float], estimate: Estimate) -> None:
-        self.name, self.seconds, self.estimate = name, seconds, estimate
+    def __init__(self, name: str, seconds: Seconds, uses: Uses, processors: int) -> None:
+        self.name, self.seconds, self.uses, self.processors = name, seconds, uses, processors
         self.start, self.taken = time.monotonic(), 0.0
-        self.done: List[str] = []
-        # when each proof that is under way began, and its jobs
+        # the work of each proof that has ended, and when each that is under way began, with its jobs
+        self.done: Seconds = {}
         self.running: Dict[str, Tuple[float, int]] = {}
         self.is_terminal = sys.stderr.isatty()
         self.writing = threading.Lock()
@@ -40,22 +51,38 @@ class Report:
     def passed(self) -> float:
         return time.monotonic() - self.start
 
-    def share(self) -> int:
-        """The share that is done, by expected processor time; a crate that is being proved counts by the time that it has had."""
-        done = sum(self.seconds[it] for it in self.done)
-        for crate, (since, jobs) in self.running.items():
-            done += min(0.9 * self.seconds[crate], (time.monotonic() - since) * (1 + jobs) / 2)
-        return int(100 * done / sum(self.seconds.values()))
+    def work(self, crate: str) -> float:
+        """How many seconds one job had needed for what a proof that is under way has done."""
+        since, jobs = self.running[crate]
+        return (time.monotonic() - since) * (1 + jobs) / 2
+
+    def slowness(self) -> float:
+        """How many times as long as expected proofs take here."""
+        proved = [it for it, work in self.done.items() if work > KEPT * self.seconds[it]]
+        return sum(self.done[it] for it in proved) / sum(self.seconds[it] for it in proved) if proved else 1.0
+
+    def left(self) -> Seconds:
+        """The expected seconds that are left of each crate that isn't proved."""
+        slowness = self.slowness()
+        left = {it: seconds for it, seconds in self.seconds.items() if it not in self.done}
+        for it in self.running:
+            left[it] = max(left[it] - self.work(it) / slowness, left[it] / 10)
+        return left
+
+    def seconds_left(self) -> float:
+        """As many as the longest chain takes, or all crates by all processors, whichever is more."""
+        left = self.left()
+        longest = max(chains(left, self.uses).values(), default=0.0)
+        return self.slowness() * max(longest / CHAIN_SPEED, ALL_JOBS * sum(left.values()) / self.processors)
 
     def so_far(self) -> str:
-        now = time.monotonic()
-        left = self.estimate.seconds_left({it: now - since for it, (since, _) in self.running.items()})
-        return f"{self.share()} % after {spoken(self.passed())}" + (f", {minutes(left)} left" if left else "")
+        left = sum(self.left().values())
+        share = int(100 - 100 * left / sum(self.seconds.values()))
+        return f"{share} % after {spoken(self.passed())}" + (f", {minutes(self.seconds_left())} left" if left else "")
 
     def begin_again(self, why: str) -> None:
         self.done.clear()
         self.running.clear()
-        self.estimate.took.clear()
         self.say(why)
 
     def show(self) -> None:
@@ -66,11 +93,11 @@ class Report:
 
     def start_crate(self, crate: str, jobs: int) -> None:
         self.running[crate] = time.monotonic(), jobs
+        self.show()
 
     def end_crate(self, crate: str, taken: float) -> None:
-        since, _ = self.running.pop(crate)
-        self.done.append(crate)
-        self.estimate.end_crate(crate, time.monotonic() - since)
+        self.done[crate] = self.work(crate)
+        del self.running[crate]
         self.taken += taken
         if self.is_terminal:
             self.show()

@@ -4,10 +4,9 @@ from __future__ import annotations
 import contextlib
 import hashlib
 import os
-from typing import Iterator, List, Tuple
+from typing import IO, Iterator, List, Tuple
 
 from crates import TOP, all_of, is_static, listed
-from writing import written
 
 # how late the clock of files may be, in nanoseconds
 FILE_CLOCK = 20_000_000
@@ -72,6 +71,18 @@ def is_up_to_date(name: str) -> bool:
             return os.access(made, use) and it.read() == with_made(name, sums_of(name))
     except OSError:
         return False
+
+
+@contextlib.contextmanager
+def written(path: str) -> Iterator[IO[bytes]]:
+    """A new file, which takes its place once it is whole, or not at all."""
+    try:
+        with open(f"{path}.new", "wb") as it:
+            yield it
+        os.replace(f"{path}.new", path)
+    finally:
+        with contextlib.suppress(FileNotFoundError):
+            os.remove(f"{path}.new")
 
 
 @contextlib.contextmanager

@@ -35,16 +35,16 @@ def changed_sources(body: Path | None) -> Iterator[Path]:
         yield folder
 
 
-def said_by(folder: Path, crate: str, words: list[str]) -> str:
-    """What `rt try` says of a crate; all that it leaves lies in the folder."""
-    return subprocess.run(
+def answer(wanted: str, folder: Path, crate: str, words: list[str]) -> re.Match[str]:
+    """The wanted part of what `rt try` says of a crate; all that it leaves lies in the folder."""
+    said = subprocess.run(
         ["rt", "try", "--seconds", str(SECONDS), *words], cwd=folder / "crates" / crate, check=False,
         env={**os.environ, "TMPDIR": str(folder)}, stdin=subprocess.DEVNULL, stdout=subprocess.PIPE, stderr=subprocess.STDOUT,
         text=True, errors="replace").stdout
-
-
-def no_answer(said: str) -> Fault:
-    return Fault(f"gave no answer: {said.strip()[:500]}")
+    found = re.search(wanted, said, re.M)
+    if not found:
+        raise Fault(f"gave no answer: {said.strip()[:500]}")
+    return found
 
 
 def text_of_case(file: str, case: str) -> str:
@@ -64,11 +64,8 @@ def difference_in_case(file: str, case: str, body: Path) -> str | None:
         alone.write_text(text, encoding="utf-8")
         files = {word: DATA / word for word in text.split() if (DATA / word).is_file()} | {alone.name: alone}
         data = [word for name, path in files.items() for word in ("--data", f"{name}={path}")]
-        said = said_by(folder, "worked_cases", [*data, "--", ".", alone.name])
-    difference = re.search(rf"^{re.escape(case)}: (.* differs: .*)$", said, re.M)
-    if not difference and not re.search(r"^\d+ calls, 0 differ$", said, re.M):
-        raise no_answer(said)
-    return difference[1] if difference else None
+        wanted = rf"^(?:{re.escape(case)}: (.* differs: .*)|\d+ calls, 0 differ)$"
+        return answer(wanted, folder, "worked_cases", [*data, "--", ".", alone.name])[1]
 
 
 def leave_one_test(crate: Path, function: str) -> None:
@@ -82,10 +79,7 @@ def failure_of_test(crate: str, function: str, body: Path | None) -> str | None:
     """How a test fails on code with a wrong body; None if it passes."""
     with changed_sources(body) as folder:
         leave_one_test(folder / "crates" / crate, function)
-        said = said_by(folder, crate, ["--test"])
-    ended = re.search(rf"^test \S*\b{re.escape(function)} \.\.\. (ok|FAILED)\n?(.*)", said, re.M)
-    if not ended:
-        raise no_answer(said)
+        ended = answer(rf"^test \S*\b{re.escape(function)} \.\.\. (ok|FAILED)\n?(.*)", folder, crate, ["--test"])
     return None if ended[1] == "ok" else ended[2].strip()
 
 

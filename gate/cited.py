@@ -61,23 +61,19 @@ def cited_by(text: str) -> Iterator[str]:
             yield from spread(word)
 
 
-def is_there(path: str, places: list[str]) -> bool:
-    return any(glob.glob(f"{place}/{path}") for place in places)
-
-
 def fault_of(path: str, page: str, prefix: str, absent: tuple[str, ...]) -> str | None:
     """Why a cited path is none that a reader finds; None if it is one."""
     if path.startswith("./"):
         return None if os.path.exists(f"{TOP}/{path}") else "is not in the repository"
     documents = f"{prefix}/share/doc/minorder"
     places = [os.path.dirname(page), documents, *(f"{documents}/{it}" for it in ("docs", "crates", "crates/*")), prefix]
-    if is_there(path, places):
+    if any(glob.glob(f"{place}/{path}") for place in places):
         return None
     crate = path.split("/")[0]
     full = f"crates/{path}" if os.path.isdir(f"{TOP}/crates/{crate}") else path
     if f"{full}/".startswith(absent) and not re.match(r"crates/[^/]+/(specs/|src/laws\.rt)", full):
         # what a build makes is there after it
-        return None if "/out/" in full or is_there(full, [TOP]) else "is not in the repository"
+        return None if "/out/" in full or glob.glob(f"{TOP}/{full}") else "is not in the repository"
     return "is not installed"
 
 

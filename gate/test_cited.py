@@ -1,14 +1,11 @@
 """What cited.py takes for a path that a page cites, and where it looks for one."""
 import contextlib
 import io
-import os
-import sys
 import tempfile
 import unittest
 from pathlib import Path
 
-sys.path.insert(0, os.path.dirname(os.path.abspath(__file__)))
-import cited  # noqa: E402
+import cited
 
 PAGE = """See [the times](docs/SPEED.md), `bench/{turns,small}.py`, and `crates/NAME/specs/`; a/b is none, `made/one.pla` neither.
 
@@ -57,7 +54,3 @@ class Cited(unittest.TestCase):
     def test_a_prefix_without_pages(self) -> None:
         with self.assertRaisesRegex(SystemExit, "no page is installed below /nowhere"):
             cited.main("/nowhere")
-
-
-if __name__ == "__main__":
-    unittest.main()

@@ -1,12 +1,9 @@
 """What house.py counts, on small texts."""
 import contextlib
 import io
-import os
-import sys
 import unittest
 
-sys.path.insert(0, os.path.dirname(os.path.abspath(__file__)))
-import house  # noqa: E402
+import house
 
 FUNCTION = """
 pub fn widths(&self, order: &[Vec<u8>], (a, b): (u8, u8), f: fn(u8, u8) -> u8) -> Option<u8>
@@ -39,7 +36,3 @@ class House(unittest.TestCase):
             house.Count("files", ["a", "b"], 2).say(False)
             house.Count("files", ["a", "b"], 1).say(True)
         self.assertEqual(written.getvalue(), "files: 2 (at most 2)\nfiles: 2, MORE THAN 1\n    a\n    b\n")
-
-
-if __name__ == "__main__":
-    unittest.main()

@@ -1,15 +1,12 @@
 """What wrong_bodies.py says of lists, edits and bodies, on a repository of one crate."""
-import os
-import sys
 import tempfile
 import unittest
 import unittest.mock
 from pathlib import Path
 
-sys.path.insert(0, os.path.dirname(os.path.abspath(__file__)))
-import body_runs  # noqa: E402
-import edits  # noqa: E402
-import wrong_bodies  # noqa: E402
+import body_runs
+import edits
+import wrong_bodies
 
 CODE = """fn one() -> u8 {
     1 // the least
@@ -103,7 +100,3 @@ class Repository(unittest.TestCase):
         self.assertEqual(body_runs.text_of_case("a.cases", "first"), "case first\ncall minorder a.pla\n\n")
         body_runs.leave_one_test(self.top / "crates/one_tests", "is_small")
         self.assertEqual((self.top / "crates/one_tests/src/lib.rt").read_text(), TESTS[TESTS.index("\n#[test]\nfn is_small"):])
-
-
-if __name__ == "__main__":
-    unittest.main()

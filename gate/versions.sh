@@ -21,8 +21,8 @@ done
 for program in minorder ordercheck; do
     has crates/worked_cases/data/command_lines.cases "|$program $version"
 done
-grep -qF "    $((${version%%.*} * 10000 + $(cut -d. -f2 VERSION) * 100 + ${version##*.}))" <(tr -d _ < crates/minorder_c/src/version.rt) ||
-    { echo "crates/minorder_c/src/version.rt is not of version $version" >&2; status=1; }
+number=$((${version%%.*} * 10000 + $(cut -d. -f2 VERSION) * 100 + ${version##*.}))
+has crates/minorder_c/src/version.rt "    ${number%???}_${number: -3}"
 for page in man/*.[13]; do
     grep -q "^\.TH .* \"minorder $version\"" "$page" || { echo "$page is not of version $version" >&2; status=1; }
 done

@@ -12,9 +12,9 @@ import re
 import sys
 from collections.abc import Iterator
 from concurrent.futures import ThreadPoolExecutor
-from dataclasses import dataclass
 from enum import Enum
 from pathlib import Path
+from typing import NamedTuple
 
 from body_runs import CRATES, TOP, difference_in_case, difference_in_test, text_of_case
 from edits import Fault, changed_texts
@@ -31,8 +31,7 @@ class ShownBy(Enum):
     BOUND = "bound"
 
 
-@dataclass(frozen=True)
-class Row:
+class Row(NamedTuple):
     wrong_body: str
     shown_by: ShownBy
     place: str
@@ -61,49 +60,32 @@ def rows() -> list[Row]:
             sys.exit(f"{LIST.relative_to(TOP)}, line {lines.line_num}: {error}")
 
 
-def sources(crate: str) -> Iterator[str]:
-    return (it.read_text(encoding="utf-8") for it in (CRATES / crate / "src").glob("**/*.rt"))
-
-
-def need_body(row: Row) -> None:
-    """Fails if a row's wrong body isn't there or changes no code."""
-    if not row.body().is_file():
-        raise Fault(f"has no body {row.body().relative_to(TOP)}")
-    changed_texts(row.body(), CRATES)
-
-
-def need_test(crate: str, function: str) -> None:
-    if not any(re.search(rf"#\[test\]\s+fn {re.escape(function)}\(", text) for text in sources(crate)):
-        raise Fault("is no test")
-
-
-def need_case(file: str, case: str) -> None:
-    if file not in (CRATES / "worked_cases/args").read_text(encoding="utf-8").split():
-        raise Fault("is no worked case that is carried out")
-    text_of_case(file, case)
-
-
-def need_without(crate: str, bound: str) -> None:
-    texts = list(sources(crate))
-    if not texts or any(re.search(rf"\b{re.escape(bound)}\b", text) for text in texts):
-        raise Fault("is a bound that the crate has")
+def sources(crate: str) -> list[str]:
+    return [it.read_text(encoding="utf-8") for it in (CRATES / crate / "src").glob("**/*.rt")]
 
 
 def need_shown(row: Row) -> None:
-    """Fails if what a row names isn't there."""
+    """Fails if what a row names isn't there, or its wrong body isn't there or changes no code."""
     first, second = row.parts()
+    name = re.escape(second)
     match row.shown_by:
         case ShownBy.EDIT:
             if not (CRATES / row.place / f"must-fail/{row.wrong_body}.edit").is_file():
                 raise Fault("is not there")
         case ShownBy.TEST:
-            need_test(first, second)
-            need_body(row)
+            if not any(re.search(rf"#\[test\]\s+fn {name}\(", text) for text in sources(first)):
+                raise Fault("is no test")
         case ShownBy.CASE:
-            need_case(first, second)
-            need_body(row)
+            if first not in (CRATES / "worked_cases/args").read_text(encoding="utf-8").split():
+                raise Fault("is no worked case that is carried out")
+            text_of_case(first, second)
         case ShownBy.BOUND:
-            need_without(first, second)
+            if not sources(first) or any(re.search(rf"\b{name}\b", text) for text in sources(first)):
+                raise Fault("is a bound that the crate has")
+    if row.is_run():
+        if not row.body().is_file():
+            raise Fault(f"has no body {row.body().relative_to(TOP)}")
+        changed_texts(row.body(), CRATES)
 
 
 def faults_of_list(listed: list[Row], edits: list[Path], bodies: list[Path]) -> Iterator[str]:
@@ -123,8 +105,7 @@ def faults_of_list(listed: list[Row], edits: list[Path], bodies: list[Path]) -> 
 
 def check() -> None:
     listed, edits, bodies = rows(), sorted(CRATES.glob("*/must-fail/*.edit")), sorted(BODIES.glob("*/*.body"))
-    faults = list(faults_of_list(listed, edits, bodies))
-    if faults:
+    if faults := list(faults_of_list(listed, edits, bodies)):
         sys.exit("\n".join(faults))
     print(f"{len({it.wrong_body for it in listed})} wrong bodies: what the list names is there, and {len(edits)} edits and "
           f"{len(bodies)} bodies change code. Nothing was run: --run sees whether tests and worked cases fail with the bodies")
@@ -146,8 +127,7 @@ def is_shown(row: Row) -> bool:
 
 def run(names: list[str]) -> None:
     listed = [it for it in rows() if it.is_run()]
-    unknown = set(names) - {it.wrong_body for it in listed}
-    if unknown:
+    if unknown := set(names) - {it.wrong_body for it in listed}:
         sys.exit(f"no test or worked case shows {', '.join(sorted(unknown))}")
     need("rt")
     wanted = [it for it in listed if not names or it.wrong_body in names]

@@ -1,4 +1,6 @@
 """A repository of a few crates with the scripts of this one."""
+import contextlib
+import glob
 import os
 import pathlib
 import shutil
@@ -26,24 +28,10 @@ def lay_out(top, uses, texts=None):
     (top / "crates.txt").write_text("".join(f"{crate}: {below}\n" for crate, below in uses.items()))
     (top / "HANDLES").write_text("Handles allowed: none.\n")
     (top / "build").mkdir()
-    for file in ("*.py", "*.sh"):
-        for it in (TOP / "build").glob(file):
-            shutil.copy(it, top / "build")
+    for it in (*(TOP / "build").glob("*.py"), *(TOP / "build").glob("*.sh")):
+        shutil.copy(it, top / "build")
     (top / program).write_text((TOP / "minorder").read_text().replace("minorder", program))
     (top / program).chmod(0o755)
-
-
-def heed_signals():
-    """A shell's background command, as .ci/run begins these tests, ignores interrupts, and what it begins does, too."""
-    for it in calls.SIGNALS:
-        signal.signal(it, signal.SIG_DFL)
-
-
-def folder_of(pid):
-    try:
-        return os.readlink(f"/proc/{pid}/cwd")
-    except OSError:
-        return ""
 
 
 class StandIn(unittest.TestCase):
@@ -60,7 +48,9 @@ class StandIn(unittest.TestCase):
 
     def begin(self, *words, closed=(), through=(), **given):
         def prepare():
-            heed_signals()
+            # a shell's background command, as .ci/run begins these tests, ignores interrupts, and what it begins does, too
+            for it in calls.SIGNALS:
+                signal.signal(it, signal.SIG_DFL)
             for it in closed:
                 os.close(it)
 
@@ -73,4 +63,6 @@ class StandIn(unittest.TestCase):
         self.assertEqual(os.listdir(self.room / "temporary"), [])
         self.assertEqual(os.listdir(self.room / "work"), ["a.pla"])
         self.assertEqual(list(self.top.glob("**/*.new")), [])
-        self.assertEqual([pid for pid in os.listdir("/proc") if folder_of(pid).startswith(f"{self.room}/")], [])
+        for it in glob.glob("/proc/[0-9]*/cwd"):
+            with contextlib.suppress(OSError):
+                self.assertFalse(os.readlink(it).startswith(f"{self.room}/"), f"{it} runs on")

@@ -4,7 +4,6 @@ import pathlib
 import secrets
 import shutil
 import subprocess
-import sys
 import tempfile
 import unittest
 
@@ -43,12 +42,7 @@ fn main(rt: HostRuntime) -> io::Result<()> {
 """.replace("MID", MID)
 
 
-def setUpModule():
-    if not shutil.which("rt"):
-        print("left out: builds with the kit, for want of rt", file=sys.stderr)
-        raise unittest.SkipTest("no rt")
-
-
+@unittest.skipUnless(shutil.which("rt"), "builds with the kit, for want of rt")
 class Builds(unittest.TestCase):
     def setUp(self):
         self.top = pathlib.Path(tempfile.mkdtemp())
@@ -57,8 +51,8 @@ class Builds(unittest.TestCase):
         self.low = self.top / "crates" / LOW / "src/lib.rt"
 
     def called(self, *words, folder="."):
-        how = {"stdin": subprocess.DEVNULL, "stdout": subprocess.PIPE, "stderr": subprocess.PIPE, "text": True}
-        return subprocess.run(words, cwd=self.top / folder, env={**os.environ, "MINORDER_PREVIEW": "no"}, **how)
+        return subprocess.run(words, cwd=self.top / folder, env={**os.environ, "MINORDER_PREVIEW": "no"},
+                              stdin=subprocess.DEVNULL, capture_output=True, text=True)
 
     def assert_prints(self, number):
         """That the program is built for this number in place of the one before, and prints it."""
@@ -99,7 +93,3 @@ class Builds(unittest.TestCase):
             main.write_text(right)
             ran = self.called(f"./{PROGRAM}")
             self.assertEqual((ran.stdout, ran.returncode), ("45\n", 0), ran.stderr)
-
-
-if __name__ == "__main__":
-    unittest.main()

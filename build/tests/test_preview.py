@@ -14,7 +14,6 @@ import calls
 import crates
 import plan
 import preview
-from costs import Estimate, seconds_of
 from progress import Report
 
 BARE = "/usr/bin:/bin"
@@ -24,8 +23,7 @@ HAS_ROOM = plan.processors() > 1 and plan.free_gigabytes() >= plan.GIGABYTES_A_J
 
 class Words(unittest.TestCase):
     def assert_passed(self, words, wanted, files, makes_out=False):
-        passed = preview.passed_on(words.split())
-        self.assertEqual((passed.words, passed.files, passed.makes_out), (wanted.split(), files, makes_out))
+        self.assertEqual(preview.passed_on(words.split()), (wanted.split(), files, makes_out))
 
     def test_files_have_the_names_of_copies(self):
         self.assert_passed("a.pla", "1/a.pla", {"1/a.pla": "a.pla"})
@@ -106,54 +104,55 @@ class Estimates(unittest.TestCase):
     uses = {"base": [], "long": ["base"], "short": ["base"], "program": ["long", "short"]}
     seconds = {"base": 30, "long": 90, "short": 20, "program": 10}
 
+    def left(self, processors=4, done={}, running={}):
+        """The seconds left, where `done` has the work of proofs that have ended, and `running` how long others have taken."""
+        report = Report("program", self.seconds, self.uses, processors)
+        with unittest.mock.patch("time.monotonic", lambda: 1000):
+            report.done.update(done)
+            report.running.update({it: (1000 - passed, 1) for it, passed in running.items()})
+            return report.seconds_left()
+
     def test_the_longest_chain_or_all(self):
-        self.assertAlmostEqual(Estimate(self.seconds, self.uses, 4).seconds_left({}), 30 / 1.5 + 90 / 1.5 + 10)
-        self.assertAlmostEqual(Estimate(self.seconds, self.uses, 1).seconds_left({}), 2 * (20 + 60) + 20 + 10)
+        self.assertAlmostEqual(self.left(), (30 + 90 + 10) / 1.5)
+        self.assertAlmostEqual(self.left(1), 150 * 1.125)
 
     def test_it_follows_the_machine(self):
-        estimate = Estimate(self.seconds, self.uses, 4)
-        estimate.end_crate("base", 40)
-        self.assertAlmostEqual(estimate.seconds_left({}), 2 * (60 + 10))
-        self.assertAlmostEqual(estimate.seconds_left({"long": 100}), 40 + 20)
-        for crate in ("long", "short", "program"):
-            estimate.end_crate(crate, 1)
-        self.assertEqual(estimate.seconds_left({}), 0)
+        self.assertAlmostEqual(self.left(done={"base": 60}), 2 * (90 + 10) / 1.5)
+        self.assertAlmostEqual(self.left(done={"base": 60}, running={"long": 100}), (80 + 20) / 1.5)
+        self.assertEqual(self.left(done=self.seconds), 0)
 
     def test_what_was_kept_says_nothing_of_the_machine(self):
-        estimate = Estimate(self.seconds, self.uses, 4)
-        estimate.end_crate("base", 1)
-        self.assertAlmostEqual(estimate.seconds_left({}), 60 + 10)
+        self.assertAlmostEqual(self.left(done={"base": 1}), (90 + 10) / 1.5)
 
     def test_a_build_that_begins_again(self):
-        report = Report("program", self.seconds, Estimate(self.seconds, self.uses, 4))
+        report = Report("program", self.seconds, self.uses, 4)
         with unittest.mock.patch("sys.stderr", io.StringIO()) as said:
-            for crate in ("base", "short"):
-                report.start_crate(crate, 1)
-                report.end_crate(crate, 1)
-            report.begin_again("again")
-            for crate in ("base", "short"):
-                report.start_crate(crate, 1)
-            report.end_crate("base", 1)
+            for _ in range(2):
+                for crate in ("base", "short"):
+                    report.start_crate(crate, 1)
+                for crate in ("base", "short"):
+                    report.end_crate(crate, 1)
+                report.begin_again("again")
         self.assertEqual(said.getvalue().count("base is proved"), 2)
 
     def test_the_first_build(self):
-        seconds = seconds_of(crates.TOP, crates.all_of("minorder"))
-        left = Estimate(seconds, crates.named(), 4).seconds_left({})
+        seconds = crates.seconds_of(crates.all_of("minorder"))
+        left = Report("minorder", seconds, crates.named(), 4).seconds_left()
         self.assertTrue(5 * 60 < left < 30 * 60, left)
 
 
 class Plans(unittest.TestCase):
     uses = {"base": [], "short": [], "middle": ["base"], "program": ["middle", "short"]}
-    seconds = {"base": 90, "short": 20, "middle": 90, "program": 10}
+    seconds = {"base": 90, "short": 20, "middle": 90}
 
     def jobs(self, processors, answer, done=()):
         """The crates that begin at once behind those that are done, with their jobs."""
         room = {"processors": lambda: processors, "free_gigabytes": lambda: 20}
         with unittest.mock.patch.multiple(plan, **room):
-            made = plan.Plan(list(self.uses)[:-1], self.uses, self.seconds, answer)
+            made = plan.Plan(self.seconds, self.uses, answer)
             made.left = [it for it in made.left if it not in done]
-            while started := made.next(done):
-                made.start(*started)
+            while made.start_next(done):
+                pass
         return made.running
 
     def test_the_answer_has_its_processors(self):
@@ -161,7 +160,7 @@ class Plans(unittest.TestCase):
         self.assertEqual(self.jobs(4, answering), {"base": 2})
         self.assertEqual(self.jobs(5, answering), {"base": 2, "short": 1})
         self.assertEqual(self.jobs(2, answering), {"base": 2})
-        self.assertEqual(self.jobs(2, answering, ["base", "middle"]), {"short": 1})
+        self.assertEqual(self.jobs(2, answering, ["base", "middle"]), {"short": 2})
 
     def test_a_proof_without_an_answer_has_all(self):
         over = unittest.mock.Mock(is_running=lambda: False)
@@ -236,7 +235,3 @@ class Builds(StandIn):
                     ran.communicate(timeout=20)
                     self.assertEqual(ran.returncode, -number)
                     self.assert_clean()
-
-
-if __name__ == "__main__":
-    unittest.main()
