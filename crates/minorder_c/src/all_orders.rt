@@ -1,7 +1,9 @@
 //! What the figures and the sizes of all orders are found from.
 
 ghost use Rattle.std.specs.Prelude.{IfOk, IfErr, OnOk};
+ghost use Rattle.definitions.specs.AllOrders.{AreAllWidths};
 ghost use Rattle.definitions.specs.KeptPairs.{CanBeKept};
+ghost use Rattle.definitions.specs.Problems.{functions};
 ghost use Rattle.minorder_c.specs.Answers.{AreTables, pairs_given};
 ghost use Rattle.minorder_c.specs.OrderFigures.{IsForOrders};
 ghost use Rattle.minorder_c.specs.Statuses.{RefusesPairs};
@@ -9,10 +11,26 @@ ghost use Rattle.minorder_c.specs.Statuses.{RefusesPairs};
 use crate::above::{AbovePair, kept_pairs};
 use crate::arguments::{GivenTables, tables_of};
 use crate::status::Refusal;
-use compaction::widths_of_all_sets;
-use order_model::{Pairs, WidthRow};
-use std::alloc::Global;
+use order_model::{Pairs, Problem, WidthRow};
+use small_search::is_small;
+use std::alloc::{AllocError, Global};
 use truth_table::Tables;
+
+/// A row for each set of variables, at its mask: at each member x the width of x over the other
+/// members, and 0 elsewhere.
+pub(crate) fn rows_of_all_sets(
+    alloc: Global,
+    problem: &Problem,
+) -> Result<Vec<WidthRow>, AllocError>
+    ensures { IfOk result
+        (λ rows. AreAllWidths problem.now.inputs (functions problem.now) rows.items) }
+{
+    if is_small(problem) {
+        small_search::widths_of_all_sets(alloc, problem)
+    } else {
+        compaction::widths_of_all_sets(alloc, problem)
+    }
+}
 
 /// Truth tables, the pairs that orders keep, and the widths of all sets.
 #[derive(Drop)]
@@ -41,7 +59,7 @@ impl AllOrders {
     {
         let tables = tables_of(alloc, given)?;
         let pairs = kept_pairs(alloc, above, given.inputs as u8)?;
-        let widths = widths_of_all_sets(alloc, tables.problem())?;
+        let widths = rows_of_all_sets(alloc, tables.problem())?;
         Ok(AllOrders {
             tables,
             pairs,

@@ -11,10 +11,9 @@ ghost use Rattle.minorder_c.specs.OrderFigures.{AreFiguresReturned, HasWidthsSha
 ghost use Rattle.minorder_c.specs.Statuses.{IsPlainStatus, ShowsPairs, ShowsShape};
 
 use crate::above::AbovePair;
-use crate::all_orders::AllOrders;
+use crate::all_orders::{AllOrders, rows_of_all_sets};
 use crate::arguments::{GivenTables, are_tables};
 use crate::status::Refusal;
-use compaction::widths_of_all_sets;
 use order_counts::figures_of_orders;
 use order_model::{Problem, WidthRow};
 use std::alloc::{AllocError, Global};
@@ -115,7 +114,7 @@ fn all_widths(alloc: Global, given: &GivenTables) -> Result<Vec<u32>, AllocError
         (range_with_len 0 (2 ^ given.now.inputs))) }
 {
     let tables = Tables::of_words(alloc, given.inputs as u8, given.outputs as u8, given.words)?;
-    let rows = widths_of_all_sets(alloc, tables.problem())?;
+    let rows = rows_of_all_sets(alloc, tables.problem())?;
     listed(alloc, tables.problem(), &rows)
 }
 

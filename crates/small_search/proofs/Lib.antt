@@ -13,3 +13,4 @@ pub mod PlainSearches
 pub mod PackedWords
 pub mod ValueParts
 pub mod ReadCells
+pub mod WidthRows

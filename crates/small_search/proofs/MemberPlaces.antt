@@ -2,6 +2,7 @@
 --     member_parts      the members below one, it, and the others
 --     member_at      where it stands among the members
 --     members_none, members_next      the members below 0; below one more variable
+--     next_stands, counted      where the next member stands, and what is asked to count what depends on it
 --     width_of_values      a width is how many of the values that occur depend on the variable's place
 use Rattle.std.proofs.Common.{◌≡◌, ℕ, zero, suc, ◌+◌, ◌-◌, ◌^◌, ◌<◌, ◌≤◌, Bool, true, false, cond, ◌&&◌, List, [], ◌∷◌, ◌++◌, length, get_or, count_ones, refl, sym, ap, ◌∙◌, subst, arith, eqb, eq-eqb, nat_eq}
 use Rattle.std.specs.Int.{bit_at}
@@ -12,13 +13,17 @@ use Rattle.std.proofs.lemmas.Nat.Bits.{shr_and_one}
 use Rattle.definitions.specs.Orders.{has, members, without}
 use Rattle.definitions.specs.Problems.{functions}
 use Rattle.definitions.specs.Widths.{width}
+use Rattle.definitions.proofs.Bits.LowerBounds.{members_gap}
 use Rattle.definitions.proofs.Bits.Ones.{ones-members}
+use Rattle.definitions.proofs.Precedence.Masks.{bit_inside}
 use Rattle.definitions.proofs.Lists.Ranges.{range_append}
 use Rattle.definitions.proofs.Lists.Sets.{among_from_member, nat_decides}
 use Rattle.subset_layers.proofs.CostLists.{bit_from_member}
 use Rattle.subfunction_classes.specs.Table.{ClassesOf, set_of}
 use Rattle.small_search.specs.Counting.{AreOccurring, dependents_in, is_dependent_in}
-use Rattle.small_search.specs.Occurrences.{IsAtPlace}
+use Rattle.small_search.specs.Occurrences.{AreOf, CanBeCounted, IsAtPlace}
+use Rattle.small_search.specs.declared.width_counts.Subfunctions.{Subfunctions}
+use Rattle.small_search.specs.declared.width_counts.Subfunctions.TheVariants.{Values, Classes}
 use Rattle.small_search.specs.Values.{mask_over, places, size_of, set_values}
 use Rattle.small_search.proofs.ValuePlaces.{place_bit, places_more}
 use Rattle.small_search.proofs.ValueSets.{shifted}
@@ -129,3 +134,30 @@ width_of_values t occurring x place few are at =
             (b && eqb (bit_at (places 3 v) place) 1) ≡ (b && eqb (bit_at (mask_over S v) x) 1)
         by true e = e refl
         by false e = refl
+
+-- a member and those above it
+some_above : (set n x place : ℕ) → x < n → bit_at set x ≡ 1 → length (members x set) + place ≡ length (members n set) → 1 ≤ place
+some_above set n x place lt bit e =
+    let p = ap length (member_parts set n x lt bit) in
+    let l = length-append (members x set) (x ∷ filter (λ y. eqb (bit_at set y) 1) (range_with_len (x + 1) (n - suc x))) in
+    omega (arith, p, l, e)
+
+-- where the next member stands
+pub next_stands : (n set from x place : ℕ) → set < 2 ^ n → from ≤ x → bit_at set x ≡ 1 → ((y : ℕ) → from ≤ y → y < x → bit_at set y ≡ 0) →
+    length (members from set) + place ≡ length (members n set) → (x < n) × (1 ≤ place) × (length (members x set) + place ≡ length (members n set))
+next_stands n set from x place within le bit none above =
+    let inside = bit_inside n set x within bit in
+    let same : length (members x set) ≡ length (members from set) =
+    ap (λ k. length (members k set)) (let e : x ≡ from + (x - from) = omega arith in e)
+    ∙ ap length (members_gap set from (x - from) (λ y h lt. none y h (omega arith))) in
+    let here : length (members x set) + place ≡ length (members n set) = omega (arith, same, above) in
+    (inside, some_above set n x place inside bit here, here)
+
+-- what is asked of the subfunctions to count those that depend on the next member
+pub counted : (t : ClassesOf) (s : Subfunctions) (below place : ℕ) → t.set < 2 ^ t.problem.inputs → AreOf t s → 1 ≤ place →
+    below + place ≡ length (set_of t) → CanBeCounted s (place - 1)
+counted t (Values occurring) below place within are some e =
+    let o = ones-members t.problem.inputs t.set within in
+    let f = are.0 in
+    omega (arith, o, f, e, some)
+counted t (Classes masks) below place within are some e = are.1

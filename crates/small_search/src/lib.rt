@@ -5,6 +5,7 @@
 //! once.
 #![tactic(auto)]
 
+mod all_widths;
 mod cells;
 mod classes;
 mod instance;
@@ -14,5 +15,6 @@ mod tables;
 mod values;
 mod width_counts;
 
+pub use all_widths::widths_of_all_sets;
 pub use instance::SmallSearch;
 pub use search::{Workspace, are_few, find_optimum, is_small, solve, write_optimum};

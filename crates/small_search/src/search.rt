@@ -70,7 +70,7 @@ impl Workspace {
 /// The distinct subfunctions over `set`, read from `tables`. Requires that `tables` has, for each k
 /// from 0 to the size of `set`, the table of the subfunctions over its k highest variables.
 #[inline(always)]
-fn subfunctions_in<'a>(
+pub(crate) fn subfunctions_in<'a>(
     search: &SmallSearch<'_>,
     tables: &'a PathTables,
     set: Mask,

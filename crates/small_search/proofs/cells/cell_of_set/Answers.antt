@@ -9,7 +9,7 @@ use Rattle.definitions.specs.Orders.{members}
 use Rattle.definitions.specs.Problems.{functions}
 use Rattle.layer_core.specs.Instances.{InstanceOf, cell_for}
 use Rattle.layer_core.specs.Pairing.{no_cell}
-use Rattle.small_search.proofs.MemberPlaces.{member_parts, members_next, members_none}
+use Rattle.small_search.proofs.MemberPlaces.{counted, members_next, members_none, next_stands}
 use Rattle.definitions.specs.Pairs.{is_lawful}
 use Rattle.small_search.specs.Searches.{IsPlainSearch}
 use Rattle.small_search.specs.Occurrences.{AreOf, CanBeCounted, IsAtPlace}
@@ -41,37 +41,11 @@ loop-x-init c =
     let z = members_none c.args.set in
     record { small = omega arith; kept = (None, (λ y l m. absurd (omega (arith, l))), refl); above = omega (arith, o, z) }
 
--- a member and those above it
-some_above : (set n x place : ℕ) → x < n → bit_at set x ≡ 1 → length (members x set) + place ≡ length (members n set) → 1 ≤ place
-some_above set n x place lt bit e =
-    let p = ap length (member_parts set n x lt bit) in
-    let l = length-append (members x set) (x ∷ filter (λ y. eqb (bit_at set y) 1) (range_with_len (x + 1) (n - suc x))) in
-    omega (arith, p, l, e)
-
--- where the next member stands
-next_stands : (n set from x place : ℕ) → set < 2 ^ n → from ≤ x → bit_at set x ≡ 1 → ((y : ℕ) → from ≤ y → y < x → bit_at set y ≡ 0) →
-    length (members from set) + place ≡ length (members n set) → (x < n) × (1 ≤ place) × (length (members x set) + place ≡ length (members n set))
-next_stands n set from x place within le bit none above =
-    let inside = bit_inside n set x within bit in
-    let same : length (members x set) ≡ length (members from set) =
-    ap (λ k. length (members k set)) (let e : x ≡ from + (x - from) = omega arith in e)
-    ∙ ap length (members_gap set from (x - from) (λ y h lt. none y h (omega arith))) in
-    let here : length (members x set) + place ≡ length (members n set) = omega (arith, same, above) in
-    (inside, some_above set n x place inside bit here, here)
-
 pub overflow_sub-place : goal.overflow_sub-place
 overflow_sub-place c =
     let m = c.in-Some.ensures.member in
     (next_stands c.args.search.now.problem.inputs c.args.set c.loop-x.from c.in-Some.x c.loop-x.place c.requires.within m.0 m.2 c.in-Some.ensures.first
     c.loop-x.invariant.above).1
-
-counted : (t : ClassesOf) (s : Subfunctions) (below place : ℕ) → t.set < 2 ^ t.problem.inputs → AreOf t s → 1 ≤ place →
-    below + place ≡ length (set_of t) → CanBeCounted s (place - 1)
-counted t (Values occurring) below place within are some e =
-    let o = ones-members t.problem.inputs t.set within in
-    let f = are.0 in
-    omega (arith, o, f, e, some)
-counted t (Classes masks) below place within are some e = are.1
 
 pub width-requires-clause-counted : goal.width-requires-clause-counted
 width-requires-clause-counted c =

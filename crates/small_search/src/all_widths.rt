@@ -1,0 +1,58 @@
+//! The widths of all sets of a small problem's variables.
+
+ghost use Rattle.std.specs.Prelude.{◌^◌, ◌<◌, IfOk};
+ghost use Rattle.definitions.specs.AllOrders.{AreAllWidths, AreWidthsIn};
+ghost use Rattle.definitions.specs.Problems.{functions};
+ghost use Rattle.subfunction_classes.specs.Table.{classes_of};
+ghost use Rattle.small_search.specs.Occurrences.{AreOf};
+
+use crate::instance::{SmallSearch, words_of};
+use crate::search::subfunctions_in;
+use crate::tables::PathTables;
+use crate::width_counts::Subfunctions;
+use order_model::{Mask, Pairs, Problem, WidthRow, next_member};
+use std::alloc::{AllocError, Global};
+
+/// The widths of the members of `set` over the other members, 0 at other variables. `subfunctions`
+/// has the distinct subfunctions over `set`.
+#[inline(always)]
+fn row_of_set(search: &SmallSearch<'_>, subfunctions: &Subfunctions<'_>, set: Mask) -> WidthRow
+    requires within { set < 2 ^ search.now.problem.inputs }
+    requires subfunctions { AreOf (classes_of search.now.problem set) subfunctions.now }
+    ensures { AreWidthsIn search.now.problem.inputs (functions search.now.problem) set result }
+{
+    prove!(search.inputs() <= 16);
+    let mut row = [0; 16];
+    let mut place = set.count_ones();
+    let mut from = 0;
+    while let Some(x) = next_member(set, from) {
+        place -= 1;
+        row[x as usize] = subfunctions.width(x, place);
+        from = x + 1;
+    }
+    row
+}
+
+/// A row for each set of variables, at its mask: at each member x the width of x over the other
+/// members, and 0 elsewhere. Takes a step for each entry of the class tables of all sets, so it is
+/// for small problems.
+pub fn widths_of_all_sets(alloc: Global, problem: &Problem) -> Result<Vec<WidthRow>, AllocError>
+    ensures { IfOk result
+        (λ rows. AreAllWidths problem.now.inputs (functions problem.now) rows.items) }
+{
+    let words = words_of(alloc, problem)?;
+    let pairs = Pairs::none(problem.inputs());
+    let search = SmallSearch::new(problem.inputs(), problem.outputs(), &words, &pairs);
+    let mut tables = PathTables::new(alloc);
+    tables.restart(alloc, &search)?;
+    let sets = 1u32 << search.inputs();
+    let mut rows = Vec::with_capacity(alloc, sets as usize)?;
+    rows.push([0; 16])?;
+    for number in 1..sets {
+        let set = number as Mask;
+        tables.add_lowest(&search, set)?;
+        let subfunctions = subfunctions_in(&search, &tables, set);
+        rows.push(row_of_set(&search, &subfunctions, set))?;
+    }
+    Ok(rows)
+}
