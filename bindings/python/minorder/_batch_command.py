@@ -12,12 +12,12 @@ from contextlib import ExitStack, contextmanager
 from typing import Callable, Dict, Iterator, List, NamedTuple, Optional, Sequence
 
 from . import _ends
-from ._bar import Bar
 from ._clusters import Cluster, cluster_at
+from ._progress import Bar, progress
 from ._report_rows import CsvRows, JsonRows, Rows
 from ._resuming import Output, opened, resumed
 from ._threads import workers_of
-from ._writing import undone, write_whole
+from ._writing import write_whole
 from .batch import certificates_of, report_files
 
 NAME = "minorder-batch"
@@ -68,24 +68,10 @@ def _begun(output: Optional[Output], rows: Rows, files: List[str], places: Dict[
 
 
 @contextmanager
-def _bar(count: int, done: int, is_resumed: bool) -> Iterator[Optional[Bar]]:
-    """A bar where standard error is a terminal on which no rows are written."""
-    if not sys.stderr.isatty() or sys.stdout.isatty() and not is_resumed:
-        yield None
-        return
-    bar = Bar(sys.stderr.fileno(), count, done)
-    with undone(bar.clear):
-        bar.show()
-        yield bar
-    bar.clear()
-
-
-@contextmanager
-def _warned(bar: Optional[Bar]) -> Iterator[None]:
+def _warned(bar: Bar) -> Iterator[None]:
     """Says each warning as a line."""
     def say(message: object, *_: object, **__: object) -> None:
-        if bar:
-            bar.clear()
+        bar.clear()
         _ends.say(NAME, message)
 
     with warnings.catch_warnings():
@@ -119,15 +105,16 @@ def command(words: argparse.ArgumentParser, given: argparse.Namespace) -> int:
         output = None if given.resume is None else stack.enter_context(opened(given.resume))
         begun = _begun(output, rows, files, places)
         cluster = Cluster(None, given.workers) if given.dask is None else stack.enter_context(cluster_at(given.dask))
-        bar = stack.enter_context(_bar(len(files), len(files) - len(begun.files), output is not None))
+        # none on a terminal that shows rows
+        is_free = output is not None or not sys.stdout.isatty()
+        bar = stack.enter_context(progress("files", len(files), len(files) - len(begun.files), is_free))
         stack.enter_context(_warned(bar))
         has_fault = begun.has_fault
         for report in report_files(
                 begun.files, given.certificates, cluster.workers, cluster.executor, ordered=not given.unordered):
             begun.write(rows.row(report))
             has_fault |= report.fault != ""
-            if bar:
-                bar.step()
+            bar.step()
     return 1 if has_fault else 0
 
 

@@ -50,8 +50,8 @@ def counted(runs: Sequence[Run], jobs: Optional[int] = None) -> list[Counted]:
     optima = benchmarks.optima()
     # the largest first, so that no process is left alone with them
     names = sorted(asked, key=lambda name: (-optima[name].inputs, -optima[name].outputs))
-    with progress("functions counted", len(names)) as show:
-        answers = each(counted_orders, [(name, list(asked[name])) for name in names], jobs, show)
+    with progress("functions", len(names)) as bar:
+        answers = each(counted_orders, [(name, list(asked[name])) for name in names], jobs, bar.step)
     found = {(name, *it): answer for name, its in zip(names, answers) for it, answer in zip(asked[name], its)}
     return [
         Counted(run, run.nodes, "") if run.order is None else Counted(run, *found[run.name, run.order, run.nodes])

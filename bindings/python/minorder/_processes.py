@@ -19,26 +19,25 @@ Found = TypeVar("Found")
 
 def each(
         work: Callable[[Task], Found], tasks: Sequence[Task], workers: Optional[int] = None,
-        show: Callable[[int], None] = lambda done: None,
+        step: Callable[[], None] = lambda: None,
 ) -> list[Found]:
     """What the work gives for each task, in their order, by so many processes, as many as there are processors if that is left
-    out. ``show`` is called with the number of tasks that are done. Raises what the work does, and MemoryError if a process is
-    lost."""
+    out. ``step`` is called for each task that is done. Raises what the work does, and MemoryError if a process is lost."""
     count = min(workers_of(workers), len(tasks))
     if count < 2:
-        return _alone(work, tasks, show)
+        return _alone(work, tasks, step)
     crew = _Crew(work, count)
     try:
-        return crew.done(tasks, show)
+        return crew.done(tasks, step)
     finally:
         crew.end()
 
 
-def _alone(work: Callable[[Task], Found], tasks: Sequence[Task], show: Callable[[int], None]) -> list[Found]:
+def _alone(work: Callable[[Task], Found], tasks: Sequence[Task], step: Callable[[], None]) -> list[Found]:
     found = []
     for task in tasks:
         found.append(work(task))
-        show(len(found))
+        step()
     return found
 
 
@@ -67,9 +66,9 @@ class _Crew:
             there.close()
         self.processes[here] = process
 
-    def done(self, tasks: Sequence[Any], show: Callable[[int], None]) -> list[Any]:
+    def done(self, tasks: Sequence[Any], step: Callable[[], None]) -> list[Any]:
         if not self.processes:
-            return _alone(self.work, tasks, show)
+            return _alone(self.work, tasks, step)
         found: dict[int, Any] = {}
         left = deque(enumerate(tasks))
         busy: dict[Connection, int] = {}
@@ -80,7 +79,7 @@ class _Crew:
             for ready in wait(list(busy)):
                 pipe = cast(Connection, ready)
                 found[busy.pop(pipe)] = _answer(pipe)
-                show(len(found))
+                step()
                 if left:
                     busy[pipe] = _give(pipe, left)
         return [found[number] for number in range(len(tasks))]

@@ -16,7 +16,7 @@ import os
 import stat
 import sys
 import time
-from typing import Iterable, Iterator, NamedTuple, Optional, Sequence
+from typing import Iterable, Iterator, Mapping, NamedTuple, Optional, Sequence
 
 from . import _ends, benchmarks
 from ._errors import MinorderError
@@ -116,8 +116,8 @@ def listed(path: str, columns: Sequence[str]) -> Optional[list[dict[str, str]]]:
     return rows if tuple(table.fieldnames or ()) == tuple(columns) else None
 
 
-def names_before(folder: str) -> Optional[list[str]]:
-    """The functions that the folder's list has, and whose files lie there; None if it is another list."""
+def names_listed(folder: str) -> Optional[list[str]]:
+    """The functions that the folder's list has; None if it is another list."""
     rows = listed(os.path.join(folder, LIST), Written._fields)
     known = benchmarks.optima()
     if rows is None or any(row["name"] not in known for row in rows):
@@ -125,7 +125,17 @@ def names_before(folder: str) -> Optional[list[str]]:
     own = [row_of(row["name"]) for row in rows]
     if any(tuple(row.values()) != tuple(map(str, it)) for row, it in zip(rows, own)):
         return None
-    return [it.name for it in own if is_there(os.path.join(folder, f"{it.name}.pla"), it.sha256)]
+    return [it.name for it in own]
+
+
+def files_of(folder: str, names: Iterable[str]) -> dict[str, str]:
+    """Where the files of functions lie in the folder."""
+    return {name: os.path.join(folder, f"{name}.pla") for name in names}
+
+
+def states_of(files: Mapping[str, str]) -> dict[str, Optional[bool]]:
+    """Of functions' files whether they are those; None of one that isn't there."""
+    return {name: is_there(path, benchmarks.optima()[name].pla_sha256) for name, path in files.items()}
 
 
 def has_other_starts(folder: str) -> bool:
@@ -142,31 +152,37 @@ def has_other_starts(folder: str) -> bool:
 def write_functions(
         folder: str, names: Sequence[str], jobs: Optional[int] = None, starts: bool = False, force: bool = False,
 ) -> list[Written]:
-    """Writes the PLA files of functions and their list, and their random starts if these are asked for; all or nothing. Raises
-    UnknownName, Occupied unless it is forced, OSError, MemoryError."""
+    """Writes the PLA files of functions and their list, and their random starts if these are asked for; all or nothing. Says
+    which files were changed, so that the list leaves them out. Raises UnknownName, Occupied unless it is forced, OSError,
+    MemoryError."""
     wanted = [it.name for it in benchmarks.selected(names)]
-    files = {name: os.path.join(folder, f"{name}.pla") for name in wanted}
-    state = {name: is_there(path, benchmarks.optima()[name].pla_sha256) for name, path in files.items()}
+    files = files_of(folder, wanted)
+    state = states_of(files)
     others = [files[name] for name in wanted if state[name] is False]
-    others += [os.path.join(folder, LIST)] if names_before(folder) is None else []
+    others += [os.path.join(folder, LIST)] if names_listed(folder) is None else []
     others += [os.path.join(folder, STARTS)] if starts and has_other_starts(folder) else []
     if others and not force:
         raise Occupied(others)
     # the largest first, so that no process is left alone with them
     optima = benchmarks.optima()
     largest = sorted((it for it in wanted if not state[it]), key=lambda it: (-optima[it].inputs, -optima[it].outputs))
-    with progress("files made", len(largest)) as show:
-        made = {f"{name}.pla": content for name, content in zip(largest, each(content_of, largest, jobs, show))}
+    with progress("files", len(largest)) as bar:
+        made = {f"{name}.pla": content for name, content in zip(largest, each(content_of, largest, jobs, bar.step))}
+    changed: list[str] = []
 
     def contents() -> dict[str, bytes]:
         """All files; the list has what lies there by now."""
-        together = list(dict.fromkeys([*(names_before(folder) or []), *wanted]))
+        before = files_of(folder, names_listed(folder) or [])
+        lying = states_of(before)
+        changed.extend(before[name] for name in before if lying[name] is False and name not in wanted)
+        together = list(dict.fromkeys([*(name for name in before if lying[name]), *wanted]))
         lists = {LIST: csv_of(Written._fields, map(row_of, together))}
         if starts:
             lists[STARTS] = csv_of(START_COLUMNS, start_rows(together))
         return {**made, **lists}
 
     write_all(folder, contents)
+    _ends.say(NAME, *(f"{path}: it was changed, so {LIST} lists it no more" for path in changed))
     return [row_of(name) for name in wanted]
 
 

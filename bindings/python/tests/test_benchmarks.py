@@ -106,6 +106,18 @@ class Written(unittest.TestCase):
             self.assertEqual(ran(folder, "life")[0], 0)
             self.assertEqual(names_in(folder), ["hwb4", "gray16", "bcd7seg", "life"])
 
+    def test_a_file_that_was_changed_is_listed_no_more(self):
+        with tempfile.TemporaryDirectory() as folder:
+            self.assertEqual(ran(folder, "codes")[0], 0)
+            with open(f"{folder}/gray16.pla", "a") as file:
+                file.write("# mine\n")
+            mine = content_of(folder, "gray16.pla")
+            status, out, errors = ran(folder, "mux2")
+            said = f"minorder-functions: {folder}/gray16.pla: it was changed, so functions.csv lists it no more\n"
+            self.assertEqual((status, errors, names_in(folder)), (0, said, ["gray8", "bcd7seg", "mux2"]))
+            self.assertEqual((ran(folder, "mux2")[2], content_of(folder, "gray16.pla")), ("", mine))
+            self.assertEqual((ran(folder, "gray16", "--force")[2], names_in(folder)[-1]), ("", "gray16"))
+
     def test_what_is_another_file_is_kept(self):
         own = {"hwb4.pla": ".i 1\n.o 1\n1 1\n.e\n", "functions.csv": "my,own\n1,2\n", "starts.csv": "also mine\n", "notes": "x"}
         with tempfile.TemporaryDirectory() as folder:
@@ -133,16 +145,15 @@ class Written(unittest.TestCase):
                     shown = read_from(reader)
                     os.close(reader)
                     self.assertRegex(process.stdout.read(), r"^4 files in .*, listed in functions.csv: [0-9.]+ s\n$")
-                lines = [line for line in shown.split("\r\033[K") if line]
-                self.assertEqual(lines, [f"{done} of 4 files made" for done in range(5)])
-                self.assertTrue(shown.endswith("\r\033[K"))
+                self.assertTrue(shown.startswith(f"\r[{' ' * 20}] 0/4 files"), shown)
+                self.assertEqual((shown[-1], shown.split("\r")[-2].strip()), ("\r", ""))
 
     def test_an_interrupt_ends_it_and_leaves_nothing(self):
         with tempfile.TemporaryDirectory() as folder:
             reader, terminal = pty.openpty()
             with begun(terminal, f"{folder}/new", "--jobs", "2") as process:
                 os.close(terminal)
-                self.assertIn("0 of 256 files made", os.read(reader, 1 << 16).decode())
+                self.assertIn("0/256 files", os.read(reader, 1 << 16).decode())
                 time.sleep(0.5)
                 process.send_signal(signal.SIGINT)
                 # its own processes end with it, so nobody holds the terminal

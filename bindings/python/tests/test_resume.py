@@ -20,10 +20,10 @@ import unittest.mock
 
 sys.path.insert(0, os.path.dirname(os.path.abspath(__file__)))
 
-from folders import InFolder  # noqa: E402
+from folders import ENVIRONMENT, InFolder  # noqa: E402
 from test_minorder import load_tests  # noqa: E402, F401
 
-from minorder import _bar, _batch_command, _clusters, _threads, _writing, benchmarks  # noqa: E402
+from minorder import _batch_command, _clusters, _progress, _threads, _writing, benchmarks  # noqa: E402
 
 MULTIPLEXER = ".i 3\n.o 1\n1-0 1\n-11 1\n.e\n"
 NAMES = ["-dash.pla", "a blank.pla", "quo\"te,s.pla", "line\nfeed.pla", "carriage\rreturn.pla", os.fsdecode(b"latin\xff.pla")]
@@ -206,12 +206,12 @@ class Lines(InFolder):
 
 
 class Bars(InFolder):
-    def on_terminal(self, *words, end=None, **streams):
+    def on_terminal(self, *words, end=None, term="xterm", **streams):
         """What is written to a terminal that is standard error, and the status."""
         above, terminal = pty.openpty()
         for name, to in streams.items():
             streams[name] = terminal if to == "terminal" else to
-        process = self.process(*words, stderr=terminal, **streams)
+        process = self.process(*words, stderr=terminal, env={**ENVIRONMENT, "TERM": term}, **streams)
         os.close(terminal)
         written = b""
         with contextlib.suppress(OSError):
@@ -235,6 +235,7 @@ class Bars(InFolder):
         status, written = self.on_terminal(*files, stdout="terminal")
         self.assertEqual([json.loads(it)["status"] for it in written.splitlines()], [0, 0, 0])
         self.assertEqual(self.ended(*files)[2], b"")
+        self.assertEqual(self.on_terminal(*files, stdout=subprocess.DEVNULL, term="dumb"), (0, b""))
 
     def test_a_signal_clears_it(self):
         hard = self.put("hard.pla", benchmarks.entry("random14_16").pla())
@@ -244,7 +245,7 @@ class Bars(InFolder):
     def test_its_text(self):
         with unittest.mock.patch("time.monotonic", side_effect=[0, 0, 100, 3000]), unittest.mock.patch("os.write") as written:
             with unittest.mock.patch("os.get_terminal_size", return_value=os.terminal_size((80, 24))):
-                bar = _bar.Bar(2, 10, 4)
+                bar = _progress.Bar(2, "files", 10, 4)
                 bar.show()
                 bar.step()
                 bar.step()
