@@ -4,7 +4,7 @@ from typing import Optional, Tuple
 
 class MinorderError(Exception):
     """A call was refused; each other exception of this package is one of these, and its text names the argument.
-    Where memory is out it is a MemoryError instead, and a file that can't be read is an OSError."""
+    Where memory is out it is a MemoryError instead, and a file that can't be read or written is an OSError."""
 
 
 class NoLibrary(MinorderError, OSError):

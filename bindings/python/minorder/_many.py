@@ -3,14 +3,14 @@ from array import array
 from concurrent.futures import Executor
 from ctypes import c_uint8, c_uint32, c_uint64
 from struct import Struct
-from typing import Iterable, Iterator, List, Mapping, Optional, Sequence, Tuple
+from typing import Dict, Iterable, Iterator, List, Mapping, Optional, Sequence
 
 from ._arguments import checked_inputs, native, shown
 from ._calls import Result, done
 from ._errors import BadArgument, BadShape, MinorderError
 from ._library import library
-from ._tables import Pla, Tables, inputs_said, listed, words_of
-from ._threads import in_order, workers_of
+from ._tables import Pla, Tables, inputs_said, listed, no_inputs, words_of
+from ._threads import Crew, workers_of
 
 # of a chunk: inputs, outputs, and how many functions
 HEAD = Struct("<III")
@@ -22,7 +22,8 @@ def exact_many(
         tables: Iterable[Tables], inputs: Optional[int] = None, workers: Optional[int] = None,
         executor: Optional[Executor] = None,
 ) -> List[Result]:
-    """What ``exact`` gives for each of many functions, in their order.
+    """What ``exact`` gives for each of many functions, in their order, but that these results don't know their tables: their
+    ``names`` are x0, x1, .., and a notebook shows no diagram.
 
     Each is given as ``exact`` takes it, and all have as many inputs and tables as the first. They are done by
     ``workers`` threads, as many as there are processors if that is left out, or by an executor of ``concurrent.futures``, which
@@ -35,13 +36,31 @@ def exact_many(
     try:
         first = listed(each[0])
         if inputs is None and (inputs := inputs_said(first)) is None:
-            raise BadArgument("inputs: it is left out, and the tables don't say how many variables they have")
+            raise no_inputs(first)
     except MinorderError as error:
         raise _of_function(0, error) from None
     inputs, outputs = checked_inputs(inputs), len(first)
     size = max(1, min(MOST_POINTS >> inputs, -(-len(each) // (4 * workers_of(workers)))))
     chunks = chunks_of(each, inputs, outputs, size)
-    return [result for answers in in_order(exact_chunk, chunks, workers, executor) for result in _results_of(answers, inputs)]
+    with Crew[int](exact_chunk, workers, executor) as crew:
+        return _results_by(crew, chunks, inputs)
+
+
+def _results_by(crew: Crew[int], chunks: Iterable[bytes], inputs: int) -> List[Result]:
+    """The results of chunks of functions, in their order, by a crew, which goes on while those of a chunk are made."""
+    found: Dict[int, List[Result]] = {}
+
+    def take() -> None:
+        number, answers = crew.take()
+        found[number] = list(_results_of(answers, inputs))
+
+    for number, chunk in enumerate(chunks):
+        while not crew.has_room():
+            take()
+        crew.give(number, chunk)
+    while crew.has_tasks():
+        take()
+    return [result for number in range(len(found)) for result in found[number]]
 
 
 def _functions_of(tables: Iterable[Tables]) -> Sequence[Tables]:

@@ -1,7 +1,6 @@
 """Work on threads that the interpreter needn't wait for, and by executors of other packages."""
 import os
 import warnings
-from collections import deque
 from concurrent.futures import BrokenExecutor, Executor, Future
 from contextlib import suppress
 from ctypes import CDLL
@@ -9,7 +8,7 @@ from mmap import mmap
 from queue import SimpleQueue
 from signal import SIG_BLOCK, SIG_SETMASK, SIGHUP, SIGINT, SIGTERM, pthread_sigmask
 from threading import Thread, current_thread, main_thread
-from typing import Any, Callable, Deque, Dict, Generic, Iterable, Iterator, Optional, Tuple, TypeVar
+from typing import Any, Callable, Dict, Generic, Optional, Tuple, TypeVar
 
 from ._arguments import shown, whole
 from ._errors import BadShape
@@ -96,33 +95,6 @@ def workers_of(workers: Optional[int]) -> int:
     return number
 
 
-def in_order(
-        work: Callable[[bytes], bytes], tasks: Iterable[bytes], workers: Optional[int], executor: Optional[Executor],
-) -> Iterator[bytes]:
-    """What the work gives for each task, in the tasks' order. The executor takes the place of threads. A task that fails
-    with it, as one does whose worker dies, is done here, with a warning."""
-    count = workers_of(workers)
-    pool = Threads(count) if executor is None else executor
-    ahead = 4 * count if executor is None else AHEAD
-    waiting: Deque[Tuple[bytes, "Future[bytes]"]] = deque()
-
-    def outcome(task: bytes, future: "Future[bytes]") -> bytes:
-        return future.result() if executor is None else _outcome(work, task, future)
-
-    try:
-        for task in tasks:
-            waiting.append((task, _submitted(pool, work, task)))
-            if len(waiting) > ahead:
-                yield outcome(*waiting.popleft())
-        while waiting:
-            yield outcome(*waiting.popleft())
-    finally:
-        for _, future in waiting:
-            future.cancel()
-        if executor is None:
-            pool.shutdown(wait=False)
-
-
 class Crew(Generic[Key]):
     """Threads, or an executor's workers, which are given tasks, each with a key, and give what the work makes of them as it is
     done. A task that fails with an executor is done here, with a warning."""
@@ -183,5 +155,5 @@ def _outcome(work: Callable[[bytes], bytes], task: bytes, future: "Future[bytes]
     try:
         return future.result()
     except Exception as error:
-        warnings.warn(f"a chunk is done here, since the executor failed with {error!r}", RuntimeWarning, stacklevel=2)
+        warnings.warn(f"the workers failed with {error!r}: this process does their part", RuntimeWarning, stacklevel=2)
     return aside(LASTING, work, task)

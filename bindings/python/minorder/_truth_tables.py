@@ -57,7 +57,7 @@ class TruthTable:
 
     def _joined(self, other: object, join: Callable[[int, int], int]) -> TruthTable:
         if not isinstance(other, TruthTable):
-            raise _no_table("tables", other)
+            raise _no_truth_table("tables", other)
         return TruthTable(join(self.number, other.number), self.inputs, names_among((self, other)))
 
     def __and__(self, other: TruthTable) -> TruthTable:
@@ -75,20 +75,20 @@ class TruthTable:
         return TruthTable(self.number ^ ((1 << (1 << self.inputs)) - 1), self.inputs, self.names)
 
 
-def _no_table(named: str, it: object) -> BadArgument:
+def _no_truth_table(named: str, it: object) -> BadArgument:
     equality = ", and for a == b write ~(a ^ b)" if isinstance(native(it), bool) else ""
     return BadArgument(f"{named}: {shown(it)} is no TruthTable: {CONSTANTS}{equality}")
 
 
-def names_among(tables: Sequence[TruthTable]) -> Tuple[str, ...]:
+def names_among(tables: Sequence[TruthTable], named: str = "tables") -> Tuple[str, ...]:
     """The names of the variables of tables that stand together, of which some may have none. Raises BadShape."""
     first = tables[0]
     none = found = numbered_names("x", first.inputs)
     for table in tables:
         if table.inputs != first.inputs:
-            raise BadShape(f"tables: a table of {first.inputs} variables beside one of {table.inputs}")
+            raise BadShape(f"{named}: a table of {first.inputs} variables beside one of {table.inputs}")
         if found not in (none, table.names) and table.names != none:
-            raise BadShape(f"tables: one of the variables {', '.join(found)} beside one of {', '.join(table.names)}")
+            raise BadShape(f"{named}: one of the variables {', '.join(found)} beside one of {', '.join(table.names)}")
         found = found if table.names == none else table.names
     return found
 
@@ -104,7 +104,8 @@ def ite(test: TruthTable, high: TruthTable, low: TruthTable) -> TruthTable:
         raise BadArgument("test, high, low: ite joins tables; of booleans write `high if test else low`")
     for named, table in (("test", test), ("high", high), ("low", low)):
         if not isinstance(table, TruthTable):
-            raise _no_table(named, table)
+            raise _no_truth_table(named, table)
+    names_among((test, high, low), "test, high, low")
     return test & high | ~test & low
 
 

@@ -66,7 +66,7 @@ def _answer(content: bytes, with_certificate: bool) -> Tuple[Report, str]:
     inputs = len(names)
     text = certify(tables) if with_certificate else ""
     if text:
-        # the third to fifth lines of a certificate are `order ..`, `levels ..` and `total ..`
+        # the fourth to sixth lines of a certificate are `order ..`, `levels ..` and `total ..`
         order, counts, total = ([int(word) for word in line.split()[1:]] for line in text.split("\n", 6)[3:6])
         best = (tuple(order), tuple(counts), total[0])
     else:

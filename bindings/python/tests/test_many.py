@@ -83,6 +83,8 @@ class Functions(unittest.TestCase):
         mixed = [0b0110, b"\x08", minorder.TruthTable(6, 2), lambda a, b: a and b, [7]]
         self.assertEqual([it.total for it in minorder.exact_many(mixed, 2)], [3, 2, 3, 2, 2])
         self.assertEqual(minorder.exact_many(array.array("Q", [6, 8]), 2), minorder.exact_many([6, 8], 2))
+        [found] = minorder.exact_many(minorder.variables("a b")[:1])
+        self.assertEqual((found.names, found._repr_html_()), (("x0", "x1"), None))
 
     def test_what_is_refused(self):
         for functions in (6, "6", b"6", {6}, {6: 1}, None, lambda a: a, minorder.read_pla(f"{TOP}/examples/mux2.pla")):
@@ -96,12 +98,14 @@ class Functions(unittest.TestCase):
         for workers in (0, -1, 1025, 10 ** 20):
             self.assertRaises(minorder.BadShape, minorder.exact_many, [1, 2], 2, workers)
         self.assertRaises(minorder.BadArgument, minorder.exact_many, [1, 2], 2, "2")
-        self.assertRaises(minorder.BadArgument, minorder.exact_many, [1, 2])
+        for functions, why in (([1, 2], "the tables don't say"), ([lambda *them: 1], "a function of \\(\\*them\\) doesn't say")):
+            with self.assertRaisesRegex(minorder.BadArgument, f"tables: function 0: inputs: it is left out, and {why} how many"):
+                minorder.exact_many(functions)
 
     def test_executors(self):
         inputs, _, functions = self.cases[3]
         wanted = [minorder.exact(it, inputs) for it in functions]
-        with self.assertWarnsRegex(RuntimeWarning, "the worker died"):
+        with self.assertWarnsRegex(RuntimeWarning, r"the workers failed with .*the worker died.*: this process does their part"):
             self.assertEqual(minorder.exact_many(functions, inputs, executor=Dying()), wanted)
         with concurrent.futures.ProcessPoolExecutor(2) as pool:
             self.assertEqual(minorder.exact_many(functions, inputs, executor=pool), wanted)

@@ -79,9 +79,9 @@ class Operators(Refusing):
             self.refused(minorder.BadArgument, f"{named}: ", minorder.ite, *given)
 
     def test_other_inputs(self):
-        said, other = "tables: a table of 3 variables beside one of 2", minorder.variables(2)[0]
-        self.refused(minorder.BadShape, said, lambda: self.a & other)
-        self.refused(minorder.BadShape, said, minorder.ite, self.a, self.b, other)
+        said, other = "a table of 3 variables beside one of 2", minorder.variables(2)[0]
+        self.refused(minorder.BadShape, f"tables: {said}", lambda: self.a & other)
+        self.refused(minorder.BadShape, f"test, high, low: {said}", minorder.ite, self.a, self.b, other)
 
     def test_names(self):
         a, x = self.a, minorder.variables(3)[0]
@@ -89,10 +89,10 @@ class Operators(Refusing):
             self.assertEqual(table.names, ("a", "b", "s"))
         self.assertEqual((x & x).names, ("x0", "x1", "x2"))
         u = minorder.variables(["u", "v", "w"])[0]
-        for call in (
-                lambda: a & u, lambda: minorder.ite(x, a, u), lambda: minorder.exact([x, a, u]),
-                lambda: minorder.levels([u, a], range(3))):
+        for call in (lambda: a & u, lambda: minorder.exact([x, a, u]), lambda: minorder.levels([u, a], range(3))):
             self.refused(minorder.BadShape, "tables: one of the variables ", call)
+        said = "test, high, low: one of the variables a, b, s beside one of u, v, w"
+        self.refused(minorder.BadShape, said, minorder.ite, x, a, u)
         self.assertEqual((TruthTable(u, 3, ("a", "b", "s")) & a).names, a.names)
 
     @unittest.skipUnless(numpy, "no numpy here")
