@@ -101,11 +101,30 @@ class Results(Opened):
 
     def test_a_large_file(self):
         said = self.drop_in("large.csv", "hwb8,55\nhwb8,44\n" * 200_000)
-        self.assertIn("by 200000 of 400000 runs, 50 %", said)
-        self.driver.execute_script("takeFiles([{name: 'folder', size: 4096, text: async () => { throw new Error('no file'); }}])")
+        self.assertIn("and by 50 % of the runs.", said)
+        self.driver.execute_script(
+            "takeFiles([{name: 'folder', size: 4096, arrayBuffer: async () => { throw new Error('no file'); }}])")
         self.until(lambda: self.one("#said").text == "folder is refused:\nit can't be read")
         self.driver.execute_script("takeFiles([{name: 'huge.csv', size: 3e7}])")
         self.until(lambda: self.one("#said").text == "huge.csv is refused:\nit is larger than 20 MB")
+        self.driver.execute_script("""
+            unsay();
+            const letters = [...'name,nodes\\nhwb8,55\\n'].map(it => it.charCodeAt(0));
+            takeFiles([new File([Uint16Array.from([0xfeff, ...letters])], 'wide.csv')]);""")
+        self.assertEqual(self.said(), "wide.csv is refused:\nit is no text (UTF-8)")
+
+    def test_a_line_again_and_again_makes_no_function_count_more(self):
+        others = [f"hwb8,55,{number}" for number in range(2, 11)]
+        for many in (1, 991):
+            said = self.drop_in(f"{many}.csv", "\n".join(["name,nodes,start", *["hwb8,44,1"] * many, *others]))
+            self.assertIn("functions, and by 10 % of the runs.", said)
+        self.assertEqual(self.own_rows(10), {"1": "10 %", "991": "10 %"})
+        said = self.drop_in("file.csv", "\n".join(["name,nodes", "hwb8,55", *["mux2,3"] * 2000]))
+        self.assertIn("functions, and by 50 % of the runs.", said)
+
+    def test_seconds_are_of_what_ended(self):
+        self.drop_in("mine.csv", "name,nodes,seconds\nhwb8,44,1\nhwb8,45,2\nlife,late,9\nlife,26,9\nmux2,3,\n")
+        self.assertEqual(self.own_rows(7), {"mine": "1.5"})
 
     def test_what_a_browser_does_not_keep(self):
         self.driver.execute_script("Object.defineProperty(window, 'localStorage', {get() { throw new Error('denied'); }});")
@@ -142,11 +161,12 @@ class Results(Opened):
         said = self.drop_in("mine.csv", f"name,order,nodes\n{orders}")
         self.assertIn("of what ended 1.250 on 1 function;", said)
         self.assertIn("\nmine, another own size, 2 runs, as hwb8, 44 in place of 55.", said)
-        self.assertIn("\nmine, with several runs, 1: hwb8: the lower median of a function's runs counts.", said)
+        counting = "the lower median of a function's runs counts, and in the runs that met the optimum their share"
+        self.assertIn(f"\nmine, with several runs, 1: hwb8: {counting}.", said)
         self.assertEqual(self.all(".claims"), [])
         self.driver.refresh()
         self.assertEqual((list(self.own_rows(2)), self.all(".claims")), (["mine"], []))
-        believed = "1 size claimed, not counted: the page believes the file; it counts orders, as minorder-score does"
+        believed = "1 size claimed: nobody counted it"
         said = self.drop_in("claims.csv", "name,nodes,counted\nhwb8,44,1\nlife,late,1\n")
         self.assertTrue(said.startswith(f"claims ({believed}), from the file's order: place "), said)
         for _ in range(2):
@@ -169,8 +189,10 @@ class Results(Opened):
 
     def test_files_are_dropped(self):
         said = self.drop_in("dropped.csv", "hwb8,55\nlife,26\n")
-        self.assertIn("as minorder-score does), from the file's order: place ", said)
-        self.assertIn("of what ended 1.118 on 2 functions; 0 late, 254 missing; worst ratio 1.25 (hwb8); optimum met in 1", said)
+        self.assertIn("dropped (2 sizes claimed: nobody counted them), from the file's order: place ", said)
+        self.assertIn(" (a late or missing one counts as the worst ratio that the league or the start has there, and none as "
+                      "more than that); of what ended 1.118 on 2 functions; 0 late, 254 missing; worst ratio 1.25 (hwb8), of the "
+                      "runs that ended; optimum met in 1 of 256 functions, and by 50 % of the runs.", said)
         said = self.drop_in("one.csv", "hwb8,55\n", "two.csv", "hwx8,55\n", "three.csv", "life,26\n")
         for text in ("one (1 size claimed", "two.csv is refused:\nline 1: no function is named hwx8", "three (1 size claimed"):
             self.assertIn(text, said)
@@ -223,13 +245,14 @@ class Results(Opened):
             for score in scores_of(name, runs):
                 its, from_file = score.standing, score.start == benchmarks.FILE
                 self.assertIn(f"place {score.place} of 26, by the mean ratio {fixed(its.mean, 3)} on all {its.whole} ", said)
-                self.assertIn(f"; optimum met in {its.met} of {its.whole} functions, and by {its.runs_met} of {its.runs} ", said)
+                share = benchmarks.percent(its.runs_met)
+                self.assertIn(f"; optimum met in {its.met} of {its.whole} functions, and by {share} of the runs", said)
                 if len(its.ended) < its.whole:
                     self.assertIn(f"; {its.late} late, {len(score.missing)} missing", said)
                 if 0 < len(its.ended) < its.whole:
                     self.assertIn(f"; of what ended {fixed(its.mean_of_ended, 3)} on {len(its.ended)} function", said)
                 if its.ended:
-                    claims = rf"{score.claimed} sizes? claimed, not counted: the page believes .*"
+                    claims = f"{score.claimed} sizes? claimed: nobody counted (it|them)"
                     self.assertRegex(said, rf"(?m)^{name} \({claims}\), from ")
                 if score.left_out:
                     self.assertIn(f"left out, {len(score.left_out)}: {' '.join(score.left_out)}: ", said)

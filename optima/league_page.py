@@ -19,7 +19,7 @@ LINEAR = ("CUDD", "LINEAR")
 
 def of_random_starts(standing):
     """Of the runs from random orders: the mean ratio, the worst ratio, the share of runs that met the optimum."""
-    return [fixed(standing.mean, 3), fixed(standing.worst_ratio, 2), percent(standing.runs_met, standing.runs)]
+    return [fixed(standing.mean, 3), fixed(standing.worst_ratio, 2), percent(standing.runs_met)]
 
 
 HEADS = [
@@ -93,7 +93,7 @@ def name_of(method):
 
 
 def never_met(league_lines, start):
-    """The functions whose optimum no run of any package from such a start met; what is late counts as not met."""
+    """The functions whose optimum no run of CUDD, BuDDy or ABC from such a start met; what is late counts as not met."""
     mine = [line for line in league_lines if line.start == start]
     met = {line.name for line in mine if line.package != "minorder" and line.optimum_met}
     return [name for name in dict.fromkeys(line.name for line in mine) if name not in met]
@@ -180,8 +180,8 @@ def of_families(it):
     by_sift = [line for line in it.families if (line["package"], line["method"]) == ("CUDD", "SIFT")]
     worst, missed_by_all = max(by_sift, key=lambda line: float(line["mean_ratio"])), never_met(it.lines, FILE)
     return (f"The family on which CUDD's SIFT is worst is {worst['family']}, {fixed(float(worst['mean_ratio']), 3)} in the mean. "
-            f"In {len(missed_by_all)} of {len(it.optima)} functions no run of any package from the file's order met the optimum "
-            f"in time.")
+            f"In {len(missed_by_all)} of {len(it.optima)} functions no run of CUDD, BuDDy or ABC from the file's order met the "
+            f"optimum in time.")
 
 
 FINDINGS = [

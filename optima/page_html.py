@@ -79,7 +79,7 @@ def league_rows(it):
         worst, link = cells[3].split(" ")[0], f'<a href="#{file.worst.name}">{file.worst.name}</a>'
         keys = [
             file.mean, file.mean_of_ended, None, file.met, file.late, file.seconds, random.mean, random.worst_ratio,
-            random.runs_met / random.runs]
+            random.runs_met]
         said = [cell(text, key) for text, key in zip(cells[1:], keys)]
         said[2] = f' data-order="{file.worst_ratio}">{worst} ({link})'
         rows.append(row_of(cell(cells[0]), *said, attributes=f' data-method="{escape(" ".join(method))}"'))

@@ -3,6 +3,7 @@
 optima/check_page.py opens the page in one."""
 import base64
 import csv
+import html
 import itertools
 import json
 import os
@@ -116,6 +117,16 @@ class Page(unittest.TestCase):
         found = re.findall(r"<tr data-method=.*?</tr>", self.text)
         shown = [[re.sub("<[^>]*>", "", cell) for cell in re.findall(r"<t[hd][^>]*>(.*?)</t[hd]>", row)] for row in found]
         self.assertEqual(shown, [[cell.strip() for cell in row] for row in rows])
+
+
+    def test_what_no_package_met(self):
+        lines = [line for line in benchmarks.league() if line.start == benchmarks.FILE and line.package != "minorder"]
+        self.assertEqual({line.package for line in lines}, {"CUDD", "BuDDy", "ABC"})
+        missed = set(OPTIMA) - {line.name for line in lines if line.least_nodes == OPTIMA[line.name].optimum}
+        said = f"In {len(missed)} of {len(OPTIMA)} functions no run of CUDD, BuDDy or ABC from the file's order met the optimum"
+        with open(f"{DOCS}/OPTIMA.md", encoding="utf-8") as file:
+            self.assertIn(said, file.read())
+        self.assertIn(html.escape(said), self.text)
 
 
 class ByHand(unittest.TestCase):

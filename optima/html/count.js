@@ -57,8 +57,8 @@ function nodesUnder(order, outputs, tables) {
   return next - 2;
 }
 
-/** The results, those with an order with the nodes that are counted, and their own nodes beside these. */
-async function countedResults(results) {
+/** Gives the results with an order the nodes that are counted, and beside these their own. */
+async function countResults(results) {
   const orders = results.filter((it) => it.order), byFunction = new Map(orders.map((it) => [it.name, []]));
   for (const it of orders) byFunction.get(it.name).push(it);
   const begun = performance.now();
@@ -77,5 +77,4 @@ async function countedResults(results) {
       paused = performance.now();
     }
   }
-  return results;
 }

@@ -177,9 +177,9 @@ function drawGrowth(lines) {
   const path = d3.svg.line().x((point) => x(point[0])).y((point) => y(point[1]));
   addPaths(svg, lines, (line) => path(line.points));
   for (const line of lines.filter((it) => it.on)) {
-    const marks = svg.selectAll(null).data(line.points).enter().append("a").attr("xlink:href", (point) => `#${point[2]}`);
-    marks.append("circle").attr({r: 3.5}).attr("cx", (point) => x(point[0])).attr("cy", (point) => y(point[1])).style("fill", line.colour);
-    marks.append("title").text((point) => `${point[2]}: ${point[1]} nodes`);
+    const dots = svg.selectAll(null).data(line.points).enter().append("a").attr("xlink:href", (point) => `#${point[2]}`);
+    dots.append("circle").attr({r: 3.5}).attr("cx", (point) => x(point[0])).attr("cy", (point) => y(point[1])).style("fill", line.colour);
+    dots.append("title").text((point) => `${point[2]}: ${point[1]} nodes`);
   }
   const ends = lines.filter((it) => it.on).map((line) => [line, line.points[line.points.length - 1]]);
   addNames("growth-chart", svg, ends.map(([line, point]) => ({line, x: x(point[0]) + 4, y: y(point[1])})));

@@ -29,15 +29,16 @@ const ratioOf = (nodes, name) => nodes / byName.get(name).optimum;
 const meanOf = (ratios) =>
   ratios.length ? Math.exp(ratios.reduce((total, ratio) => total + Math.log(ratio), 0) / ratios.length) : null;
 const sumOf = (numbers) => numbers.reduce((total, it) => total + it, 0);
-const percentOf = (part, whole) => `${(100 * part / whole).toFixed(0)} %`;
+const percentOf = (share) => `${(100 * share).toFixed(0)} %`;
 
 /** What a method makes of all functions that the league has from a start, or of those that are named. By the mean methods have
     their places: no function counts more than the worst nodes there, and one that is late, missing or without an order counts
-    as these. */
+    as these. Of the runs that met the optimum it has the share, each function counting alike. */
 function standing(method, start, names = null) {
   const wished = Object.entries(page.worst[start]).filter(([name]) => !names || names.has(name)), rows = method[start];
   const lines = wished.filter(([name]) => name in rows).map(([name]) => [name, rows[name]]);
-  const ended = lines.filter(([, sizes]) => sizes[COUNTED] !== null), sizesOf = (at) => lines.map(([, sizes]) => sizes[at]);
+  const ended = lines.filter(([, sizes]) => sizes[COUNTED] !== null), shares = lines.map(([, sizes]) => sizes[MET] / sizes[RUNS]);
+  const known = ended.map(([, sizes]) => sizes[SECONDS]).filter((it) => it !== undefined);
   const ratios = ended.map(([name, sizes]) => ratioOf(sizes[COUNTED], name));
   const capped = wished.map(([name, most]) => ratioOf(Math.min(rows[name]?.[COUNTED] ?? most, most), name));
   let worst = null;
@@ -50,8 +51,8 @@ function standing(method, start, names = null) {
     late: lines.filter(([, sizes]) => sizes[LATE] > 0 && sizes[COUNTED] === null).length,
     ratios: ratios.sort((a, b) => a - b), met: ratios.filter((ratio) => ratio === 1).length,
     mean: meanOf(capped), meanOfEnded: meanOf(ratios),
-    runs: sumOf(sizesOf(RUNS)), lateRuns: sumOf(sizesOf(LATE)), runsMet: sumOf(sizesOf(MET)),
-    seconds: sizesOf(SECONDS).some((it) => it !== undefined) ? sumOf(sizesOf(SECONDS).map((it) => it || 0)) : null,
+    lateRuns: sumOf(lines.map(([, sizes]) => sizes[LATE])), runsMet: shares.length ? sumOf(shares) / shares.length : null,
+    seconds: known.length ? sumOf(known) : null,
   };
 }
 

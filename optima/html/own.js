@@ -1,7 +1,7 @@
 "use strict";
 // The reader's own methods: made of files of results, named, taken off, and kept by the browser.
 const STORE = "minorder optima: methods";
-
+const CAPPED = "a late or missing one counts as the worst ratio that the league or the start has there, and none as more than that";
 const STARTS = [["file", "the file's order"], ["randomStarts", "random orders"]];
 
 /** The lower median, where null counts as more than any number; null if half of them or more are. */
@@ -19,15 +19,20 @@ function countsOfOrders(its) {
   return [...[...numbered.values()].map(medianOf), ...others];
 }
 
-/** The sizes of a function's runs. Of random orders each counts once, and one without a run as a late run. */
+/** What the runs of a function count. Of random orders each counts once, and one without a run as a late run. */
+function countsFrom(its, start) {
+  if (start === "file") return its.map((it) => it.nodes);
+  const counts = countsOfOrders(its);
+  return [...counts, ...Array(Math.max(0, RANDOM_ORDERS - counts.length)).fill(null)];
+}
+
+/** The sizes of a function's runs. */
 function sizesOf(its, start) {
-  const ended = its.filter((it) => it.nodes !== null), nodes = ended.map((it) => it.nodes).sort((a, b) => a - b);
-  const known = ended.map((it) => it.seconds).filter((it) => it !== null), best = byName.get(its[0].name).optimum;
-  const counts = start === "file" ? its.map((it) => it.nodes) : countsOfOrders(its);
-  const lacking = start === "file" ? 0 : Math.max(0, RANDOM_ORDERS - counts.length), every = its.length + lacking;
+  const counts = countsFrom(its, start), howMany = (size) => counts.filter((it) => it === size).length;
+  const ended = its.filter((it) => it.nodes !== null), known = ended.map((it) => it.seconds).filter((it) => it !== null);
   return [
-    medianOf([...counts, ...Array(lacking).fill(null)]), nodes[nodes.length - 1] ?? null, every - nodes.length, every,
-    nodes.filter((it) => it === best).length, known.length ? sumOf(known) / known.length : undefined];
+    medianOf(counts), d3.max(ended, (it) => it.nodes) ?? null, howMany(null), counts.length,
+    howMany(byName.get(its[0].name).optimum), known.length ? sumOf(known) / known.length : undefined];
 }
 
 /** Whether a function has several runs from the file's order or of one random order, or more than ten random orders. */
@@ -68,19 +73,20 @@ function lineOn(method, what, names, why) {
 
 /** What of a method's results doesn't count, or counts otherwise than a run each. */
 function notesOn(method, start, from) {
-  const {leftOut, few, several} = method, whose = start === "file" ? "a function's" : "a numbered order's";
+  const {leftOut, few, several} = method;
+  const counting = start === "file" ? "a function's runs counts, and in the runs that met the optimum their share"
+    : "a numbered order's runs counts, and each run without a number";
   return [
     lineOn(method, "left out", leftOut[start], `the league has ${from} for functions of up to ${page.mostInputs} inputs alone`),
     lineOn(method, "with fewer than ten random orders", few[start], "each that is missing counts as a late run"),
-    lineOn(method, "with several runs", several[start], `the lower median of ${whose} runs counts`),
+    lineOn(method, "with several runs", several[start], `the lower median of ${counting}`),
   ].join("");
 }
 
 const countOf = (count, what) => `${count} ${what}${count === 1 ? "" : "s"}`;
 
 /** What is said beside the name of a method with claims. */
-const saidOfClaims = (count) =>
-  `${countOf(count, "size")} claimed, not counted: the page believes the file; it counts orders, as minorder-score does`;
+const saidOfClaims = (count) => `${countOf(count, "size")} claimed: nobody counted ${count === 1 ? "it" : "them"}`;
 
 function wordsFrom(method, start, from) {
   const it = standing(method, start), notes = notesOn(method, start, from);
@@ -90,12 +96,12 @@ function wordsFrom(method, start, from) {
   return [
     method.name, claims ? ` (${saidOfClaims(claims)})` : "",
     `, from ${from}: place ${place}, by the mean ratio ${it.mean.toFixed(3)} on all ${it.whole} functions`,
-    isPlain ? "" : " (late and missing ones count as the worst of the league or the start, and none counts more)",
+    isPlain ? "" : ` (${CAPPED})`,
     isPlain || !it.ended ? "" : `; of what ended ${it.meanOfEnded.toFixed(3)} on ${countOf(it.ended, "function")}`,
     isWhole ? "" : `; ${it.late} late, ${it.missing} missing`,
-    it.worst ? `; worst ratio ${it.worst.ratio.toFixed(2)} (${it.worst.name})` : "",
-    `; optimum met in ${it.met} of ${it.whole} functions, and by ${it.runsMet} of ${countOf(it.runs, "run")}`,
-    `, ${percentOf(it.runsMet, it.runs)}`, it.lateRuns ? `; ${countOf(it.lateRuns, "run")} late` : "",
+    it.worst ? `; worst ratio ${it.worst.ratio.toFixed(2)} (${it.worst.name})${isWhole ? "" : ", of the runs that ended"}` : "",
+    `; optimum met in ${it.met} of ${it.whole} functions, and by ${percentOf(it.runsMet)} of the runs`,
+    it.lateRuns ? `; ${countOf(it.lateRuns, "run")} late` : "",
     ".", notes].join("");
 }
 
@@ -185,7 +191,7 @@ async function taken(name, text) {
   if (!canCount() && results.some((it) => it.order))
     faults.push("this browser can't count orders, for want of DecompressionStream; minorder-score does");
   if (faults.length) return refusal(shortened(name), faults);
-  await countedResults(results);
+  await countResults(results);
   const same = own().find((it) => it.text === textOf(results));
   if (same) return {text: `${shortened(name)} has the results of ${same.name}, which stands here already.`, isFault: false};
   const method = methodOf(freeName(tidied(name.replace(/\.[^.]*$/, "")) || "mine"), results);
@@ -198,10 +204,20 @@ async function taken(name, text) {
   return {text: wordsOf(method) + differencesOf(method, results) + said, isFault: false};
 }
 
+/** A text of bytes in UTF-8; null if they are none. */
+function textIn(bytes) {
+  try {
+    return new TextDecoder("utf-8", {fatal: true}).decode(bytes);
+  } catch {
+    return null;
+  }
+}
+
 async function takenFile(file) {
   if (file.size > MOST_BYTES) return refusal(shortened(file.name), [`it is larger than ${MOST_BYTES / 1e6} MB`]);
-  const text = await file.text().catch(() => null);
-  return text === null ? refusal(shortened(file.name), ["it can't be read"]) : taken(file.name, text);
+  const bytes = await file.arrayBuffer().catch(() => null), text = textIn(bytes);
+  if (text === null) return refusal(shortened(file.name), [bytes === null ? "it can't be read" : "it is no text (UTF-8)"]);
+  return taken(file.name, text);
 }
 
 async function takeAll(files) {

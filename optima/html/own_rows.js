@@ -21,12 +21,12 @@ function cellsFromFile({has, mean, meanOfEnded, ended, worst, met, whole, late, 
     seconds === null ? emptyCell() : cellOf(seconds.toFixed(1), seconds)];
 }
 
-function cellsFromRandom({has, mean, worst, runs, runsMet}) {
+function cellsFromRandom({has, mean, worst, runsMet}) {
   if (!has) return Array.from({length: 3}, emptyCell);
-  return [meanCell(mean), worstCell(worst, false), cellOf(percentOf(runsMet, runs), runsMet / runs)];
+  return [meanCell(mean), worstCell(worst, false), cellOf(percentOf(runsMet), runsMet)];
 }
 
-/** A method's name in the league; under it that the page believes its claims. */
+/** A method's name in the league; under it how many of its sizes nobody counted. */
 function nameCell(method) {
   const claims = claimsOf(method), note = claims ? element("span", {class: "claims"}, saidOfClaims(claims)) : null;
   return element("th", {scope: "row", "data-order": labelOf(method)}, element("span", {class: "name"}, labelOf(method)), note);
@@ -45,8 +45,8 @@ function addToFamilies(method) {
   headRow.insertBefore(element("th", {scope: "col", class: "yours", "data-key": label}, saidOf(method)), headRow.cells[3]);
   for (const row of rows) {
     const names = new Set(page.functions.filter((it) => it.family === row.cells[0].textContent).map((it) => it.name));
-    const {ended, whole, meanOfEnded} = standing(method, "file", names), mark = ended < whole ? "*" : "";
-    const cell = ended ? cellOf(meanOfEnded.toFixed(3) + mark, meanOfEnded) : emptyCell();
+    const {ended, whole, meanOfEnded} = standing(method, "file", names), partly = ended < whole ? "*" : "";
+    const cell = ended ? cellOf(meanOfEnded.toFixed(3) + partly, meanOfEnded) : emptyCell();
     cell.classList.add("yours");
     row.insertBefore(cell, row.cells[3]);
   }

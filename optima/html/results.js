@@ -1,7 +1,6 @@
 "use strict";
 // A file of results, `name,order` or `name,nodes`: read, and what is wrong with it.
 const MOST_BYTES = 20e6, MOST_FAULTS = 12, MOST_SECONDS = 1e9;
-const MARKS = [",", ";", "\t"];
 const TAKEN = "minorder-score RESULTS --csv writes a file that this page takes";
 const COLUMNS = ["name", "order", "nodes", "start", "claimed", "seconds"];
 // what the browser keeps: whether the nodes were counted here stands in place of an order
@@ -11,18 +10,18 @@ const DECIMAL = /^(\d+\.?\d*|\.\d+)(e[+-]?\d+)?$/i;
 /** A text of the reader's as far as a message has room for it. */
 const shortened = (text) => (text.length > 40 ? `${text.slice(0, 40)}…` : text).replace(/[\p{C}\ufffd]/gu, "?");
 
-/** The cells of a line, which a mark parts. */
-function cellsOf(line, mark) {
-  const cells = [], cell = new RegExp(`${mark} *(?:"((?:[^"]|"")*)" *(?=${mark}|$)|([^${mark}]*))`, "g");
-  for (const [, quoted, plain] of (mark + line).matchAll(cell))
+/** The cells of a line, which a separator parts. */
+function cellsOf(line, separator) {
+  const cells = [], cell = new RegExp(`${separator} *(?:"((?:[^"]|"")*)" *(?=${separator}|$)|([^${separator}]*))`, "g");
+  for (const [, quoted, plain] of (separator + line).matchAll(cell))
     cells.push(quoted === undefined ? plain.trim() : quoted.replaceAll('""', '"').trim());
   return cells;
 }
 
-/** The mark that parts the cells: the first one in the line outside quotes. */
+/** What parts the cells: the first comma, semicolon or tab in the line outside quotes. */
 function separatorOf(line) {
   const found = line.replace(/"[^"]*"/g, "").match(/[,;\t]/);
-  return found ? found[0] : MARKS[0];
+  return found ? found[0] : ",";
 }
 
 /** The start that a cell names; null if it names none. */
@@ -58,11 +57,11 @@ function faultOfClaim(nodes, it) {
   return "";
 }
 
-/** Of a mark that says otherwise than the line. */
-function faultOfMark(mark, hasOrder) {
-  if (!["", "0", "1"].includes(mark)) return `claimed ${shortened(mark)}: it is 0 or 1`;
-  if (!hasOrder && mark === "0") return "claimed 0, but a number of nodes without an order is a claim";
-  return hasOrder && mark === "1" ? "claimed 1, but it has an order, which is counted here" : "";
+/** Of a cell of the column claimed that says otherwise than the line. */
+function faultOfClaimed(said, hasOrder) {
+  if (!["", "0", "1"].includes(said)) return `claimed ${shortened(said)}: it is 0 or 1`;
+  if (!hasOrder && said === "0") return "claimed 0, but a number of nodes without an order is a claim";
+  return hasOrder && said === "1" ? "claimed 1, but it has an order, which is counted here" : "";
 }
 
 function faultOf({start, nodes, order, claimed, seconds}, it, isKept) {
@@ -73,7 +72,7 @@ function faultOf({start, nodes, order, claimed, seconds}, it, isKept) {
   if (!words.length) return "neither an order nor a number of nodes";
   if (words.some(isLate)) return others.length ? `both late and ${shortened(others[0])}` : "";
   if (nodes && !/^\d{1,9}$/.test(nodes)) return `nodes ${shortened(nodes)}: no number of nodes: one to nine decimal digits`;
-  const fault = isKept ? "" : faultOfMark(claimed, order !== "");
+  const fault = isKept ? "" : faultOfClaimed(claimed, order !== "");
   return fault || (order ? faultOfOrder(wordsOfOrder(order), it) : faultOfClaim(Number(nodes), it));
 }
 
@@ -108,12 +107,12 @@ function resultOf(cells, heads, isKept) {
 /** The results of a text, and what is wrong with it. The first line names the columns, or is a result of name and nodes. */
 function read(text, isKept = false) {
   const results = [], faults = [];
-  let heads = null, mark = null;
+  let heads = null, separator = null;
   if (/^\s*[[{]/.test(text)) return {results, faults: [`it is JSON; ${TAKEN}`]};
   for (const [number, line] of text.replace(/^\ufeff/, "").split(/\r\n|\r|\n/).entries()) {
     if (!line.trim()) continue;
-    mark = mark || separatorOf(line);
-    const cells = cellsOf(line, mark);
+    separator = separator || separatorOf(line);
+    const cells = cellsOf(line, separator);
     if (!heads) {
       const words = cells.map((cell) => cell.toLowerCase()), hasHeads = words.includes("name");
       heads = hasHeads ? words : ["name", "nodes"];

@@ -22,10 +22,6 @@ class Counted(NamedTuple):
     nodes: Optional[int]
     difference: str
 
-    @property
-    def is_best(self) -> bool:
-        return self.nodes == benchmarks.optima()[self.run.name].optimum
-
 
 def counted_orders(task: tuple[str, list[Asked]]) -> list[tuple[int, str]]:
     """The nodes of a function's diagram under each order, without complement edges, and why its own number is another one."""

@@ -9,6 +9,7 @@ from typing import Iterator, Mapping, Union
 KNOWN = ("name", "order", "nodes", "seconds", "start", "claimed")
 COLUMNS = "name and order, or name and nodes; besides these seconds and start"
 SEPARATORS = ",;\t"
+SCORE = "a score, and no result; minorder-score RESULTS --csv writes results, which another score reads"
 
 
 class Fault(Exception):
@@ -53,7 +54,9 @@ def json_of(text: str, place: str) -> object:
 
 
 def json_row(value: object, place: str) -> Row:
-    return place, value if isinstance(value, dict) else Fault("no object with a name")
+    if not isinstance(value, dict):
+        return place, Fault("no object with a name")
+    return place, Fault(SCORE) if "league" in value and "name" not in value else value
 
 
 def json_list(text: str) -> Iterator[Row]:

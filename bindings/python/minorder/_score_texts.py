@@ -15,9 +15,10 @@ from .benchmarks import fixed, percent
 
 ENDS, SHOWN = 3, 20
 SEVERAL = {
-    benchmarks.FILE: "the lower median of a function's runs counts",
+    benchmarks.FILE: "the lower median of a function's runs counts, and in the runs that met the optimum their share",
     benchmarks.RANDOM: "the lower median of a numbered order's runs counts, and each run without a number",
 }
+CAPPED = "a late or missing function counts as the worst ratio that the league or the start has there, and none as more than that"
 CSV_COLUMNS = ("name", "start", "order", "nodes", "optimum", "ratio", "claimed", "seconds")
 
 
@@ -44,7 +45,7 @@ def league_row(name: str, standing: benchmarks.Standing) -> list[str]:
     worst = f"{fixed(standing.worst_ratio, 2)} ({standing.worst.name})" if standing.worst else ""
     return [
         name, fixed(standing.mean, 3), f"{fixed(standing.mean_of_ended, 3)} of {ended}" if ended else "", worst,
-        f"{standing.met} of {standing.whole}", percent(standing.runs_met, standing.runs) if standing.runs else "",
+        f"{standing.met} of {standing.whole}", "" if standing.runs_met is None else percent(standing.runs_met),
         str(standing.late or ""), fixed(standing.seconds, 1)]
 
 
@@ -86,15 +87,15 @@ def ratio_lines(score: Score) -> Iterator[str]:
     yield f"place: {score.place} of {1 + len(score.others)}, by the mean ratio on {all_functions(score)}{claims}"
     yield f"mean ratio: {fixed(mine.mean, 3)}"
     if not is_plain:
-        yield "  late and missing functions count as the worst of the league or the start, and no function counts more"
+        yield f"  {CAPPED}"
     if not is_plain and ended:
         yield f"of what ended: {fixed(mine.mean_of_ended, 3)} on {ended} function{'s' * (ended != 1)}"
     if mine.worst:
-        yield f"worst ratio: {fixed(mine.worst_ratio, 2)} ({mine.worst.name})" + ("" if is_whole else ", of what ended")
+        yield f"worst ratio: {fixed(mine.worst_ratio, 2)} ({mine.worst.name})" + ("" if is_whole else ", of the runs that ended")
     yield f"optimum met: {mine.met} of {mine.whole}"
-    if mine.runs:
-        late = f"; {score.late_runs} late" if score.late_runs else ""
-        yield f"runs that met it: {mine.runs_met} of {mine.runs}, {percent(mine.runs_met, mine.runs)}{late}"
+    if mine.runs_met is not None:
+        late = f"; {score.late_runs} run{'s' * (score.late_runs > 1)} late" if score.late_runs else ""
+        yield f"runs that met it: {percent(mine.runs_met)}{late}"
     if mine.seconds is not None:
         yield f"seconds: {fixed(mine.seconds, 1)}"
 
@@ -156,7 +157,7 @@ def standing_object(standing: benchmarks.Standing, claimed: int) -> dict[str, ob
     return {
         "functions": standing.whole, "ended": len(standing.ended), "late": standing.late, "mean_ratio": standing.mean,
         "mean_ratio_of_ended": standing.mean_of_ended, "worst": worst, "optimum_met": standing.met, "runs": standing.runs,
-        "runs_met": standing.runs_met, "seconds": standing.seconds, "claimed": claimed,
+        "runs_met_share": standing.runs_met, "seconds": standing.seconds, "claimed": claimed,
     }
 
 

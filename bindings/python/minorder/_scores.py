@@ -168,14 +168,14 @@ def starts_of(runs: Sequence[Counted]) -> list[Optional[int]]:
 def line_of(method: str, start: str, runs: Sequence[Counted]) -> OwnLine:
     """What the runs of a function count. Of random orders each counts once, and one without a run as a late run."""
     counts = [it.nodes for it in runs] if start == benchmarks.FILE else starts_of(runs)
-    lacking = 0 if start == benchmarks.FILE else max(0, len(benchmarks.NUMBERS) - len(counts))
-    nodes = sorted(it.nodes for it in runs if it.nodes is not None)
+    if start != benchmarks.FILE:
+        counts += [None] * (len(benchmarks.NUMBERS) - len(counts))
+    best = benchmarks.optima()[runs[0].run.name].optimum
+    nodes = [it.nodes for it in runs if it.nodes is not None]
     seconds = [it.run.seconds for it in runs if it.run.seconds is not None and it.nodes is not None]
-    least, most = (nodes[0], nodes[-1]) if nodes else (None, None)
-    every = len(runs) + lacking
     return OwnLine(
-        runs[0].run.name, "", method, start, every, every - len(nodes), 0, least, median_of([*counts, *[None] * lacking]), most,
-        sum(it.is_best for it in runs), statistics.fmean(seconds) if seconds else None)
+        runs[0].run.name, "", method, start, len(counts), counts.count(None), 0, min(nodes, default=None), median_of(counts),
+        max(nodes, default=None), counts.count(best), statistics.fmean(seconds) if seconds else None)
 
 
 def by_function(runs: Sequence[Counted]) -> dict[str, list[Counted]]:

@@ -4,11 +4,11 @@ RESULTS is a file of CSV, whose first line names the columns, or of JSON, a list
 Its columns are name (a function's, or the field's name for it) and order (top first, inputs by number or by name), or name
 and nodes (a size alone, which is marked as claimed); besides them seconds, claimed as --csv writes it, and start: file, the
 order of the file, if it is left out, or random, or the number of a random order. The word late in place of an order is a run
-that didn't end. Several lines of a function are several runs, of which the median counts. Orders are counted by the library,
-without complement edges; nodes beside an order are compared with what is counted. The place is by the mean ratio on all
-functions, where a missing one, or one of which half the runs or more are late, counts as the worst that any method of the
-league or the start has there. Each of ten random orders counts once, one without a line as a late run. FAMILY, such as
-"hidden weighted bit", chooses the functions of a family; several may be named.
+that didn't end. Several lines of a function are several runs, of which the median counts, and their share in the runs that met
+the optimum. Orders are counted by the library, without complement edges; nodes beside an order are compared with what is
+counted. The place is by the mean ratio on all functions, where a missing one, or one of which half the runs or more are late,
+counts as the worst that any method of the league or the start has there. Each of ten random orders counts once, one without a
+line as a late run. FAMILY, such as "hidden weighted bit", chooses the functions of a family; several may be named.
 Exit status: 0; 1 if there is no library, 2 if the words are refused, 3 if the results are, 4 if memory is out, 5 if a file
 can't be read or written.
 """
@@ -56,14 +56,17 @@ def families_of(words: Iterable[str]) -> list[str]:
 
 
 def name_of(parser: argparse.ArgumentParser, given: Optional[str], path: str) -> str:
-    """The method's name, one line of text; the words are refused if it is none, or that of a method of the league."""
+    """The method's name, one line of text; the words are refused if it is none, or that of a method of the league. A file's name
+    that is one of these has a number behind it."""
     stem = "results" if path == "-" else os.path.splitext(os.path.basename(path))[0]
     name = " ".join((cut(stem) if given is None else given).split())
     if not name or not name.isprintable():
         parser.error(f"--name: {cut(name)!r}: a name is a line of printable text")
-    if plain(name) in map(plain, league_names()):
+    if plain(name) not in map(plain, league_names()):
+        return name
+    if given is not None:
         parser.error(f"--name: {name} is a method of the league; yours has a name of its own")
-    return name
+    return f"{name} 2"
 
 
 def league_names() -> Iterable[str]:

@@ -19,14 +19,14 @@ from minorder import _differences, _picture, benchmarks, levels, score  # noqa: 
 OPTIMA = benchmarks.optima()
 
 
-def scored(text, *words):
+def scored(text, *words, file="mine.csv"):
     """The status, and what was written to the standard streams, of minorder-score on a file of results."""
     out, errors = io.StringIO(), io.StringIO()
     with tempfile.TemporaryDirectory() as folder, contextlib.redirect_stdout(out), contextlib.redirect_stderr(errors):
-        with open(f"{folder}/mine.csv", "w") as file:
-            file.write(text)
+        with open(f"{folder}/{file}", "w") as results:
+            results.write(text)
         try:
-            status = score.main([f"{folder}/mine.csv", *words])
+            status = score.main([f"{folder}/{file}", *words])
         except SystemExit as end:
             status = end.code
     return status, out.getvalue(), errors.getvalue()
@@ -68,8 +68,8 @@ class Scores(unittest.TestCase):
         claimed = f"functions: 3 of {len(OPTIMA)}: 0 by their orders, 3 by sizes that are only claimed; 0 late, 253 missing"
         place = "place: 26 of 26, by the mean ratio on all 256 functions, 3 of them by sizes that are only claimed"
         for line in ("method: my method", "start: the file's order", claimed, place, "of what ended: 1.166 on 3 functions",
-                     "worst ratio: 1.27 (addc3), of what ended",
-                     "optimum met: 1 of 256", "runs that met it: 1 of 3, 33 %"):
+                     "worst ratio: 1.27 (addc3), of the runs that ended",
+                     "optimum met: 1 of 256", "runs that met it: 33 %"):
             self.assertIn(f"{line}\n", out)
         self.assertRegex(out, r"\n> my method \(3 claimed\) +[0-9.]+ +1\.166 of 3 +1\.27 \(addc3\) +1 of 256 +33 %")
         self.assertRegex(out, r"\ncostliest functions:\n +addc3 +33 nodes +fewest 26 +1\.269\n +hwb8 +55 nodes")
@@ -84,6 +84,10 @@ class Scores(unittest.TestCase):
         known = "0 by their orders, 0 by sizes that are only claimed; 1 late, 255 missing"
         self.assertIn(f"functions: 0 of {len(OPTIMA)}: {known}\n", out)
         self.assertIn("place: 26 of 26,", out)
+        out = scored("name,nodes,seconds\nhwb8,late,\nhwb8,55,5\n")[1]
+        self.assertIn("\n  a late or missing function counts as the worst ratio that the league or the start has there, and none "
+                      "as more than that\nworst ratio: 1.25 (hwb8), of the runs that ended\n", out)
+        self.assertTrue("\nof what ended: " not in out and "\nseconds: " not in out)
 
     def test_of_families_that_are_asked_for(self):
         status, out, errors = scored("name,nodes\ngray8,15\ngray16,31\nhwb8,44\n", "Codes", "--json")
@@ -112,8 +116,8 @@ class Scores(unittest.TestCase):
         self.assertRegex(out, r"\n> mine \(256 claimed\) +1\.000 ")
 
     def test_several_runs_are_named(self):
-        said = "with several runs, 2: life addc3: the lower median of a function's runs counts\n"
-        self.assertIn(said, scored("name,nodes\nhwb8,55\nlife,26\nz4ml,26\nlife,26\naddc3,33\n")[1])
+        said = "with several runs, 2: life addc3: the lower median of a function's runs counts, and in the runs that met the "
+        self.assertIn(f"{said}optimum their share\n", scored("name,nodes\nhwb8,55\nlife,26\nz4ml,26\nlife,26\naddc3,33\n")[1])
         tens = "".join(f"{name},44,{start}\n" for name, start in [("hwb8", "random")] * 11 + [("life", "random")] * 10)
         out = scored(f"name,nodes,start\n{tens}hwb9,70,3\nhwb9,61,3\n", "--json")[1]
         self.assertEqual(strict(out)[0]["several_runs"], ["hwb8", "hwb9"])
@@ -220,10 +224,29 @@ class Runs(unittest.TestCase):
 
     def test_shares_and_worst_ratios_are_of_runs(self):
         found = json.loads(scored(self.TEXT, "--json")[1])
-        self.assertEqual([(it["runs_met"], it["runs"]) for it in found], [(2, 6), (2, 20)])
+        self.assertEqual([(it["runs_met_share"], it["runs"]) for it in found], [((1 / 5 + 1) / 2, 6), (2 / 20, 20)])
         self.assertEqual([it["worst"]["ratio"] for it in found], [60 / 44, 30 / 26])
         self.assertEqual(found[0]["results"][0]["nodes"], 52)
-        self.assertIn("\nruns that met it: 2 of 6, 33 %; 1 late\n", scored(self.TEXT)[1])
+        self.assertIn("\nruns that met it: 60 %; 1 run late\n", scored(self.TEXT)[1])
+
+    def test_a_line_again_and_again_makes_no_function_count_more(self):
+        def share(*rows):
+            out = scored("name,nodes,start\n" + "".join(f"{row}\n" for row in rows), "--json")[1]
+            return json.loads(out)[0]["runs_met_share"]
+
+        for start in ("file", "random"):
+            self.assertEqual(share("hwb8,55,file", *[f"mux2,3,{start}"] * 2000), 0.5 if start == "file" else 0)
+        self.assertEqual(share("hwb8,55,random", *["hwb8,44,random"] * 19, *["mux2,4,random"] * 10), (19 / 20) / 2)
+        others = [f"hwb8,55,{number}" for number in range(2, 11)]
+        self.assertEqual((share("hwb8,44,1", *others), share(*["hwb8,44,1"] * 991, *others)), (0.1, 0.1))
+        self.assertEqual((share("hwb8,44,1"), share(*["hwb8,44,1"] * 7)), (0.1, 0.1))
+
+    def test_seconds_are_of_what_ended(self):
+        [found] = json.loads(scored("name,nodes,seconds\nhwb8,44,1\nhwb8,45,2\nlife,late,9\nlife,26,9\nmux2,3,\n", "--json")[1])
+        self.assertEqual((found["seconds"], found["late_functions"]), (1.5, ["life"]))
+        lines = benchmarks.standings(benchmarks.league(), OPTIMA, benchmarks.FILE)["CUDD", "GENETIC"].lines
+        genetic = next(it for it in found["league"] if it["method"] == "GENETIC")
+        self.assertAlmostEqual(genetic["seconds"], sum(line.seconds for line in lines if 2 * (line.runs - line.late) > line.runs))
 
 
 class Commands(unittest.TestCase):
@@ -250,6 +273,13 @@ class Commands(unittest.TestCase):
         status, out, errors = scored("name,nodes\nhwb8,44\n", "--name", "a\nplace: 1 of 26")
         self.assertTrue(out.startswith("method: a place: 1 of 26\nstart: "), out)
         self.assertEqual(scored("name,nodes\nhwb8,44\n", "--name", "<b>SIFT</b>")[0], 0)
+        status, out, errors = scored("name,nodes\nhwb8,44\n", file="cudd SIFT.csv")
+        self.assertEqual((status, out.splitlines()[0], errors), (0, "method: cudd SIFT 2", ""))
+
+    def test_a_score_is_no_result(self):
+        score_itself = scored("name,nodes\nhwb8,44\n", "--json")[1]
+        said = "entry 1: a score, and no result; minorder-score RESULTS --csv writes results, which another score reads\n"
+        self.assertEqual(scored(score_itself), (3, "", f"minorder-score: {said}"))
 
     def test_statuses(self):
         self.assertEqual(scored("name,nodes\nhwb8,43\n")[0], 3)

@@ -18,5 +18,5 @@ def fixed(value: Optional[float], digits: int) -> str:
     return f"{Decimal(value).quantize(Decimal(1).scaleb(-digits), ROUND_HALF_UP):f}"
 
 
-def percent(part: int, whole: int) -> str:
+def percent(part: float, whole: int = 1) -> str:
     return f"{fixed(100 * part / whole, 0)} %"

@@ -89,9 +89,10 @@ class Standing:
         return sum(line.runs for line in self.lines)
 
     @property
-    def runs_met(self) -> int:
-        """How many runs met the optimum."""
-        return sum(line.optimum_met for line in self.lines)
+    def runs_met(self) -> Optional[float]:
+        """The share of the runs that met the optimum, each function counting alike; None of no runs."""
+        shares = [line.optimum_met / line.runs for line in self.lines]
+        return sum(shares) / len(shares) if shares else None
 
     @property
     def late(self) -> int:
@@ -100,8 +101,8 @@ class Standing:
 
     @property
     def seconds(self) -> Optional[float]:
-        """Their sum over the functions; None where none are known."""
-        known = [line.seconds for line in self.lines if line.seconds is not None]
+        """Their sum over what ended; None where none are known."""
+        known = [line.seconds for line in self.ended if line.seconds is not None]
         return sum(known) if known else None
 
     def of(self, names: Iterable[str]) -> Standing:
