@@ -5,6 +5,7 @@ Makes the pages of optima anew, by parts:
 
     table   optima/optima.csv, and among the worked cases that the gate carries out the small certificates with their PLA files
     all5    optima/few.csv and optima/few_classes.csv: the functions of up to five inputs; wants cc
+    orders  optima/distributions.csv: how the sizes of all orders of each function are distributed
     league  optima/league.csv: what the methods of CUDD, BuDDy and ABC make of each function; wants --peers, the folder that
             bench/peers.sh and optima/league.sh have built them in, and is left out without it
     page    docs/OPTIMA.md with its pictures, which want matplotlib, and docs/optima.html, from the tables; the latter wants
@@ -24,7 +25,7 @@ import sys
 HERE = os.path.dirname(os.path.abspath(__file__))
 TOP = os.path.dirname(HERE)
 IS_REPOSITORY = os.path.exists(f"{TOP}/crates.txt")
-PARTS = ("table", "all5", "league", "page")
+PARTS = ("table", "all5", "orders", "league", "page")
 
 
 def fail(message):
@@ -69,6 +70,7 @@ def make(part, programs):
         has(f"{programs.into}/optima/optima.csv", "the part table")
     if part == "page":
         has(f"{programs.into}/optima/few.csv", "the part all5")
+        has(f"{programs.into}/optima/distributions.csv", "the part orders")
     if part == "table":
         import table
         begun((programs.minorder, programs.ordercheck))
@@ -78,6 +80,9 @@ def make(part, programs):
         if not shutil.which("cc"):
             fail("not found: cc (Debian: gcc), which the classes of five inputs want")
         few.make(programs)
+    elif part == "orders":
+        import distributions
+        distributions.make(programs)
     elif part == "league":
         if programs.peers:
             has(f"{programs.peers}/league_cudd", "optima/league.sh")

@@ -2,6 +2,7 @@
 import os
 
 import few
+import orders_page
 import pictures
 import table
 from minorder.benchmarks import aliases, geometric_mean
@@ -155,5 +156,5 @@ def make(programs):
     league = league_part(programs, rows)
     front = front_part(rows, kept, LEAGUE_LINK if league else "")
     named = text_of("aliases.md").format(aliases=alias_table(rows))
-    parts = [front, *league, named, few_part(programs), citing_part(minorder, rows), text_of("works.md")]
+    parts = [front, *league, orders_page.part(rows, programs.into), named, few_part(programs), citing_part(minorder, rows), text_of("works.md")]
     table.write(f"{docs}/OPTIMA.md", "\n".join(parts))

@@ -22,7 +22,7 @@ CASES = "crates/worked_cases/data"
 COLUMNS = [
     "family", "name", "aliases", "what", "inputs", "outputs", "file_order_nodes", "sifted_nodes", "optimum",
     "first_optimal_order", "sifted_order", "level_counts", "listed_sets", "pla_sha256", "certificate_sha256",
-    "random_order_nodes",
+    "random_order_nodes", "optimal_orders", "most", "mean",
 ]
 
 
@@ -105,6 +105,13 @@ def random_order_nodes(entry, minorder):
     return " ".join(str(sum(minorder.levels(tables, order))) for order in starts)
 
 
+def order_figures(entry, minorder):
+    """Of all orders: how many have the fewest nodes, the most nodes, and the mean to two decimals, a half rounded up."""
+    found = minorder.orders(entry.tables(), len(entry.inputs))
+    hundredths = (found.mean * 200 + 1) // 2
+    return {"optimal_orders": found.optimal, "most": found.most, "mean": f"{hundredths // 100}.{hundredths % 100:02}"}
+
+
 def is_kept(row, room):
     later = row["family"] in KEPT_LATER and int(row["inputs"]) <= LATER_INPUTS
     return (later or row["family"] in textbook_families()) and os.path.getsize(f"{room}/{row['name']}.cert") < KEPT_BELOW
@@ -139,7 +146,8 @@ def make(programs):
     found, rows = by_family(), {}
     for i, entry in enumerate(sorted(found, key=lambda it: (len(it.inputs), it.outputs)), 1):
         print(f"{entry.name}: {i} of {len(found)}", file=sys.stderr)
-        rows[entry.name] = dict(measure(entry, programs, room), random_order_nodes=random_order_nodes(entry, minorder))
+        of_orders = {"random_order_nodes": random_order_nodes(entry, minorder), **order_figures(entry, minorder)}
+        rows[entry.name] = {**measure(entry, programs, room), **of_orders}
     ordered = [rows[entry.name] for entry in found]
     os.makedirs(f"{programs.into}/optima", exist_ok=True)
     with open(f"{programs.into}/optima/optima.csv", "w", newline="") as file:
