@@ -124,7 +124,9 @@ def citing_part(minorder, rows):
     """How to cite a row, shown by one."""
     row = next(row for row in rows if row["name"] == SHOWN)
     sums = {"pla": row["pla_sha256"], "certificate": row["certificate_sha256"]}
-    return text_of("citing.md").format(version=minorder.__version__, name=row["name"], optimum=row["optimum"], **sums)
+    of_orders = {column: row[column] for column in ("optimal_orders", "most", "mean")}
+    return text_of("citing.md").format(
+        version=minorder.__version__, name=row["name"], optimum=row["optimum"], orders=f"{row['inputs']}!", **of_orders, **sums)
 
 
 def league_part(programs, rows):
