@@ -24,8 +24,9 @@ def optimal_share(row):
     return int(row["optimal_orders"]) / orders_of(row)
 
 
-def named(rows):
-    return ", ".join(f"`{row['name']}`" for row in rows)
+def farthest(rows):
+    """The functions whose mean is farthest off, with its ratio."""
+    return ", ".join(f"`{row['name']}` with {over_optimum(row, 'mean'):.1f} times" for row in rows[:NAMED])
 
 
 def rarest(rows):
@@ -47,7 +48,7 @@ def part(rows, into):
         return text.read().format(
             mean=f"{geometric_mean(means):.2f}", most=f"{geometric_mean([over_optimum(row, 'most') for row in rows]):.2f}",
             easy=len(easy), symmetric=sum(row["most"] == row["optimum"] for row in easy),
-            far=len(far), far_names=named(far), farthest=far[0]["name"], farthest_ratio=f"{over_optimum(far[0], 'mean'):.1f}",
+            far=len(far), far_names=farthest(far),
             rare=sum(optimal_share(row) <= RARE for row in rows), rarest=rarest(rows),
             file_half=sum(int(row["file_order_nodes"]) < int(sizes[row["name"]]["0.49"]) for row in rows),
             many=len(many), sifted_thousandth=sum(int(row["sifted_nodes"]) < int(sizes[row["name"]]["1e-3"]) for row in many),

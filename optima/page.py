@@ -158,5 +158,6 @@ def make(programs):
     league = league_part(programs, rows)
     front = front_part(rows, kept, LEAGUE_LINK if league else "")
     named = text_of("aliases.md").format(aliases=alias_table(rows))
-    parts = [front, *league, orders_page.part(rows, programs.into), named, few_part(programs), citing_part(minorder, rows), text_of("works.md")]
+    orders = orders_page.part(rows, programs.into)
+    parts = [front, *league, orders, named, few_part(programs), citing_part(minorder, rows), text_of("works.md")]
     table.write(f"{docs}/OPTIMA.md", "\n".join(parts))

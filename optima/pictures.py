@@ -62,7 +62,8 @@ def orders(means, shares_optimal, path):
     title = "A random order over the fewest nodes, and the share of all orders that is optimal"
     figure, axes = pyplot.subplots(figsize=(7.2, 4.2))
     axes.plot(shares_optimal, means, "o", color=COLOURS[0], alpha=0.45, markersize=5, markeredgewidth=0)
-    axes.set(title=title, xlabel="optimal orders / all orders", ylabel="mean nodes of all orders / fewest nodes", xscale="log", yscale="log")
+    axes.set(title=title, xlabel="optimal orders / all orders", ylabel="mean nodes of all orders / fewest nodes",
+             xscale="log", yscale="log")
     axes.set_yticks([1, 2, 5, 10], ["1", "2", "5", "10"])
     axes.minorticks_off()
     axes.grid(color="#dddddd")
