@@ -1,5 +1,5 @@
-/* The times of minorder_exact, minorder_exact_diagram, minorder_diagram, minorder_levels and minorder_sift for OUTPUTS random
-   functions (one if left out) of INPUTS variables, and how many calls of the first one a second takes.
+/* The times of minorder_exact, minorder_exact_diagram, minorder_diagram, minorder_levels, minorder_sift and minorder_orders for OUTPUTS
+   random functions (one if left out) of INPUTS variables, and how many calls of the first one a second takes.
    usage: times INPUTS [OUTPUTS] */
 #include <stdio.h>
 #include <stdlib.h>
@@ -45,7 +45,8 @@ int main(int count, char **arguments) {
     }
     uint8_t order[16];
     uint32_t roots[16];
-    double exact, both, drawn, counted, sifting;
+    double exact, both, drawn, counted, sifting, all;
+    minorder_figures figures;
     TIME(exact, minorder_exact(table, words, inputs, outputs, order, levels, &best));
     minorder_node *nodes = malloc((best + 1) * sizeof *nodes);
     size_t found;
@@ -53,8 +54,9 @@ int main(int count, char **arguments) {
     TIME(drawn, minorder_diagram(table, words, inputs, outputs, order, nodes, best, roots, &found));
     TIME(counted, minorder_levels(table, words, inputs, outputs, order, levels));
     TIME(sifting, (file_order(order, inputs), minorder_sift(table, words, inputs, outputs, order, levels, &sifted)));
-    printf("| %u | %u | %.4g | %.0f | %.4g | %.2g | %.2g | %.4g | %u | %u |\n", inputs, outputs, exact, 1e3 / exact, both, drawn, counted,
-           sifting, best, sifted);
+    TIME(all, minorder_orders(table, words, inputs, outputs, NULL, 0, &figures));
+    printf("| %u | %u | %.4g | %.0f | %.4g | %.2g | %.2g | %.4g | %.4g | %u | %u |\n", inputs, outputs, exact, 1e3 / exact, both, drawn,
+           counted, sifting, all, best, sifted);
     free(nodes);
     free(table);
     return 0;

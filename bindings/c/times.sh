@@ -10,8 +10,8 @@ need "${compiler[0]}"
 made=$(mktemp -d)
 trap 'rm -rf "$made"' EXIT
 "${compiler[@]}" -O2 -I "$here/../../include" "$here/times.c" "$here/../../lib/libminorder.a" -o "$made/times"
-echo "| Inputs | Outputs | Exact, ms | Calls a second | Exact with diagram, ms | Diagram, ms | Level counts, ms | Sifting, ms | Fewest nodes | Sifted |"
-echo "|---|---|---|---|---|---|---|---|---|---|"
+echo "| Inputs | Outputs | Exact, ms | Calls a second | Exact with diagram, ms | Diagram, ms | Level counts, ms | Sifting, ms | All orders, ms | Fewest nodes | Sifted |"
+echo "|---|---|---|---|---|---|---|---|---|---|---|"
 for outputs in 1 16; do
     for inputs in 4 6 8 10 12 14 16; do
         "$made/times" "$inputs" "$outputs"
