@@ -80,7 +80,7 @@ class Command(unittest.TestCase):
         self.assertEqual((status, os.path.exists(f"{self.folder}/it.png"), errors == ""), (0 if there else 1, there, there))
 
     def test_the_picture_of_the_page(self):
-        words = "--mark", "file's order=0,1,2,3,4,5,6,7", "-o", "it.svg"
+        words = "--mark", "sifted=0,1,2,3,4,5,7,6", "-o", "it.svg"
         self.assertEqual(self.ran(HIDDEN, *words)[0], 0)
         with open(f"{TOP}/docs/orders.svg", encoding="utf-8") as file:
             self.assertEqual(file.read(), self.content("it.svg"))
