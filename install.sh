@@ -80,7 +80,7 @@ documents() {
         ((${#files[@]} == 0)) || put 644 "$folder/$crate/specs" "${files[@]}"
         [ ! -e "$top/$crate/src/laws.rt" ] || put 644 "$folder/$crate/src" "$top/$crate/src/laws.rt"
     done
-    put 644 share/minorder/optima "$top"/optima/*.{py,md,csv,c,h}
+    put 644 share/minorder/optima "$top"/optima/*.{py,md,csv,csv.gz,c,h}
     put 755 share/minorder/optima "$top"/optima/{check_page,functions,make,permute}.py "$top/optima/league.sh"
     put 644 share/minorder/optima/html "$top"/optima/html/*
     put 755 $folder/examples "$top/examples/make_examples.py"
@@ -114,7 +114,7 @@ tree() {
     put 644 share/minorder/python "$top/bindings/python/pyproject.toml"
     put 644 share/minorder/python/backend "$top"/bindings/python/backend/*.py
     put 644 share/minorder/python/minorder "$top"/bindings/python/minorder/{*.py,py.typed}
-    put 644 share/minorder/python/minorder/benchmarks "$top"/bindings/python/minorder/benchmarks/*.py "$top"/optima/{optima,league}.csv
+    put 644 share/minorder/python/minorder/benchmarks "$top"/bindings/python/minorder/benchmarks/*.py "$top"/optima/{optima.csv,league.csv,sizes.csv.gz}
 }
 
 # ---- putting it there: each file beside its place first, then all by a rename

@@ -1,10 +1,12 @@
 """The league's part of docs/OPTIMA.md, from optima/league.csv."""
 import csv
 import os
+import statistics
 
 import league
 from minorder import benchmarks
-from minorder.benchmarks import CURVES, FILE, RANDOM, fixed, percent
+from distributions import SIZES
+from minorder.benchmarks import CURVES, FILE, RANDOM, brief, fixed, mean_better, percent
 from minorder._picture import curve_of
 
 FAMILIES = [
@@ -39,9 +41,17 @@ def table_cells(file, random):
         yield method, [name, fixed(mine.mean, 3), ended, worst, met, mine.late or "", seconds, *of_random_starts(random[method])]
 
 
-def table(file, random):
-    lines = (cells for _, cells in table_cells(file, random))
-    return "\n".join("| " + " | ".join(map(str, cells)) + " |" for cells in (HEADS, ["---"] * len(HEADS), *lines))
+def with_shares(cells, of_file, of_random):
+    """The cells of a line with those on better orders, each behind its mean ratio."""
+    return [*cells[:2], of_file, *cells[2:8], of_random, *cells[8:]]
+
+
+def table(file, random, orders):
+    """The league's table in Markdown."""
+    heads, lines = with_shares(HEADS, "Better orders", "Better orders"), []
+    for method, cells in table_cells(file, random):
+        lines.append(with_shares(cells, *(brief(mean_better(its[method], orders)) for its in (file, random))))
+    return "\n".join("| " + " | ".join(map(str, cells)) + " |" for cells in (heads, ["---"] * len(heads), *lines))
 
 
 def family_lines(rows, file):
@@ -68,6 +78,7 @@ class League:
         self.lines = benchmarks.read_league(f"{into}/optima/league.csv")
         self.file = benchmarks.standings(self.lines, self.optima, FILE)
         self.random = benchmarks.standings(self.lines, self.optima, RANDOM)
+        self.orders = benchmarks.read_sizes(f"{into}/{SIZES}")
         self.families = list(family_lines(rows, self.file))
         with open(f"{into}/optima/league_families.csv", "w", newline="") as file:
             out = csv.DictWriter(file, FAMILIES, lineterminator="\n")
@@ -75,7 +86,7 @@ class League:
             out.writerows(self.families)
 
     def table(self):
-        return table(self.file, self.random)
+        return table(self.file, self.random, self.orders)
 
     def panels(self):
         whole, small = len(self.optima), self.small()
@@ -176,6 +187,22 @@ def of_random_starts_within(it):
             f"with CUDD's SIFT, {close('GROUP_SIFT_CONV')} with GROUP_SIFT_CONV, {close('GENETIC')} with GENETIC.")
 
 
+def of_better_orders(it):
+    sift, own = (mean_better(it.file[method], it.orders) for method in (("CUDD", "SIFT"), ("minorder", "sifting")))
+    sift, own, random = (f"{fixed(100 * share, 1)} %" for share in (sift, own, share_at_random(it)))
+    return (f"Of all orders of a function {sift} are better than what CUDD's SIFT makes of the file's order, in the mean, where "
+            f"a late function counts as 100 %; {own} are better than what our own sifting makes of it; {random} are better "
+            f"than a random order, a tie counted half, as chance has it.")
+
+
+def share_at_random(it):
+    """The share of all orders that are better than a random one, and half of those as good: the mean over ten random orders of
+    each function. One half is expected."""
+    means = [statistics.fmean(map(it.orders[row.name].middle, row.random_order_nodes))
+             for row in it.optima.values() if row.random_order_nodes]
+    return statistics.fmean(means)
+
+
 def of_families(it):
     by_sift = [line for line in it.families if (line["package"], line["method"]) == ("CUDD", "SIFT")]
     worst, missed_by_all = max(by_sift, key=lambda line: float(line["mean_ratio"])), never_met(it.lines, FILE)
@@ -186,7 +213,7 @@ def of_families(it):
 
 FINDINGS = [
     of_quick_methods, of_sift, of_converging, of_windows, of_random_choices, of_exact, of_buddy, of_own_sifting,
-    of_random_starts_within, of_families,
+    of_random_starts_within, of_better_orders, of_families,
 ]
 
 

@@ -5,7 +5,8 @@ Makes the pages of optima anew, by parts:
 
     table   optima/optima.csv, and among the worked cases that the gate carries out the small certificates with their PLA files
     all5    optima/few.csv and optima/few_classes.csv: the functions of up to five inputs; wants cc
-    orders  optima/distributions.csv: how the sizes of all orders of each function are distributed
+    orders  optima/sizes.csv.gz and optima/distributions.csv: how many of all orders of each function have each size, and how
+            these are distributed
     league  optima/league.csv: what the methods of CUDD, BuDDy and ABC make of each function; wants --peers, the folder that
             bench/peers.sh and optima/league.sh have built them in, and is left out without it
     page    docs/OPTIMA.md with its pictures, which want matplotlib, and docs/optima.html, from the tables; the latter wants
@@ -70,7 +71,8 @@ def make(part, programs):
         has(f"{programs.into}/optima/optima.csv", "the part table")
     if part == "page":
         has(f"{programs.into}/optima/few.csv", "the part all5")
-        has(f"{programs.into}/optima/distributions.csv", "the part orders")
+        for name in ("distributions.csv", "sizes.csv.gz"):
+            has(f"{programs.into}/optima/{name}", "the part orders")
     if part == "table":
         import table
         begun((programs.minorder, programs.ordercheck))

@@ -1,5 +1,7 @@
 """Tests of what the table says of all orders, against a walk over each: python3 -m unittest discover -s optima"""
 import csv
+import gzip
+import math
 import os
 import sys
 import unittest
@@ -52,6 +54,12 @@ class Distributions(unittest.TestCase):
         with open(f"{HERE}/distributions.csv", newline="") as file:
             cls.names, *lines = csv.reader(file)
         cls.lines = {name: [int(size) for size in sizes] for name, *sizes in lines}
+        with gzip.open(f"{HERE}/sizes.csv.gz", "rt") as file:
+            head, *lines = file.read().splitlines()
+        cls.columns, cls.sizes = head.split(","), {}
+        for name, fewest, counts in (line.split(",") for line in lines):
+            counted = enumerate(map(int, counts.split()), int(fewest))
+            cls.sizes[name] = {size: orders for size, orders in counted if orders}
 
     def test_ten_functions_against_a_walk_over_all_orders(self):
         for entry in (it for it in entries() if it.name in CHOSEN):
@@ -61,7 +69,16 @@ class Distributions(unittest.TestCase):
                 self.assertEqual(int(row["optimal_orders"]), sizes[min(sizes)])
                 mean = sum(size * orders for size, orders in sizes.items()) / sizes.total()
                 self.assertAlmostEqual(float(row["mean"]), mean, delta=0.0051)
-                self.assertEqual(self.lines[entry.name], distributions.sizes_at_shares(sizes))
+                self.assertEqual(self.sizes[entry.name], sizes)
+
+    def test_all_sizes_beside_both_tables(self):
+        self.assertEqual((self.columns, list(self.sizes)), (["name", "fewest_nodes", "orders"], list(self.rows)))
+        for name, sizes in self.sizes.items():
+            row = self.rows[name]
+            self.assertEqual(sum(sizes.values()), math.factorial(int(row["inputs"])))
+            self.assertEqual((min(sizes), max(sizes)), (int(row["optimum"]), int(row["most"])))
+            self.assertEqual(sizes[min(sizes)], int(row["optimal_orders"]))
+            self.assertEqual(self.lines[name], distributions.sizes_at_shares(sizes))
 
     def test_lines_rise_from_the_optimum_to_the_most(self):
         self.assertEqual(self.names, ["name", *distributions.NAMES])

@@ -37,9 +37,17 @@ def contrast(one, other):
     return (more + 0.05) / (less + 0.05)
 
 
+def league_of_optima_md(first):
+    """The cells of the lines of the league in docs/OPTIMA.md that begin with such a word."""
+    with open(f"{DOCS}/OPTIMA.md", encoding="utf-8") as file:
+        lines = [line.strip()[2:-2].split(" | ") for line in file if re.match(rf"\| {first} ", line)]
+    return [[cell.strip() for cell in line] for line in lines]
+
+
 class Page(unittest.TestCase):
     @classmethod
     def setUpClass(cls):
+        [cls.heads] = league_of_optima_md("Method")
         with open(PAGE, encoding="utf-8") as file:
             cls.text = file.read()
         found = re.search(r'<script type="application/json" id="data">(.*?)</script>', cls.text, re.S)
@@ -112,12 +120,20 @@ class Page(unittest.TestCase):
                     self.assertEqual(sizes if isinstance(sizes, list) else one, wanted)
 
     def test_its_league_is_that_of_the_pages(self):
-        with open(f"{DOCS}/OPTIMA.md", encoding="utf-8") as file:
-            rows = [line.strip("| \n").split(" | ") for line in file if re.match(r"\| (CUDD|BuDDy|ABC|minorder) ", line)]
+        rows = league_of_optima_md("(CUDD|BuDDy|ABC|minorder)")
+        # the page has no shares of better orders
+        rows = [[cell for cell, head in zip(row, self.heads) if head != "Better orders"] for row in rows]
         found = re.findall(r"<tr data-method=.*?</tr>", self.text)
         shown = [[re.sub("<[^>]*>", "", cell) for cell in re.findall(r"<t[hd][^>]*>(.*?)</t[hd]>", row)] for row in found]
-        self.assertEqual(shown, [[cell.strip() for cell in row] for row in rows])
+        self.assertEqual(shown, rows)
 
+    def test_the_leagues_shares_of_better_orders(self):
+        leagues = [benchmarks.standings(benchmarks.league(), OPTIMA, start) for start in (benchmarks.FILE, benchmarks.RANDOM)]
+        for name, *cells in league_of_optima_md("(CUDD|BuDDy|ABC|minorder)"):
+            shares = [cell for cell, head in zip(cells, self.heads[1:]) if head == "Better orders"]
+            method = tuple(name.split()[:2])
+            means = [benchmarks.mean_better(league[method], benchmarks.all_orders()) for league in leagues]
+            self.assertEqual(shares, [benchmarks.brief(mean) for mean in means])
 
     def test_what_no_package_met(self):
         lines = [line for line in benchmarks.league() if line.start == benchmarks.FILE and line.package != "minorder"]

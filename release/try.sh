@@ -64,7 +64,7 @@ own_method() {
     "$tree/bin/minorder-functions" "$made/own" "hidden weighted bit" > /dev/null
     for name in "$made"/own/*.pla; do run minorder "$name" | sed -n "s/^sifted order: /$(basename "$name" .pla),/p"; done > "$made/orders"
     score=$(sed '1s/^/name,order\n/' "$made/orders" | MINORDER_LIBRARY=$libraries/libminorder.so.1 "$tree/bin/minorder-score" - "hidden weighted bit")
-    row() { grep "^$1 " <<< "$score" | tr -s ' ' | cut -d ' ' -f 3-12; }
+    row() { grep "^$1 " <<< "$score" | tr -s ' ' | cut -d ' ' -f 3-13; }
     [ "$(row '> results')" = "$(row 'minorder sifting')" ] || fail "sifting's orders have another score than the league's row"
     local rows=$(($(wc -l < "$tree/share/minorder/optima/optima.csv") - 1))
     [ "$(grep -c '^<tr data-name=' "$tree/share/doc/minorder/docs/optima.html")" = "$rows" ] || fail "optima.html has other functions than the table"

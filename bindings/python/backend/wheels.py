@@ -16,7 +16,7 @@ Requires-Python: >=3.9
 
 
 # what lies beside a module where the package is installed, and where it is else: in the repository, or the library in a prefix
-TABLES = {f"minorder/benchmarks/{name}": [f"../../optima/{name}"] for name in ("optima.csv", "league.csv")}
+TABLES = {f"minorder/benchmarks/{name}": [f"../../optima/{name}"] for name in ("optima.csv", "league.csv", "sizes.csv.gz")}
 LIBRARY = "minorder/libminorder.so.1"
 ELSEWHERE = {**TABLES, LIBRARY: [f"{above}/lib/libminorder.so.1" for above in ("../..", "../../..")]}
 

@@ -10,8 +10,8 @@ from . import benchmarks
 from ._counting import Counted
 from ._picture import START_SAID
 from ._results import LATE
-from ._scores import Score, Size
-from .benchmarks import fixed, percent
+from ._scores import Score, Size, better_share, mean_better
+from .benchmarks import brief, fixed, percent
 
 ENDS, SHOWN = 3, 20
 SEVERAL = {
@@ -19,7 +19,7 @@ SEVERAL = {
     benchmarks.RANDOM: "the lower median of a numbered order's runs counts, and each run without a number",
 }
 CAPPED = "a late or missing function counts as the worst ratio that the league or the start has there, and none as more than that"
-CSV_COLUMNS = ("name", "start", "order", "nodes", "optimum", "ratio", "claimed", "seconds")
+CSV_COLUMNS = ("name", "start", "order", "nodes", "optimum", "ratio", "better_share", "claimed", "seconds")
 
 
 def aligned(rows: Sequence[Sequence[str]]) -> list[str]:
@@ -37,16 +37,17 @@ def some(names: Sequence[str]) -> str:
 
 # ---- the league
 
-HEADS = ["Method", "Mean ratio", "Of what ended", "Worst ratio", "Optimum met", "Runs that met it", "Late", "Seconds"]
+HEADS = [
+    "Method", "Mean ratio", "Better orders", "Of what ended", "Worst ratio", "Optimum met", "Runs that met it", "Late", "Seconds"]
 
 
 def league_row(name: str, standing: benchmarks.Standing) -> list[str]:
     ended = len(standing.ended)
     worst = f"{fixed(standing.worst_ratio, 2)} ({standing.worst.name})" if standing.worst else ""
     return [
-        name, fixed(standing.mean, 3), f"{fixed(standing.mean_of_ended, 3)} of {ended}" if ended else "", worst,
-        f"{standing.met} of {standing.whole}", "" if standing.runs_met is None else percent(standing.runs_met),
-        str(standing.late or ""), fixed(standing.seconds, 1)]
+        name, fixed(standing.mean, 3), brief(mean_better(standing)),
+        f"{fixed(standing.mean_of_ended, 3)} of {ended}" if ended else "", worst, f"{standing.met} of {standing.whole}",
+        "" if standing.runs_met is None else percent(standing.runs_met), str(standing.late or ""), fixed(standing.seconds, 1)]
 
 
 def marked(score: Score) -> str:
@@ -90,6 +91,8 @@ def ratio_lines(score: Score) -> Iterator[str]:
         yield f"  {CAPPED}"
     if not is_plain and ended:
         yield f"of what ended: {fixed(mine.mean_of_ended, 3)} on {ended} function{'s' * (ended != 1)}"
+    not_ended = "" if is_whole else "; a late or missing function counts as 1"
+    yield f"better orders: {brief(mean_better(mine))} of all, in the mean{not_ended}"
     if mine.worst:
         yield f"worst ratio: {fixed(mine.worst_ratio, 2)} ({mine.worst.name})" + ("" if is_whole else ", of the runs that ended")
     yield f"optimum met: {mine.met} of {mine.whole}"
@@ -133,7 +136,8 @@ def families(score: Score) -> list[str]:
 
 
 def costliest(score: Score) -> list[str]:
-    rows = [[f"  {it.name}", it.size, f"fewest {it.optimum}", fixed(it.ratio, 3)] for it in score.costliest]
+    rows = [[f"  {it.name}", it.size, f"fewest {it.optimum}", fixed(it.ratio, 3), f"better {brief(it.better_share)}"]
+            for it in score.costliest]
     return ["costliest functions:", *aligned(rows)] if rows else []
 
 
@@ -156,15 +160,16 @@ def standing_object(standing: benchmarks.Standing, claimed: int) -> dict[str, ob
     worst = {"name": standing.worst.name, "ratio": standing.worst_ratio} if standing.worst else None
     return {
         "functions": standing.whole, "ended": len(standing.ended), "late": standing.late, "mean_ratio": standing.mean,
-        "mean_ratio_of_ended": standing.mean_of_ended, "worst": worst, "optimum_met": standing.met, "runs": standing.runs,
-        "runs_met_share": standing.runs_met, "seconds": standing.seconds, "claimed": claimed,
+        "mean_ratio_of_ended": standing.mean_of_ended, "mean_better_share": mean_better(standing), "worst": worst,
+        "optimum_met": standing.met, "runs": standing.runs, "runs_met_share": standing.runs_met, "seconds": standing.seconds,
+        "claimed": claimed,
     }
 
 
 def size_object(size: Size) -> dict[str, object]:
     return {
-        "name": size.name, "nodes": size.nodes, "optimum": size.optimum, "ratio": size.ratio, "claimed": size.claimed,
-        "seconds": size.seconds,
+        "name": size.name, "nodes": size.nodes, "optimum": size.optimum, "ratio": size.ratio, "better_share": size.better_share,
+        "claimed": size.claimed, "seconds": size.seconds,
     }
 
 
@@ -196,7 +201,8 @@ def cells_of(it: Counted) -> list[object]:
     nodes: Optional[int] = it.nodes
     return [
         run.name, run.start, " ".join(map(str, run.order or ())), LATE if nodes is None else nodes, optimum,
-        "" if nodes is None else fixed(nodes / optimum, 4), int(run.claimed), "" if run.seconds is None else repr(run.seconds)]
+        "" if nodes is None else fixed(nodes / optimum, 4), better_share(run.name, nodes), int(run.claimed),
+        "" if run.seconds is None else repr(run.seconds)]
 
 
 def csv_text(runs: Sequence[Counted]) -> str:

@@ -14,11 +14,12 @@ SAME = 1e-9
 
 
 class Size(NamedTuple):
-    """A function's size by the median run, and whether it is only claimed."""
+    """A function's size by the median run, the share of all orders that are better, and whether it is only claimed."""
     name: str
     family: str
     nodes: int
     optimum: int
+    better_share: float
     claimed: bool
     seconds: Optional[float]
 
@@ -28,11 +29,12 @@ class Size(NamedTuple):
 
 
 class Cost(NamedTuple):
-    """What a function counts in the mean, and its size as it is said."""
+    """What a function counts in the mean, its size as it is said, and the share of all orders that are better."""
     name: str
     size: str
     optimum: int
     ratio: float
+    better_share: float
 
 
 class Family(NamedTuple):
@@ -99,8 +101,9 @@ class Score:
         """Of the functions that ended."""
         claimed, optima = {it.run.name for it in self.runs if it.run.claimed}, self.standing.optima
         return [
-            Size(line.name, optima[line.name].family, line.counted_nodes or 0, optima[line.name].optimum, line.name in claimed,
-                 line.seconds) for line in self.standing.ended]
+            Size(line.name, optima[line.name].family, line.counted_nodes or 0, optima[line.name].optimum,
+                 better_share(line.name, line.counted_nodes), line.name in claimed, line.seconds)
+            for line in self.standing.ended]
 
     @property
     def claimed(self) -> int:
@@ -129,7 +132,8 @@ class Score:
         worst, optima, found = self.standing.worst_nodes, self.standing.optima, []
         for line in self.standing.lines:
             nodes, best, most = line.counted_nodes, optima[line.name].optimum, worst[line.name]
-            found.append(Cost(line.name, "late" if nodes is None else f"{nodes} nodes", best, min(nodes or most, most) / best))
+            size, ratio = "late" if nodes is None else f"{nodes} nodes", min(nodes or most, most) / best
+            found.append(Cost(line.name, size, best, ratio, better_share(line.name, nodes)))
         return sorted((it for it in found if it.ratio > 1), key=lambda it: -it.ratio)[:COSTLIEST]
 
     @property
@@ -140,6 +144,16 @@ class Score:
             if it.difference:
                 found.setdefault(it.difference, []).append(it)
         return found
+
+
+def better_share(name: str, nodes: Optional[int]) -> float:
+    """The share of all orders of a function that have fewer nodes; 1 of None, which is a late run."""
+    return float(benchmarks.all_orders()[name].better(nodes))
+
+
+def mean_better(standing: benchmarks.Standing) -> Optional[float]:
+    """The mean of these shares over the functions."""
+    return benchmarks.mean_better(standing, benchmarks.all_orders())
 
 
 class OwnLine(benchmarks.Line):

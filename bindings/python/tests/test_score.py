@@ -7,14 +7,16 @@ import csv
 import io
 import json
 import os
+import statistics
 import sys
 import tempfile
 import unittest
 import unittest.mock
+from fractions import Fraction
 
 sys.path.insert(0, os.path.dirname(os.path.dirname(os.path.abspath(__file__))))
 
-from minorder import _differences, _picture, benchmarks, levels, score  # noqa: E402
+from minorder import _differences, _picture, benchmarks, levels, score, sizes  # noqa: E402
 
 OPTIMA = benchmarks.optima()
 
@@ -58,6 +60,7 @@ class Scores(unittest.TestCase):
                 mine, same = league[method], next(it for it in found["league"] if [it["package"], it["method"]] == list(method))
                 self.assertEqual((found["mean_ratio"], found["optimum_met"], found["late"]), (mine.mean, mine.met, mine.late))
                 self.assertEqual((same["mean_ratio"], same["functions"]), (mine.mean, mine.whole))
+                self.assertEqual(found["mean_better_share"], same["mean_better_share"])
                 self.assertEqual((found["claimed"], found["missing"]), (len(mine.ended), []))
                 better = [it for it in league.values() if it.mean < mine.mean]
                 self.assertEqual((found["place"], found["places"]), (1 + len(better), 26))
@@ -67,12 +70,13 @@ class Scores(unittest.TestCase):
         self.assertEqual((status, errors), (0, ""))
         claimed = f"functions: 3 of {len(OPTIMA)}: 0 by their orders, 3 by sizes that are only claimed; 0 late, 253 missing"
         place = "place: 26 of 26, by the mean ratio on all 256 functions, 3 of them by sizes that are only claimed"
+        better = "better orders: 0.989 of all, in the mean; a late or missing function counts as 1"
         for line in ("method: my method", "start: the file's order", claimed, place, "of what ended: 1.166 on 3 functions",
-                     "worst ratio: 1.27 (addc3), of the runs that ended",
+                     better, "worst ratio: 1.27 (addc3), of the runs that ended",
                      "optimum met: 1 of 256", "runs that met it: 33 %"):
             self.assertIn(f"{line}\n", out)
-        self.assertRegex(out, r"\n> my method \(3 claimed\) +[0-9.]+ +1\.166 of 3 +1\.27 \(addc3\) +1 of 256 +33 %")
-        self.assertRegex(out, r"\ncostliest functions:\n +addc3 +33 nodes +fewest 26 +1\.269\n +hwb8 +55 nodes")
+        self.assertRegex(out, r"\n> my method \(3 claimed\) +[0-9.]+ +0\.989 +1\.166 of 3 +1\.27 \(addc3\) +1 of 256 +33 %")
+        self.assertRegex(out, r"\ncostliest functions:\n +addc3 +33 nodes +fewest 26 +1\.269 +better 0\.0238\n +hwb8 +55 nodes")
         self.assertIn(f"missing, {len(OPTIMA) - 3}: hwb4 ", out)
         self.assertRegex(out, r" and [0-9]+ more\n$")
         _, out, _ = scored("name,nodes\ngray8,15\ngray16,31\nbcd7seg,late\nhwb8,44\n")
@@ -86,7 +90,8 @@ class Scores(unittest.TestCase):
         self.assertIn("place: 26 of 26,", out)
         out = scored("name,nodes,seconds\nhwb8,late,\nhwb8,55,5\n")[1]
         self.assertIn("\n  a late or missing function counts as the worst ratio that the league or the start has there, and none "
-                      "as more than that\nworst ratio: 1.25 (hwb8), of the runs that ended\n", out)
+                      "as more than that\nbetter orders: 1 of all, in the mean; a late or missing function counts as 1\n"
+                      "worst ratio: 1.25 (hwb8), of the runs that ended\n", out)
         self.assertTrue("\nof what ended: " not in out and "\nseconds: " not in out)
 
     def test_of_families_that_are_asked_for(self):
@@ -198,6 +203,44 @@ class Late(unittest.TestCase):
         self.assertEqual((counted(1, 1, None, None), counted(1, 0, 50, 50)), (None, 50))
 
 
+class BetterOrders(unittest.TestCase):
+    """The share of all orders that have fewer nodes than the method's."""
+
+    def test_the_table_has_what_the_library_counts(self):
+        for name in ("hwb8", "mux4", "add4i", "parity8", "rotate8", "life"):
+            found, counted = benchmarks.all_orders()[name], sizes(benchmarks.entry(name).tables(), OPTIMA[name].inputs)
+            self.assertEqual(found.up_to[-1], counted.total)
+            for size in [*counted, counted.fewest - 1, counted.most + 1, 10 ** 9]:
+                self.assertEqual(found.better(size), Fraction(counted.rank(min(size, counted.most + 1)), counted.total))
+                self.assertEqual(found.middle(size) * 2, found.better(size) + found.better(size + 1))
+
+    def test_random_orders_are_better_than_half_of_all(self):
+        means = []
+        for name, row in OPTIMA.items():
+            if row.random_order_nodes:
+                means.append(statistics.fmean(map(benchmarks.all_orders()[name].middle, row.random_order_nodes)))
+        self.assertEqual(len(means), 195)
+        self.assertAlmostEqual(statistics.fmean(means), 1 / 2, delta=0.01)
+
+    def test_optimal_and_late_ones(self):
+        best = [f"{name},{it.optimum}" for name, it in OPTIMA.items()]
+        for count, share, said in ((0, 0, "0 of all, in the mean"), (64, 1 / 4, "0.250 of all, in the mean; a late or missing "
+                                                                     "function counts as 1")):
+            late = [f"{name},late" for name in list(OPTIMA)[:count // 2]]
+            text = "\n".join(["name,nodes", *late, *best[count:], ""])
+            self.assertEqual(strict(scored(text, "--json")[1])[0]["mean_better_share"], share)
+            self.assertIn(f"\nbetter orders: {said}\n", scored(text)[1])
+
+    def test_a_function_has_that_of_its_median_run(self):
+        [found] = strict(scored("name,nodes\nhwb8,44\nhwb8,55\nhwb8,late\nz4ml,26\n", "--json", "hidden weighted bit")[1])
+        self.assertEqual([(it["nodes"], it["better_share"]) for it in found["results"]], [(55, 31 / 140)])
+        self.assertEqual(found["mean_better_share"], (12 + 31 / 140) / 13)
+
+    def test_shares_as_they_are_said(self):
+        shares = (None, 0, 0.0, 1, 0.99999, 0.012, 1 / 3, 1.234e-12)
+        self.assertEqual([benchmarks.brief(it) for it in shares], ["", "0", "0", "1", "1.00", "0.0120", "0.333", "1.23e-12"])
+
+
 class Rounding(unittest.TestCase):
     def test_half_goes_up(self):
         self.assertEqual([benchmarks.fixed(it, 3) for it in (2.3125, 1.0005, 2, 74 / 32)], ["2.313", "1.000", "2.000", "2.313"])
@@ -213,10 +256,11 @@ class Runs(unittest.TestCase):
         rows = list(csv.DictReader(io.StringIO(out)))
         self.assertEqual((status, len(rows)), (0, 10))
         self.assertEqual(rows[0], {
-            "name": "hwb8", "start": "file", "order": "", "nodes": "50", "optimum": "44", "ratio": "1.1364", "claimed": "1",
-            "seconds": "0.25"})
+            "name": "hwb8", "start": "file", "order": "", "nodes": "50", "optimum": "44", "ratio": "1.1364",
+            "better_share": str(27 / 560), "claimed": "1", "seconds": "0.25"})
         self.assertEqual([row["start"] for row in rows[6:]], ["3", "random", "4", "5"])
-        self.assertEqual([rows[3][it] for it in ("nodes", "ratio", "claimed", "seconds")], ["late", "", "0", "10.0"])
+        self.assertEqual([rows[3][it] for it in ("nodes", "ratio", "better_share", "claimed", "seconds")],
+                         ["late", "", "1.0", "0", "10.0"])
 
     def test_a_second_score_has_the_same_figures(self):
         for form in ("--json", "--name=one"):
@@ -330,7 +374,7 @@ class Counted(unittest.TestCase):
     def test_a_second_score_counts_the_orders_again(self):
         text = "name,order\nmux2,2 0 1\nhwb8,x1 x2 x3 x4 x5 x6 x8 x7\n"
         first = scored(text, "--csv")[1]
-        self.assertIn("\nhwb8,file,0 1 2 3 4 5 7 6,55,44,1.2500,0,\n", first)
+        self.assertIn("\nhwb8,file,0 1 2 3 4 5 7 6,55,44,1.2500,0.22142857142857142,0,\n", first)
         self.assertEqual(scored(first), scored(text))
 
 

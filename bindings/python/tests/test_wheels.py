@@ -30,7 +30,7 @@ class Wheels(unittest.TestCase):
         prefix = f"{self.folder}/prefix"
         package = f"{prefix}/share/minorder/python"
         shutil.copytree(PACKAGE, package, ignore=shutil.ignore_patterns("tests", "__pycache__"))
-        for name in ("optima.csv", "league.csv"):
+        for name in ("optima.csv", "league.csv", "sizes.csv.gz"):
             shutil.copy(f"{PACKAGE}/../../optima/{name}", f"{package}/minorder/benchmarks")
         name, files = wheel_of(package, self.folder)
         self.assertTrue(name.endswith("-py3-none-any.whl"))
@@ -45,7 +45,7 @@ class Wheels(unittest.TestCase):
             name, files = wheel_of(place, self.folder)
             self.assertTrue(name.endswith("-py3-none-linux_x86_64.whl"))
             self.assertEqual(files[f"minorder/{LIBRARY}"], b"a library")
-            self.assertIn("minorder/benchmarks/league.csv", files)
+            self.assertLessEqual({"minorder/benchmarks/league.csv", "minorder/benchmarks/sizes.csv.gz"}, set(files))
         name, files = wheel_of(package, self.folder, {"platform": "manylinux_2_17_x86_64"})
         self.assertTrue(name.endswith("-py3-none-manylinux_2_17_x86_64.whl"))
         about = next(content.decode() for it, content in files.items() if it.endswith(".dist-info/WHEEL"))

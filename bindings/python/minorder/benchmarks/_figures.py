@@ -20,3 +20,10 @@ def fixed(value: Optional[float], digits: int) -> str:
 
 def percent(part: float, whole: int = 1) -> str:
     return f"{fixed(100 * part / whole, 0)} %"
+
+
+def brief(share: Optional[float]) -> str:
+    """A share with three significant digits, as 0.0120 or 1.23e-09, but 0 and 1 where it is just that; nothing of None."""
+    if share is None:
+        return ""
+    return str(int(share)) if share in (0, 1) else f"{share:#.3g}"

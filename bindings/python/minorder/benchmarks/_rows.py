@@ -86,7 +86,7 @@ def read_league(path: str) -> list[Line]:
     ) for row in _rows(path)]
 
 
-def _place(name: str) -> str:
+def place(name: str) -> str:
     """Where a table lies: beside this module, or in the repository's optima/."""
     beside = os.path.join(HERE, name)
     return beside if os.path.exists(beside) else os.path.join(HERE, *[os.pardir] * 4, "optima", name)
@@ -95,10 +95,10 @@ def _place(name: str) -> str:
 @lru_cache(maxsize=None)
 def optima() -> dict[str, Optimum]:
     """Those of the table of this package."""
-    return read_optima(_place("optima.csv"))
+    return read_optima(place("optima.csv"))
 
 
 @lru_cache(maxsize=None)
 def league() -> list[Line]:
     """That of this package."""
-    return read_league(_place("league.csv"))
+    return read_league(place("league.csv"))
