@@ -11,6 +11,7 @@ import sys
 HERE = os.path.dirname(os.path.abspath(__file__))
 TOP = os.path.dirname(HERE)
 sys.path.append(f"{HERE}/../bindings/python")
+from minorder._arguments import two_decimals  # noqa: E402
 from minorder.benchmarks import aliases, entries, random_starts, textbook  # noqa: E402
 from minorder.files import parts_of  # noqa: E402
 
@@ -108,8 +109,7 @@ def random_order_nodes(entry, minorder):
 def order_figures(entry, minorder):
     """Of all orders: how many have the fewest nodes, the most nodes, and the mean to two decimals, a half rounded up."""
     found = minorder.orders(entry.tables(), len(entry.inputs))
-    hundredths = (found.mean * 200 + 1) // 2
-    return {"optimal_orders": found.optimal, "most": found.most, "mean": f"{hundredths // 100}.{hundredths % 100:02}"}
+    return {"optimal_orders": found.optimal, "most": found.most, "mean": two_decimals(found.mean)}
 
 
 def is_kept(row, room):

@@ -1,4 +1,5 @@
 """What arguments are, and how a refusal shows them."""
+from fractions import Fraction
 from functools import lru_cache
 from operator import index
 from typing import Iterable, Mapping, Sequence, Tuple
@@ -20,6 +21,12 @@ def shown(value: object) -> str:
         return shortened(repr(value))
     except Exception:  # such as that of a number with too many digits
         return f"a value of type {type(value).__name__}"
+
+
+def two_decimals(value: Fraction) -> str:
+    """A number that isn't negative, a half of the last digit rounded up."""
+    hundredths = (value * 200 + 1) // 2
+    return f"{hundredths // 100}.{hundredths % 100:02}"
 
 
 def whole(value: object, named: str) -> int:

@@ -7,7 +7,7 @@ from itertools import accumulate
 from math import ceil, floor
 from typing import TYPE_CHECKING, Iterator, NamedTuple, Sequence
 
-from ._arguments import shortened
+from ._arguments import shortened, two_decimals
 from ._drawings import LINE, MUTED, RIM, counted
 from ._plots import Dot, Line, Picture, Place, Text, width_of
 
@@ -56,7 +56,7 @@ class Mark(NamedTuple):
 
     @property
     def label(self) -> str:
-        nodes = f"{float(self.nodes):.2f}" if self.nodes.denominator > 1 else str(self.nodes)
+        nodes = two_decimals(self.nodes) if self.nodes.denominator > 1 else str(self.nodes)
         return f"{shortened(self.name)}: {nodes}"
 
 
@@ -178,5 +178,5 @@ class _Curve:
             nodes, total = floor(mark.nodes), self.sizes.total
             place = self.across.place(mark.nodes), self.upward.place(100 * self.sizes.share(nodes))
             fewer = self.sizes.rank(ceil(mark.nodes))
-            said = counted(nodes) if nodes == mark.nodes else f"{float(mark.nodes):.2f} nodes"
+            said = counted(nodes) if nodes == mark.nodes else f"{two_decimals(mark.nodes)} nodes"
             yield Dot(place, mark.colour, f"{mark.name}: {said}; {fewer:,} of {total:,} orders have fewer")

@@ -50,7 +50,7 @@ class Bar:
         return f"{text}, {left // 3600}:{left // 60 % 60:02}:{left % 60:02} left"
 
     def _draw(self, text: str) -> None:
-        if self._terminal is None:
+        if self._terminal is None or self._whole == 0:
             return
         with suppress(OSError):
             columns = os.get_terminal_size(self._terminal).columns or 80

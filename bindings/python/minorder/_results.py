@@ -11,8 +11,6 @@ from ._errors import MinorderError
 from ._result_rows import COLUMNS, Fault, Unreadable, rows_of
 
 LATE = "late"
-# the family whose functions have the same size under every order
-SYMMETRIC = "symmetric"
 HERE = "an order is counted here"
 STARTS = (benchmarks.FILE, benchmarks.RANDOM, *map(str, benchmarks.NUMBERS))
 FAULTS_SHOWN, CHARACTERS_SHOWN = 20, 60
@@ -167,10 +165,11 @@ def nodes_of(name: str, given: object) -> int:
 
 
 def claim_of(name: str, given: object, row: benchmarks.Optimum) -> int:
-    """A number of nodes that some order may have: not below the proved optimum, and of a symmetric function no other."""
+    """A number of nodes that some order may have: between the proved optimum and the most nodes of an order."""
     nodes, fewest = nodes_of(name, given), row.optimum
-    if nodes > fewest and row.family == SYMMETRIC:
-        raise Fault(f"{name}: {nodes} nodes, and each order has {fewest}: most likely the constants counted; {HERE}")
+    if nodes > row.most:
+        bound = f"each order has {fewest}" if row.most == fewest else f"no order has more than {row.most}"
+        raise Fault(f"{name}: {nodes} nodes, and {bound}: most likely the constants counted; {HERE}")
     if nodes < fewest:
         why = "counted with complement edges" if 2 * nodes >= fewest - 1 else "another function, or fewer outputs"
         raise Fault(f"{name}: {nodes} nodes, and no order has fewer than {fewest}: most likely {why}; {HERE}")

@@ -145,7 +145,7 @@ def missing(score: Score) -> list[str]:
     named = {"late": score.late, "missing": score.missing}
     lines = [f"{what}, {len(names)}: {some(names)}" for what, names in named.items() if names]
     if score.missing and score.whole_families:
-        lines.append(f"behind RESULTS these families give a score of their own: {', '.join(score.whole_families)}")
+        lines.append(f"families of which nothing is missing (FAMILY scores one alone): {', '.join(score.whole_families)}")
     return lines
 
 

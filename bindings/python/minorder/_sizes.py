@@ -12,7 +12,7 @@ from math import ceil
 from typing import Iterable, Iterator, Mapping, Optional, Tuple, Union
 
 from . import _size_files
-from ._arguments import shown, whole
+from ._arguments import shown, two_decimals, whole
 from ._calls import Functions, Order, levels_of, variables_of
 from ._errors import BadArgument, BadSize, MinorderError
 from ._writing import path_of
@@ -74,7 +74,7 @@ class Sizes(Mapping[int, int]):
 
     def __repr__(self) -> str:
         bound = "" if self.bound is None else f", counted up to {self.bound}"
-        return f"<Sizes of {self.total} orders: {self.fewest} to {self.most} nodes, mean {float(self.mean):.2f}{bound}>"
+        return f"<Sizes of {self.total} orders: {self.fewest} to {self.most} nodes, mean {two_decimals(self.mean)}{bound}>"
 
     @property
     def total(self) -> int:
@@ -108,11 +108,15 @@ class Sizes(Mapping[int, int]):
 
     def rank(self, size: Union[int, Order]) -> int:
         """How many orders have fewer nodes. Raises BadArgument, BadShape, BadOrder, BadSize."""
-        return self._up_to_size(self._size_of(size, "size") - 1, "size")
+        given = self._size_of(size, "size")
+        self._check_bound(given - 1, given, "size")
+        return self._up_to_size(given - 1)
 
     def share(self, size: Union[int, Order]) -> Fraction:
         """The share of the orders that have at most so many nodes. Raises BadArgument, BadShape, BadOrder, BadSize."""
-        return Fraction(self._up_to_size(self._size_of(size, "size"), "size"), self.total)
+        given = self._size_of(size, "size")
+        self._check_bound(given, given, "size")
+        return Fraction(self._up_to_size(given), self.total)
 
     def marked(self, /, **marks: Union[int, Order]) -> Sizes:
         """The same with sizes that the curve names, each ``name=size`` or ``name=order``; names with spaces are written
@@ -127,7 +131,7 @@ class Sizes(Mapping[int, int]):
             if not name.strip():
                 raise BadArgument(f"marked: {name!r} is no name")
             found[name] = self._size_of(size, f"marked: {name}")
-            self._up_to_size(found[name], f"marked: {name}")
+            self._check_bound(found[name], found[name], f"marked: {name}")
         return replace(self, marks=tuple(found.items()))
 
     def _size_of(self, size: Union[int, Order], named: str) -> int:
@@ -139,10 +143,13 @@ class Sizes(Mapping[int, int]):
         except MinorderError as error:
             raise type(error)(f"{named}: {str(error).partition(': ')[2]}") from None
 
-    def _up_to_size(self, size: int, named: str) -> int:
-        """How many orders have at most so many nodes."""
+    def _check_bound(self, size: int, given: int, named: str) -> None:
+        """Raises BadSize, with the number that was given, if orders of so many nodes aren't counted."""
         if self.bound is not None and size > self.bound:
-            raise BadSize(f"{named}: {size}: {BEYOND.format(self.bound)}")
+            raise BadSize(f"{named}: {given}: {BEYOND.format(self.bound)}")
+
+    def _up_to_size(self, size: int) -> int:
+        """How many orders have at most so many nodes."""
         place = bisect_left(self._rows, (size + 1, 0))
         return self._up_to[place - 1] if place else 0
 

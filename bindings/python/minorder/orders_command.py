@@ -16,7 +16,7 @@ from typing import Iterator, Optional, Sequence, Union
 
 from . import _ends
 from ._all_orders import sizes
-from ._arguments import shortened, shown
+from ._arguments import shortened, shown, two_decimals
 from ._curves import Parts
 from ._drawings import counted
 from ._errors import BadSize
@@ -28,7 +28,8 @@ from .diagram_command import order_of
 from .levels_command import read
 
 NAME = "minorder-orders"
-PAIRS = re.compile("[0-9]{1,2},[0-9]{1,2}(:[0-9]{1,2},[0-9]{1,2})*")
+VARIABLE = "(?:0|1[0-5]|[1-9])"
+PAIRS = re.compile(f"{VARIABLE},{VARIABLE}(?::{VARIABLE},{VARIABLE})*")
 
 
 class NotOfFile(Exception):
@@ -62,11 +63,13 @@ def value_of(name: str, value: str, inputs: Sequence[str]) -> Union[int, list[in
         raise NotOfFile(f"{shortened(name)}: {refusal.args[0]}") from None
 
 
-def pairs_of(text: str) -> list[tuple[int, int]]:
+def pairs_of(text: Optional[str]) -> list[tuple[int, int]]:
     """The pairs of inputs that a list spells, as minorder's option --above has it."""
-    if text and not PAIRS.fullmatch(text):
+    if text is None:
+        return []
+    if not PAIRS.fullmatch(text):
         raise _ends.Refused(_ends.BAD_WORDS, f"--above {shortened(text)}: pairs of inputs by number are spelled 2,0:1,0")
-    return [(int(above), int(below)) for above, below in (pair.split(",") for pair in text.split(":") if pair)]
+    return [(int(above), int(below)) for above, below in (pair.split(",") for pair in text.split(":"))]
 
 
 def sizes_of(file: Pla, marks: dict[str, str], above: Sequence[tuple[int, int]], most: Optional[int]) -> Sizes:
@@ -97,7 +100,7 @@ def lines_of(found: Sizes) -> Iterator[str]:
     yield f"orders: {figures.count}"
     yield f"fewest: {counted(figures.nodes)} in {orders_said(figures.optimal)}"
     yield f"most: {counted(figures.most)} in {orders_said(figures.worst)}"
-    yield f"mean: {float(figures.mean):.2f} nodes"
+    yield f"mean: {two_decimals(figures.mean)} nodes"
     yield f"median: above {found.bound} nodes" if median is None else f"median: {counted(median)}"
     for name, nodes in found.marks:
         fewer = found.rank(nodes)
@@ -135,7 +138,7 @@ def main(words: Optional[Sequence[str]] = None) -> int:
     form.add_argument("--json", dest="text", action="store_const", const=".json", help="write an object of JSON for each file")
     form.add_argument("--csv", dest="text", action="store_const", const=".csv", help="write a line for each size")
     parser.add_argument("--mark", dest="marks", metavar="MARK", action="append", default=[], help="NAME=ORDER or NAME=SIZE")
-    parser.add_argument("--above", metavar="LIST", default="", help="keep pairs of inputs; 2,0:1,0: 2 above 0, 1 above 0")
+    parser.add_argument("--above", metavar="LIST", help="keep pairs of inputs; 2,0:1,0: 2 above 0, 1 above 0")
     parser.add_argument("--most", type=int, metavar="N", help="count sizes up to N nodes, which takes less memory")
     return _ends.run(parser, command, words)
 

@@ -25,6 +25,7 @@ TOP = os.path.abspath(f"{PACKAGE}/../..")
 sys.path.insert(0, PACKAGE)
 import minorder  # noqa: E402
 from minorder import _curves, _plots  # noqa: E402
+from minorder._arguments import two_decimals  # noqa: E402
 from test_minorder import multiplexer, products, random_tables, widths  # noqa: E402
 
 try:
@@ -110,10 +111,10 @@ class Beside(unittest.TestCase):
 class Worked(unittest.TestCase):
     def test_examples(self):
         for tables, fewest, optimal, most, mean, median in (
-                (HIDDEN, 44, 48, 64, "56.92", 57), (ADDER, 29, 16, 105, "71.76", 69), (PRODUCTS, 6, 48, 14, "10.80", 10)):
+                (HIDDEN, 44, 48, 64, "56.93", 57), (ADDER, 29, 16, 105, "71.76", 69), (PRODUCTS, 6, 48, 14, "10.80", 10)):
             found = minorder.sizes(tables)
             self.assertEqual((found.fewest, found[fewest], found.most), (fewest, optimal, most))
-            self.assertEqual((f"{float(found.mean):.2f}", found.quantile(0.5)), (mean, median))
+            self.assertEqual((two_decimals(found.mean), found.quantile(0.5)), (mean, median))
             self.assertEqual(found.figures, minorder.orders(tables))
             best = minorder.exact(tables)
             self.assertEqual((minorder.widths(tables).cost(best), found.rank(best)), (best.total, 0))
@@ -240,7 +241,7 @@ class Refusals(unittest.TestCase):
         self.assertEqual((found.total, found.mean, found.most), (720, Fraction(54, 5), 14))
         self.assertEqual((found.rank(10), found.share(9), found.quantile(Fraction(1, 3))), (240, Fraction(1, 3), 8))
         beyond = "beyond 9 nodes, up to which sizes are counted"
-        self.refused(minorder.BadSize, f"size: 10: {beyond}", found.rank, 11)
+        self.refused(minorder.BadSize, f"size: 11: {beyond}", found.rank, 11)
         self.refused(minorder.BadSize, f"size: 10: {beyond}", found.share, 10)
         self.refused(minorder.BadSize, f"q: 0.5: {beyond}", found.quantile, 0.5)
         self.refused(minorder.BadSize, f"marked: file: 14: {beyond}", found.marked, file=range(6))
@@ -334,13 +335,13 @@ class Curves(unittest.TestCase):
         self.assertIn(named["optimum"], points)
         self.assertIn(named["file"], points)
         self.assertEqual([dot.said for dot in picture.dots], [
-            "optimum: 44 nodes; 0 of 40,320 orders have fewer", "mean: 56.92 nodes; 15,984 of 40,320 orders have fewer",
+            "optimum: 44 nodes; 0 of 40,320 orders have fewer", "mean: 56.93 nodes; 15,984 of 40,320 orders have fewer",
             "file: 55 nodes; 8,928 of 40,320 orders have fewer"])
 
     def test_it_is_xml(self):
         text = minorder.sizes(HIDDEN).marked(**{"<&>\x00$": 50})._repr_svg_()
         texts = {it.text for it in ElementTree.fromstring(text).iter("{http://www.w3.org/2000/svg}text")}
-        names = {"nodes", "orders with at most so many nodes, %", "optimum: 44", "mean: 56.92", "<&>?$: 50", "40,320 orders"}
+        names = {"nodes", "orders with at most so many nodes, %", "optimum: 44", "mean: 56.93", "<&>?$: 50", "40,320 orders"}
         self.assertEqual(names - texts, set())
 
     def test_steps_of_an_axis_are_round(self):

@@ -36,7 +36,7 @@ class Command(unittest.TestCase):
         self.assertEqual(self.ran(MULTIPLEXER), (0, f"file: {MULTIPLEXER}\n{TEXT}", ""))
         _, text, _ = self.ran(HIDDEN, MULTIPLEXER)
         self.assertEqual(text.splitlines()[1:5], [
-            "orders: 40320", "fewest: 44 nodes in 48 orders", "most: 64 nodes in 576 orders", "mean: 56.92 nodes"])
+            "orders: 40320", "fewest: 44 nodes in 48 orders", "most: 64 nodes in 576 orders", "mean: 56.93 nodes"])
         self.assertTrue(text.endswith(f"file: {MULTIPLEXER}\n{TEXT}"))
 
     def test_marks(self):
@@ -106,6 +106,8 @@ class Command(unittest.TestCase):
                 ((MULTIPLEXER, "--mark", "x=5", "--most", "4"), 2, "--mark x: 5: beyond 4 nodes, up to which sizes are counted"),
                 ((MULTIPLEXER, "--most", "-1"), 2, "most: -1: a bound is at least 0 nodes"),
                 ((MULTIPLEXER, "--above", "2-0"), 2, "--above 2-0: pairs of inputs by number are spelled 2,0:1,0"),
+                ((MULTIPLEXER, "--above", "02,0"), 2, "--above 02,0: pairs of inputs by number are spelled 2,0:1,0"),
+                ((MULTIPLEXER, "--above", ""), 2, "--above : pairs of inputs by number are spelled 2,0:1,0"),
                 ((MULTIPLEXER, "--above", "0,3"), 2, "above: (0, 3): variables are 0 to 2"),
                 ((MULTIPLEXER, "--above", "0,1:1,0"), 2, "above: the pairs lead from a variable back to itself"),
                 ((MULTIPLEXER, "-o", "it.gif"), 2,

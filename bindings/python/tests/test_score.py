@@ -80,7 +80,7 @@ class Scores(unittest.TestCase):
         self.assertIn(f"missing, {len(OPTIMA) - 3}: hwb4 ", out)
         self.assertRegex(out, r" and [0-9]+ more\n$")
         _, out, _ = scored("name,nodes\ngray8,15\ngray16,31\nbcd7seg,late\nhwb8,44\n")
-        self.assertTrue(out.endswith("\nbehind RESULTS these families give a score of their own: codes\n"))
+        self.assertTrue(out.endswith("\nfamilies of which nothing is missing (FAMILY scores one alone): codes\n"))
 
     def test_all_late(self):
         status, out, errors = scored("name,nodes\nhwb8,late\n")
@@ -123,7 +123,7 @@ class Scores(unittest.TestCase):
     def test_several_runs_are_named(self):
         said = "with several runs, 2: life addc3: the lower median of a function's runs counts, and in the runs that met the "
         self.assertIn(f"{said}optimum their share\n", scored("name,nodes\nhwb8,55\nlife,26\nz4ml,26\nlife,26\naddc3,33\n")[1])
-        tens = "".join(f"{name},44,{start}\n" for name, start in [("hwb8", "random")] * 11 + [("life", "random")] * 10)
+        tens = "hwb8,44,random\n" * 11 + "life,41,random\n" * 10
         out = scored(f"name,nodes,start\n{tens}hwb9,70,3\nhwb9,61,3\n", "--json")[1]
         self.assertEqual(strict(out)[0]["several_runs"], ["hwb8", "hwb9"])
         self.assertNotIn("several runs", scored("name,nodes,start\nhwb8,55,file\nhwb8,55,1\nhwb8,44,2\n")[1])
@@ -183,9 +183,10 @@ class Late(unittest.TestCase):
         self.assertEqual(mean(44, 44, 60, "late", "late")["results"][0]["nodes"], 60)
         self.assertEqual((mean(44, 44, "late", "late", "late")["ended"], mean(44, "late")["ended"]), (0, 0))
         # an order beyond what any method has counts as a late one
-        self.assertEqual(mean(100_000)["mean_ratio"], mean("late")["mean_ratio"])
-        self.assertIn("\nof what ended: 100.000 on 3 functions\n", scored(
-            "name,nodes\ngray8,1500\ngray16,3100\nbcd7seg,2100\n", "codes")[1])
+        self.assertEqual(mean(64)["mean_ratio"], mean("late")["mean_ratio"])
+        self.assertIn("\nof what ended: 1.455 on 1 function\n", scored("name,nodes\nhwb8,64\n")[1])
+        # and no order has more
+        self.assertIn("hwb8: 65 nodes, and no order has more than 64: most likely", scored("name,nodes\nhwb8,65\n")[2])
 
     def test_the_mean_is_over_all_functions(self):
         optima, worst = {"a": 10, "b": 20}, {"a": 40, "b": 30}

@@ -78,7 +78,10 @@ impl fmt::Display for Figures {
         writeln!(to, "orders: {}", self.orders)?;
         writeln!(to, "fewest nodes: {}, under {optimal}", self.fewest_nodes)?;
         writeln!(to, "most nodes: {}, under {worst}", self.most_nodes)?;
-        write!(to, "mean nodes: {:.2}", self.mean())
+        // a half of the last digit is rounded up
+        let (nodes, orders) = (u128::from(self.total_nodes), u128::from(self.orders.max(1)));
+        let hundredths = (200 * nodes + orders) / (2 * orders);
+        write!(to, "mean nodes: {}.{:02}", hundredths / 100, hundredths % 100)
     }
 }
 

@@ -26,6 +26,7 @@ class Optimum(NamedTuple):
     pla_sha256: str
     certificate_sha256: str
     random_order_nodes: tuple[int, ...]
+    most: int
 
 
 class Line(NamedTuple):
@@ -69,7 +70,7 @@ def read_optima(path: str) -> dict[str, Optimum]:
         row["family"], row["name"], tuple(row["aliases"].split()), row["what"], int(row["inputs"]), int(row["outputs"]),
         int(row["file_order_nodes"]), int(row["sifted_nodes"]), int(row["optimum"]), _numbers(row["first_optimal_order"]),
         _numbers(row["sifted_order"]), _numbers(row["level_counts"]), row["pla_sha256"], row["certificate_sha256"],
-        _numbers(row["random_order_nodes"]),
+        _numbers(row["random_order_nodes"]), int(row["most"]),
     ) for row in _rows(path)}
 
 

@@ -90,7 +90,7 @@ class Standing:
 
     @property
     def runs_met(self) -> Optional[float]:
-        """The share of the runs that met the optimum, each function counting alike; None of no runs."""
+        """The share of the runs that met the optimum, each function that has a run counting alike; None of no runs."""
         shares = [line.optimum_met / line.runs for line in self.lines]
         return sum(shares) / len(shares) if shares else None
 
