@@ -16,11 +16,14 @@ from minorder import benchmarks
 from minorder.benchmarks import fixed
 from page_browser import FILE, OPTIMA, RANDOM, SIFT, Opened
 
+ORDERS = benchmarks.all_orders()
+
 
 class Tables(Opened):
     def test_the_tables_sort_by_each_column(self):
         for column, key in ((5, lambda it: it.inputs), (6, lambda it: it.outputs), (9, lambda it: it.optimum),
-                            (10, lambda it: it.sifted_nodes / it.optimum)):
+                            (10, lambda it: it.sifted_nodes / it.optimum), (11, lambda it: it.mean / it.optimum),
+                            (12, lambda it: it.most / it.optimum), (13, lambda it: ORDERS[it.name].up_to[0])):
             head = self.one(f"#functions-table thead th:nth-child({column})")
             for turned in (False, True):
                 head.send_keys("\n")
@@ -199,6 +202,45 @@ class Curves(Opened):
                 self.assertGreaterEqual(test_page.contrast(*numbers), 3, (ground, colour))
         self.driver.execute_cdp_cmd("Emulation.setEmulatedMedia", {"features": []})
 
+    def test_marks_on_the_curve_of_all_orders_are_walked_and_say_their_share(self):
+        self.open("#hwb8")
+        marks = [it.get_attribute("aria-label") for it in self.all("#orders .mark")]
+        self.assertRegex(marks[0], r"^44 nodes: the fewest, .*CUDD EXACT.* with no more: 0\.119 %\.$")
+        self.assertTrue(any(re.match(r"56\.93 nodes: the mean\. .* 39\.6 %\.$", it) for it in marks), marks)
+        nodes = {line.counted_nodes for its in (FILE, RANDOM) for it in its.values() for line in it.of(["hwb8"]).lines} - {None}
+        self.assertEqual({float(it.split(" ")[0]) for it in marks}, nodes | {44, 56.93, OPTIMA["hwb8"].file_order_nodes})
+        self.assertEqual([it.get_attribute("textContent") for it in self.all("#marks li")], marks)
+        self.one("#function .walk a:last-child").send_keys("")
+        for keys, place in (("tab", 0), ("arrow_right", 1), ("end", -1), ("arrow_right", -1), ("arrow_left", -2), ("home", 0)):
+            self.press_keys(keys)
+            focused = self.driver.switch_to.active_element.get_attribute("aria-label")
+            self.assertEqual((focused, self.one("#mark").text), (marks[place], marks[place]))
+        self.drop_in("mine.csv", "name,nodes,start\nhwb8,50,file\n")
+        self.assertIn("50 nodes: mine claimed. ", "".join(it.get_attribute("aria-label") for it in self.all("#orders .mark")))
+        self.driver.execute_script("localStorage.clear()")
+
+    def test_each_function_has_its_curve(self):
+        self.open("#hwb8")
+        for ground in ("light", "dark"):
+            features = [{"name": "prefers-color-scheme", "value": ground}]
+            self.driver.execute_cdp_cmd("Emulation.setEmulatedMedia", {"features": features})
+            faults, under, drawn = self.driver.execute_script("""
+                const style = (it) => getComputedStyle(it), each = (selector) => [...document.querySelectorAll(selector)];
+                const drawn = new Set(), faults = page.functions.filter((it) => {
+                    show(it);
+                    for (const {fill, stroke} of each(".mark circle").map(style)) drawn.add(`${fill} ${stroke}`);
+                    const [path] = each("#orders .curve"), known = new Set(it.within.map(([size]) => size));
+                    const isFlat = known.size === 1, labels = each("#orders .name").map(it => it.textContent).join();
+                    return isFlat !== !path || path && (path.getAttribute("d").includes("NaN") || !labels.includes("the fewest"))
+                        || each(".mark").some(mark => mark.getAttribute("aria-label").includes("at least"));
+                });
+                return [faults.map(it => it.name), style(document.body).backgroundColor, [...drawn]];""")
+            self.assertEqual(faults, [])
+            for pair in drawn:
+                colours = [tuple(map(int, it.split(", "))) for it in re.findall(r"rgb\(([^)]*)\)", f"{pair} {under}")]
+                self.assertGreaterEqual(max(test_page.contrast(it, colours[-1]) for it in colours[:-1]), 3, (ground, pair))
+        self.driver.execute_cdp_cmd("Emulation.setEmulatedMedia", {"features": []})
+
     def test_no_bar_covers_a_word(self):
         self.open("#rotate8")
         covered = self.driver.execute_script("""
@@ -216,7 +258,7 @@ class Narrow(Opened):
     width = 320
 
     def test_nothing_is_wider_than_the_screen(self):
-        for link in ("", "#hwb16", "#sn74181", "#less4"):
+        for link in ("", "#hwb16", "#sn74181", "#sn74151", "#less4"):
             self.open(link)
             self.assertLessEqual(self.driver.execute_script("return document.documentElement.scrollWidth"), self.width)
 
@@ -239,7 +281,8 @@ class Plain(Opened):
         self.assertFalse(self.one("#filters").is_displayed())
         self.assertFalse(self.one("#yours").is_displayed())
         row = next(it for it in self.all("#functions-table tbody tr") if it.text.startswith("hwb12 "))
-        self.assertTrue(row.text.endswith(f"137 1.161 {' '.join(map(str, OPTIMA['hwb12'].first_optimal_order))}"))
+        order = " ".join(map(str, OPTIMA["hwb12"].first_optimal_order))
+        self.assertTrue(row.text.endswith(f"137 1.161 1.80 2.45 192 {order}"), row.text)
 
 
 def main():

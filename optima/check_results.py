@@ -233,7 +233,7 @@ class Results(Opened):
             "missing": [f"{name},{nodes[name]},," for name in best],
             "none": [f"{name},late,," for name in names],
             "several": [f"{name},{most[name] if k > 6 else nodes[name] if k % 3 else 'late'},{k},0.0{k}"
-                        for name in small for k in range(1, 11)] + ["hwb13,1000,1,", "hwb16,late,random,"],
+                        for name in small for k in range(1, 11)] + ["hwb13,400,1,", "hwb16,late,random,"],
             "ties": ["life,52,,", "hwb8,44,,", "sn7442,40,file,", "sn7442,20,2,", "sn7442,late,1,"],
         }
 
@@ -257,7 +257,8 @@ class Results(Opened):
                 if score.left_out:
                     self.assertIn(f"left out, {len(score.left_out)}: {' '.join(score.left_out)}: ", said)
                 row = _score_texts.league_row(name, its)
-                wanted = [*row[1:5], row[6], row[7]] if from_file else [row[1], row[3].split(" ")[0], row[5]]
+                # the page has no shares of better orders
+                wanted = [row[1], *row[3:6], row[7], row[8]] if from_file else [row[1], row[4].split(" ")[0], row[6]]
                 found = [self.own_rows(column)[name] for column in (range(2, 8) if from_file else range(8, 11))]
                 self.assertEqual(found, wanted, (name, score.start))
         places = {name: int(self.drop_place(lines)) for name, lines in texts.items() if name in ("all", "late", "missing")}
@@ -270,10 +271,11 @@ class Results(Opened):
         return self.drop_in("alone.csv", "\n".join(["name,nodes,start,seconds", *lines])).partition("place ")[2].split(" ")[0]
 
     def test_what_is_refused(self):
-        said = self.give("bad.csv", "name,nodes\nhwb8,43\nhwx8,44\nhwb8,\nhwb8,4x\nparity8,17\n")
+        said = self.give("bad.csv", "name,nodes\nhwb8,43\nhwx8,44\nhwb8,\nhwb8,4x\nparity8,17\nhwb8,65\n")
         for text in ("line 2: hwb8: 43 nodes, and no order has fewer than 44", "line 3: no function is named hwx8",
                      "line 4: hwb8: neither an order nor a number of nodes", "line 5: hwb8: nodes 4x: no number of nodes",
-                     "line 6: parity8: 17 nodes, and each order has 15"):
+                     "line 6: parity8: 17 nodes, and each order has 15",
+                     "line 7: hwb8: 65 nodes, and no order has more than 64"):
             self.assertIn(text, said)
         for text, why in (
                 ("name,order\nmux2,2 0 3\n", "line 2: mux2: 3 is no input: they are 0 to 2, or a b s"),

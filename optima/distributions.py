@@ -38,6 +38,12 @@ def write_sizes(lines, path):
         file.write(gzip.compress(text.encode(), 9, mtime=0))
 
 
+def read(into):
+    """By the functions' names their sizes by the shares."""
+    with open(f"{into}/{FILE}", newline="") as file:
+        return {row["name"]: {share: int(row[share]) for share in NAMES} for row in csv.DictReader(file)}
+
+
 def make(programs):
     """Writes the sizes of all orders of each function of the table and their distribution, those first that are done soonest."""
     minorder, lines, size_lines = table.library(), {}, {}

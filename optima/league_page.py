@@ -3,9 +3,9 @@ import csv
 import os
 import statistics
 
+import distributions
 import league
 from minorder import benchmarks
-from distributions import SIZES
 from minorder.benchmarks import CURVES, FILE, RANDOM, brief, fixed, mean_better, percent
 from minorder._picture import curve_of
 
@@ -78,7 +78,8 @@ class League:
         self.lines = benchmarks.read_league(f"{into}/optima/league.csv")
         self.file = benchmarks.standings(self.lines, self.optima, FILE)
         self.random = benchmarks.standings(self.lines, self.optima, RANDOM)
-        self.orders = benchmarks.read_sizes(f"{into}/{SIZES}")
+        self.orders = benchmarks.read_sizes(f"{into}/{distributions.SIZES}")
+        self.distributions = distributions.read(into)
         self.families = list(family_lines(rows, self.file))
         with open(f"{into}/optima/league_families.csv", "w", newline="") as file:
             out = csv.DictWriter(file, FAMILIES, lineterminator="\n")

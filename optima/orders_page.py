@@ -1,10 +1,9 @@
 """The section of docs/OPTIMA.md on all orders, with its picture."""
-import csv
 import math
 import os
 
+import distributions
 import pictures
-from distributions import FILE
 from minorder.benchmarks import geometric_mean
 
 HERE = os.path.dirname(os.path.abspath(__file__))
@@ -37,8 +36,7 @@ def rarest(rows):
 
 def part(rows, into):
     """The section, from the table and the distributions in the folder; its picture is written there."""
-    with open(f"{into}/{FILE}", newline="") as file:
-        sizes = {row["name"]: row for row in csv.DictReader(file)}
+    sizes = distributions.read(into)
     means = [over_optimum(row, "mean") for row in rows]
     pictures.orders(means, [optimal_share(row) for row in rows], f"{into}/docs/optima_orders.svg")
     far = sorted((row for row in rows if over_optimum(row, "mean") > FAR), key=lambda row: -over_optimum(row, "mean"))
@@ -50,6 +48,6 @@ def part(rows, into):
             easy=len(easy), symmetric=sum(row["most"] == row["optimum"] for row in easy),
             far=len(far), far_names=farthest(far),
             rare=sum(optimal_share(row) <= RARE for row in rows), rarest=rarest(rows),
-            file_half=sum(int(row["file_order_nodes"]) < int(sizes[row["name"]]["0.49"]) for row in rows),
-            many=len(many), sifted_thousandth=sum(int(row["sifted_nodes"]) < int(sizes[row["name"]]["1e-3"]) for row in many),
+            file_half=sum(int(row["file_order_nodes"]) < sizes[row["name"]]["0.49"] for row in rows),
+            many=len(many), sifted_thousandth=sum(int(row["sifted_nodes"]) < sizes[row["name"]]["1e-3"] for row in many),
             sifted_met=sum(row["sifted_nodes"] == row["optimum"] for row in many))

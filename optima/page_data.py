@@ -41,7 +41,16 @@ def packed(tables, inputs):
     return base64.b64encode(zlib.compress(b"".join(table.to_bytes(size, "little") for table in tables), 9)).decode()
 
 
-def function_of(row):
+def orders_within(it, row, counted):
+    """How many orders have at most so many nodes: at the sizes of the shares and of the marks on their curve."""
+    orders = it.orders[row.name]
+    ends = (orders.fewest, row.most, int(row.mean), row.file_order_nodes)
+    sizes = {*it.distributions[row.name].values(), *ends, *counted}
+    return [[size, orders.within(size)] for size in sorted(sizes)]
+
+
+def function_of(it, row, counted):
+    """A function's numbers; ``counted`` has those of nodes that the methods make of it."""
     entry = benchmarks.entry(row.name)
     tables, inputs = entry.tables(), range(row.inputs)
     found = {
@@ -49,6 +58,7 @@ def function_of(row):
         "outputs": row.outputs, "fileOrder": row.file_order_nodes, "sifted": row.sifted_nodes, "optimum": row.optimum,
         "order": row.first_optimal_order, "siftedOrder": row.sifted_order, "stem": stem_of(row),
         "levels": [row.level_counts, levels(tables, row.sifted_order), levels(tables, inputs)],
+        "mean": row.mean, "within": orders_within(it, row, counted),
         "sums": [row.pla_sha256, row.certificate_sha256], "tables": packed(tables, row.inputs),
     }
     if row.optimum <= page_diagrams.MOST:
@@ -62,10 +72,14 @@ def worst_of(it, start):
 
 def data_of(it, by_hand, version):
     """``it`` is the league with its optima; ``by_hand`` what is counted by hand, by the stems of names."""
+    counted = {name: set() for name in it.optima}
+    for line in it.lines:
+        if line.counted_nodes is not None:
+            counted[line.name].add(line.counted_nodes)
     return {
         "version": version,
         "methods": [method_of(it, method) for method in benchmarks.ranked(it.random)],
-        "functions": [function_of(row) for row in it.optima.values()],
+        "functions": [function_of(it, row, counted[row.name]) for row in it.optima.values()],
         "byHand": by_hand, "starts": [FILE, RANDOM_STARTS], "mostInputs": benchmarks.MOST_INPUTS,
         "worst": {FILE: worst_of(it, FILE), RANDOM_STARTS: worst_of(it, RANDOM)},
     }

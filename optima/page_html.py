@@ -14,7 +14,8 @@ from minorder import __version__, benchmarks
 from minorder.benchmarks import fixed
 
 HERE = os.path.dirname(os.path.abspath(__file__))
-SCRIPTS = ("data", "message", "tables", "filters", "keys", "curves", "function", "results", "count", "own_rows", "own", "link")
+SCRIPTS = (
+    "data", "message", "tables", "filters", "keys", "curves", "orders", "function", "results", "count", "own_rows", "own", "link")
 SHARED = "/usr/share/javascript"
 LIBRARIES = {
     "libjs-jquery": f"{SHARED}/jquery/jquery.min.js",
@@ -28,10 +29,12 @@ LEAGUE_COLUMNS = dict(zip(
     league_page.HEADS))
 FUNCTION_COLUMNS = {
     "name": "Name", "names": "Field's names", "family": "Family", "what": "What", "inputs": "Inputs", "outputs": "Outputs",
-    "file": "File order", "nodes": "Sifted", "optimum": "Optimum", "ratio": "Ratio", "order": "First optimal order",
+    "file": "File order", "nodes": "Sifted", "optimum": "Optimum", "ratio": "Ratio",
+    "mean": "Mean over optimum", "most": "Most over optimum", "optimal-orders": "Optimal orders", "order": "First optimal order",
 }
 FUNCTION_CLASSES = {
-    "names": "wide", "family": "wide", "what": "wide", "file": "wide", "optimum": "best", "order": "order",
+    "names": "wide", "family": "wide", "what": "wide", "file": "wide", "optimum": "best", "mean": "wide", "most": "wide",
+    "optimal-orders": "wide", "order": "order",
 }
 FAMILY_COLUMNS = {"family": "Family", "functions": "Functions", "inputs": "Inputs"}
 
@@ -91,18 +94,25 @@ def by_number(name):
     return re.sub(r"\d+", lambda digits: digits[0].zfill(5), name)
 
 
-def function_row(row):
+def orders_cells(row, orders):
+    """The cells of how far off the mean and the worst order are, and of how many are optimal."""
+    ratios = (row.mean / row.optimum, row.most / row.optimum)
+    optimal = orders.up_to[0]
+    return [*(cell(fixed(it, 2), it, "wide") for it in ratios), cell(f"{optimal:,}", optimal, "wide")]
+
+
+def function_row(row, orders):
     ratio = row.sifted_nodes / row.optimum
     return row_of(
         cell(row.name, by_number(row.name), link=row.name),
         *(cell(text, classes="wide") for text in (" ".join(row.aliases), row.family, row.what)),
         cell(row.inputs), cell(row.outputs), cell(row.file_order_nodes, classes="wide"), cell(row.sifted_nodes),
-        cell(row.optimum, classes="best"), cell(fixed(ratio, 3), ratio),
+        cell(row.optimum, classes="best"), cell(fixed(ratio, 3), ratio), *orders_cells(row, orders),
         cell(" ".join(map(str, row.first_optimal_order)), classes="order"), attributes=f' data-name="{row.name}"')
 
 
 def function_rows(it):
-    return [function_row(it.optima[name]) for name in sorted(it.optima, key=by_number)]
+    return [function_row(it.optima[name], it.orders[name]) for name in sorted(it.optima, key=by_number)]
 
 
 def family_row(it, family, names, methods):

@@ -92,6 +92,22 @@ class Page(unittest.TestCase):
                 marks = [mark[0] for mark in it["diagram"]["marks"]]
                 self.assertEqual((marks.count("node"), marks.count("name")), (row.optimum, row.outputs))
 
+    def test_its_shares_of_all_orders_are_those_of_the_tables(self):
+        with open(f"{HERE}/distributions.csv", newline="", encoding="utf-8") as file:
+            _, *lines = csv.reader(file)
+        at_shares = {name: set(map(int, sizes)) for name, *sizes in lines}
+        with open(f"{HERE}/optima.csv", newline="", encoding="utf-8") as file:
+            rows = {row["name"]: row for row in csv.DictReader(file)}
+        for it in self.data["functions"]:
+            row, orders, within = rows[it["name"]], benchmarks.all_orders()[it["name"]], dict(it["within"])
+            self.assertEqual(it["mean"], float(row["mean"]), it["name"])
+            self.assertEqual(list(within), sorted(within))
+            ends = list(it["within"][0]), list(it["within"][-1])
+            self.assertEqual(ends, ([int(row["optimum"]), int(row["optimal_orders"])], [int(row["most"]), orders.up_to[-1]]))
+            self.assertEqual(list(within.values()), [orders.within(size) for size in within])
+            marked = {line.counted_nodes for line in benchmarks.league() if line.name == it["name"]} - {None}
+            self.assertLessEqual(at_shares[it["name"]] | marked | {it["fileOrder"], int(it["mean"])}, set(within))
+
     def test_its_truth_tables_are_those_of_the_functions(self):
         for it in self.data["functions"]:
             row = OPTIMA[it["name"]]

@@ -27,16 +27,16 @@ function picture(id, below, besides, right = SIZE.right) {
 const hasNames = (id) => widthOf(id) >= NAMES.least;
 const rightOf = (id) => SIZE.right + (hasNames(id) ? NAMES.room : 0);
 
-/** An empty chart with its axes; `ticks` are the values of the vertical one. */
-function chart(id, x, y, said, ticks, format) {
+/** An empty chart with its axes; `ticks` are the values of the vertical one, which `besides` names. */
+function chart(id, x, y, said, ticks, format, besides = String) {
   const {height, left, top, bottom} = SIZE, right = rightOf(id), width = widthOf(id), svg = picture(id, ...said, right);
   x.range([left, width - right]);
   y.range([height - bottom, top]);
   svg.insert("g", "text").attr("class", "axis grid").attr("transform", `translate(${left},0)`)
     .call(axisOf(y, "left").tickValues(ticks).tickSize(left + right - width, 0).tickFormat(""));
-  const below = axisOf(x, "bottom").ticks(Math.round(width / 70)).tickFormat(format || null);
+  const below = axisOf(x, "bottom").ticks(Math.round(width / 70), format);
   svg.append("g").attr("class", "axis").attr("transform", `translate(0,${height - bottom})`).call(below);
-  const beside = axisOf(y, "left").tickValues(ticks).tickFormat(String);
+  const beside = axisOf(y, "left").tickValues(ticks).tickFormat(besides);
   svg.append("g").attr("class", "axis").attr("transform", `translate(${left},0)`).call(beside);
   return svg;
 }
@@ -82,14 +82,15 @@ function parted(heights, last) {
   return found;
 }
 
-/** Names at the ends of curves; an end is a line and a place. Those near the right edge stand in one column. */
-function addNames(id, svg, ends) {
+/** Names at the ends of curves; an end is a line and a place. Those near the right edge stand in one column, or all behind a
+    place that is given. */
+function addNames(id, svg, ends, column = null) {
   if (!hasNames(id)) return;
-  const edge = widthOf(id) - rightOf(id), isRight = ({x}) => x > edge - NAMES.near;
+  const edge = widthOf(id) - rightOf(id), isRight = ({x}) => column !== null || x > edge - NAMES.near;
   const columns = d3.nest().key((end) => isRight(end) ? "right" : Math.round(end.x)).entries(ends);
   for (const {values} of columns) {
     const its = values.sort((a, b) => a.y - b.y), heights = parted(its.map(({y}) => y), SIZE.height - SIZE.bottom);
-    const beside = d3.max(its, ({x}) => x) + 14;
+    const beside = (column ?? d3.max(its, ({x}) => x)) + 14;
     its.forEach(({line, x, y}, i) => {
       svg.append("path").attr("class", "leader").attr("d", `M${x},${y}L${beside},${heights[i]}`).style("stroke", line.colour);
       const text = svg.append("text").attr({class: "name", x: beside + 3, y: heights[i], dy: "0.35em"});
@@ -173,7 +174,7 @@ function growthLines() {
 function drawGrowth(lines) {
   const x = d3.scale.linear().domain([2.5, 16.5]), y = d3.scale.log().domain([2, 10000]);
   const ticks = [2, 5, 10, 20, 50, 100, 200, 500, 1000, 2000, 5000, 10000];
-  const svg = chart("growth-chart", x, y, ["inputs", "fewest nodes"], ticks, d3.format("d"));
+  const svg = chart("growth-chart", x, y, ["inputs", "fewest nodes"], ticks, "d");
   const path = d3.svg.line().x((point) => x(point[0])).y((point) => y(point[1]));
   addPaths(svg, lines, (line) => path(line.points));
   for (const line of lines.filter((it) => it.on)) {

@@ -24,9 +24,9 @@ function facts(it) {
 
 // ---- sizes
 
-/** A number of nodes, and whether it is only claimed. */
-const nodesCell = (nodes, it, method, start) =>
-  element("td", {}, `${nodes}${method.yours && method.claimed[start].has(it.name) ? " claimed" : ""}`);
+/** What stands behind a number of nodes that is only claimed. */
+const claimIn = (it, method, start) => method.yours && method.claimed[start].has(it.name) ? " claimed" : "";
+const nodesCell = (nodes, it, method, start) => element("td", {}, `${nodes}${claimIn(it, method, start)}`);
 
 function sizeRow(it, method, longest) {
   const sizes = method.file[it.name], random = method.randomStarts[it.name];
@@ -160,7 +160,8 @@ function show(it) {
   shown = it;
   const title = element("h2", {tabindex: -1}, it.name), on = [true, true, it.fileOrder <= 4 * it.sifted];
   const figures = element("div", {class: "beside"}, levelChart(it, on), diagram(it), sizeTable(it));
-  view.replaceChildren(walk(it), title, facts(it), figures, element("div", {class: "beside"}, again(it), citation(it)));
+  view.replaceChildren(walk(it), title, facts(it), allOrders(it), figures, element("div", {class: "beside"}, again(it), citation(it)));
+  drawOrders(it);
   drawLevels(it, on);
   document.title = `${it.name}: ${it.optimum} nodes`;
   return title;

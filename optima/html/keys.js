@@ -10,24 +10,27 @@ addEventListener("keydown", (event) => {
 
 const linksOf = (name) => [...field(`${name}-table`).tBodies[0].querySelectorAll("a")];
 
+/** Has the keyboard stop at one of several elements alone. */
+const stopIn = (elements, stop) => elements.forEach((it) => { it.tabIndex = it === stop ? 0 : -1; });
+
 /** Has the keyboard stop at one link of a table alone: at the one where it was, or at the first. */
 function stopAt(name, wished = stops.get(name)) {
   const links = linksOf(name), stop = links.includes(wished) ? wished : links[0];
-  for (const link of links) link.tabIndex = link === stop ? 0 : -1;
+  stopIn(links, stop);
   stops.set(name, stop);
 }
 
-function walkRows(name, event) {
-  const links = linksOf(name), at = links.indexOf(event.target);
-  const places = {ArrowDown: at + 1, ArrowUp: at - 1, Home: 0, End: links.length - 1};
+/** Walks to another of several elements. */
+function walkIn(elements, event, [next, before]) {
+  const at = elements.indexOf(event.target), places = {[next]: at + 1, [before]: at - 1, Home: 0, End: elements.length - 1};
   if (at < 0 || !(event.key in places)) return;
   event.preventDefault();
-  (links[places[event.key]] || event.target).focus();
+  (elements[places[event.key]] || event.target).focus();
 }
 
 for (const name of ["league", "functions"]) {
   const body = field(`${name}-table`).tBodies[0];
-  body.addEventListener("keydown", (event) => walkRows(name, event));
+  body.addEventListener("keydown", (event) => walkIn(linksOf(name), event, ["ArrowDown", "ArrowUp"]));
   body.addEventListener("focusin", (event) => { if (event.target.matches("a")) stopAt(name, event.target); });
   tables[name].on("draw.dt", () => stopAt(name));
   stopAt(name);

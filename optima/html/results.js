@@ -52,9 +52,8 @@ function faultOfOrder(words, it) {
 /** Of a number of nodes without an order. */
 function faultOfClaim(nodes, it) {
   if (nodes < it.optimum) return `${nodes} nodes, and no order has fewer than ${it.optimum}: counted with complement edges?`;
-  if (nodes > it.optimum && it.family === "symmetric")
-    return `${nodes} nodes, and each order has ${it.optimum}: constants counted?`;
-  return "";
+  const most = mostOf(it), bound = most === it.optimum ? `each order has ${most}` : `no order has more than ${most}`;
+  return nodes > most ? `${nodes} nodes, and ${bound}: constants counted?` : "";
 }
 
 /** Of a cell of the column claimed that says otherwise than the line. */

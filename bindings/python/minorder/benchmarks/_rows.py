@@ -10,7 +10,8 @@ HERE = os.path.dirname(os.path.abspath(__file__))
 
 
 class Optimum(NamedTuple):
-    """A function's proved optimum: numbers of decision nodes, orders top first, SHA-256 of the file and its certificate."""
+    """A function's proved optimum: numbers of decision nodes, orders top first, SHA-256 of the file and its certificate; the most
+    nodes and the mean of all orders."""
     family: str
     name: str
     aliases: tuple[str, ...]
@@ -27,6 +28,7 @@ class Optimum(NamedTuple):
     certificate_sha256: str
     random_order_nodes: tuple[int, ...]
     most: int
+    mean: float
 
 
 class Line(NamedTuple):
@@ -70,7 +72,7 @@ def read_optima(path: str) -> dict[str, Optimum]:
         row["family"], row["name"], tuple(row["aliases"].split()), row["what"], int(row["inputs"]), int(row["outputs"]),
         int(row["file_order_nodes"]), int(row["sifted_nodes"]), int(row["optimum"]), _numbers(row["first_optimal_order"]),
         _numbers(row["sifted_order"]), _numbers(row["level_counts"]), row["pla_sha256"], row["certificate_sha256"],
-        _numbers(row["random_order_nodes"]), int(row["most"]),
+        _numbers(row["random_order_nodes"]), int(row["most"]), float(row["mean"]),
     ) for row in _rows(path)}
 
 
