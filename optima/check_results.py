@@ -234,7 +234,7 @@ class Results(Opened):
             "none": [f"{name},late,," for name in names],
             "several": [f"{name},{most[name] if k > 6 else nodes[name] if k % 3 else 'late'},{k},0.0{k}"
                         for name in small for k in range(1, 11)] + ["hwb13,400,1,", "hwb16,late,random,"],
-            "ties": ["life,52,,", "hwb8,44,,", "sn7442,40,file,", "sn7442,20,2,", "sn7442,late,1,"],
+            "ties": ["life,39,,", "hwb8,44,,", "sn74151,48,file,", "sn74151,32,2,", "sn74151,late,1,"],
         }
 
     def test_its_figures_are_those_of_the_score(self):
