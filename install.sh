@@ -84,6 +84,8 @@ documents() {
     put 755 share/minorder/optima "$top"/optima/{check_page,functions,make,permute}.py "$top/optima/league.sh"
     put 644 share/minorder/optima/html "$top"/optima/html/*
     put 755 $folder/examples "$top/examples/make_examples.py"
+    put 644 $folder/bindings/c "$top/bindings/c/README.md"
+    put 644 $folder/bindings/rust "$top/bindings/rust/README.md"
     install -d "$made/tree/$folder"/{scripts,bindings} "$made/tree/share/minorder/bindings"
     ln -s ../python "$made/tree/share/minorder/bindings/python"
     ln -s ../../minorder/optima "$made/tree/$folder/optima"
@@ -111,7 +113,7 @@ tree() {
     manual
     documents
     put 755 share/minorder "$top/scripts/check.py"
-    put 644 share/minorder/python "$top/bindings/python/pyproject.toml"
+    put 644 share/minorder/python "$top"/bindings/python/{README.md,pyproject.toml}
     put 644 share/minorder/python/backend "$top"/bindings/python/backend/*.py
     put 644 share/minorder/python/minorder "$top"/bindings/python/minorder/{*.py,py.typed}
     put 644 share/minorder/python/minorder/benchmarks "$top"/bindings/python/minorder/benchmarks/*.py "$top"/optima/{optima.csv,league.csv,sizes.csv.gz}

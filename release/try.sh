@@ -29,17 +29,17 @@ programs() {
     echo "$count examples: reports and certificates as they are to be"
 }
 
-# The C program that USING.md shows, with the shared library and with the archive.
+# The C program that the page on C shows, with the shared library and with the archive.
 c_example() {
     if ! has pkg-config || ! has "${CC:-cc}"; then return; fi
-    sed -n '/^```c$/,/^```$/{/^```$/q;/^```c/d;p}' "$tree/share/doc/minorder/docs/USING.md" > "$made/example.c"
+    sed -n '/^```c$/,/^```$/{/^```$/q;/^```c/d;p}' "$tree/share/doc/minorder/bindings/c/README.md" > "$made/example.c"
     local flags
     read -ra flags < <(PKG_CONFIG_PATH=$libraries/pkgconfig pkg-config --cflags --libs minorder)
     "${CC:-cc}" "$made/example.c" "${flags[@]}" -o "$made/example"
     [ "$(LD_LIBRARY_PATH=$libraries "$made/example")" = "0 3 1 4 2 5 6" ] || fail "the C example prints something else"
     "${CC:-cc}" "$made/example.c" -I "$tree/include" "$libraries/libminorder.a" -o "$made/example"
     [ "$("$made/example")" = "0 3 1 4 2 5 6" ] || fail "the C example prints something else with the archive"
-    echo "the C example by pkg-config and with the archive: as USING.md says"
+    echo "the C example by pkg-config and with the archive: as the page says"
 }
 
 python() {
@@ -153,14 +153,14 @@ for file in sys.argv[1:]:
     echo "the wheel in an empty environment: answers, commands and certificates as they are to be"
 }
 
-# The Rust program that USING.md shows, with the packed crate: by cargo with both libraries, and alone with the rpath that README.md shows.
+# The Rust program that the packed crate's README.md shows first: by cargo with both libraries, and alone with the rpath of that page.
 crate() {
     [ -e "$top/out/minorder-$version.crate" ] || { echo "left out: the crate, which the release hasn't"; return 0; }
     has cargo || return 0
     local kind answer="3 7 2 6 1 5 0 4: 29 nodes"
     tar -xzf "$top/out/minorder-$version.crate"
     install -d "$made/adder/src"
-    sed -n '/^```rust$/,/^```$/{/^```/d;p}' "$tree/share/doc/minorder/docs/USING.md" > "$made/adder/src/main.rs"
+    sed -n '/^```rust$/,/^```$/{/^```$/q;/^```/d;p}' "minorder-$version/README.md" > "$made/adder/src/main.rs"
     on_cargo() { (cd "$made/adder" && env -u LD_LIBRARY_PATH MINORDER_LIB_DIR="$libraries" cargo "$1" --offline --quiet); }
     for kind in '"static"' ""; do
         printf '%s\n' '[package]' 'name = "adder"' 'version = "0.1.0"' 'edition = "2021"' '[dependencies]' \
@@ -170,7 +170,7 @@ crate() {
     { echo 'fn main() {'; sed -n '/^```rust,no_run$/,/^```$/{/^```/d;p}' "minorder-$version/README.md"; echo '}'; } > "$made/adder/build.rs"
     on_cargo build
     [ "$(env -u LD_LIBRARY_PATH "$made/adder/target/debug/adder")" = "$answer" ] || fail "the Rust example prints something else by its rpath"
-    echo "the Rust example with the packed crate: as USING.md says"
+    echo "the Rust example with the packed crate: as its page says"
 }
 
 # try_tree TREE FOLDER FOLDER: a tree, its folder of libraries and that of Python's modules

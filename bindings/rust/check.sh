@@ -1,6 +1,6 @@
 #!/usr/bin/env bash
 # check.sh PREFIX     tries the crate with both libraries of an installation: its tests, its documentation, clippy's and rustfmt's
-#                     judgement, where build.rs looks, libraries of other versions, and the example, which is the one of docs/USING.md
+#                     judgement, where build.rs looks, libraries of other versions, and the example, which is the first of README.md
 set -euo pipefail
 unset CDPATH
 [ $# = 1 ] || { echo "usage: bindings/rust/check.sh PREFIX" >&2; exit 1; }
@@ -37,7 +37,7 @@ judgement() {
 
 # The example with the library that pkg-config finds.
 example() {
-    sed -n '/^```rust$/,/^```$/{/^```/d;p}' ../../docs/USING.md | diff - examples/adder.rs || fail "docs/USING.md shows another program than examples/adder.rs"
+    sed -n '/^```rust$/,/^```$/{/^```$/q;/^```/d;p}' README.md | diff - examples/adder.rs || fail "README.md shows another program than examples/adder.rs"
     local kind where=MINORDER_LIB_DIR=$prefix/lib
     ! has pkg-config || where=PKG_CONFIG_PATH=$prefix/lib/pkgconfig
     for kind in static ""; do
@@ -46,7 +46,7 @@ example() {
     done
     ! MINORDER_LIB_DIR=$made cargo build 2> "$made/said" || fail "a folder without the library is taken"
     grep -qx " *minorder: MINORDER_LIB_DIR: $made has no libminorder.so.1" "$made/said" || fail "another message: $(< "$made/said")"
-    echo "the example in Rust: as USING.md says"
+    echo "the example in Rust: as README.md says"
 }
 
 # The example with libraries that say another version.

@@ -141,7 +141,7 @@ class Values(unittest.TestCase):
             self.assertTrue(str(raised.exception).startswith(text), raised.exception)
 
     def test_a_fold_loads_it_into_a_package(self):
-        with open(f"{TOP}/docs/USING.md", encoding="utf-8") as file:
+        with open(f"{TOP}/bindings/python/README.md", encoding="utf-8") as file:
             line = next(line for line in file if "fold(" in line and "bdd.ite" in line)
         for name in ("mux2", "bcd7seg", "adder4"):
             file = minorder.read_pla(f"{TOP}/examples/{name}.pla")

@@ -16,7 +16,7 @@ import minorder  # noqa: E402
 from minorder import _all_orders, _calls, _diagrams, _many, _sizes, _tables, _truth_tables, batch, files  # noqa: E402
 
 MODULES = minorder, _all_orders, _calls, _diagrams, _many, _sizes, _tables, _truth_tables, batch, files
-SECTIONS = "The diagram itself", "How many nodes all orders have", "From Python", "Many functions at once"
+SECTIONS = "Functions and answers", "Diagrams", "How many nodes all orders have", "Many functions at once"
 
 
 class Examples(unittest.TestCase):
@@ -38,7 +38,7 @@ class Examples(unittest.TestCase):
             self.assertEqual(doctest.DocTestRunner().run(test).failed, 0, test.name)
 
     def test_the_page(self):
-        with open(f"{TOP}/docs/USING.md", encoding="utf-8") as file:
+        with open(f"{PACKAGE}/README.md", encoding="utf-8") as file:
             page = file.read()
         for title in SECTIONS:
             section = page.partition(f"\n## {title}\n")[2].partition("\n## ")[0]
