@@ -2,13 +2,15 @@
 """compare.py [--peers FOLDER] [--runs K] [--limit SECONDS] [--workers W] [NAME ..]
 
 Runs minorder (alone, and with a certificate), ordercheck on that certificate, the native baseline and CUDD's exact reordering
-in turns on the same files, and prints a table: the least wall time of K runs, processor time and peak memory of each, ratios,
-and the sizes that were found. The baseline runs twice, over all sets and with the optimum as its bound, which is the tightest
-one.
+in turns on the same files, and prints a table: the least wall and processor time of K runs of minorder and its peak memory, and
+the processor time of the others as multiples of minorder's. A run of more seconds of processor time than the limit is late. The
+baseline runs twice, over all sets and with the optimum as its bound, which is the tightest one. An answer that differs ends the
+comparison.
 FOLDER is what peers.sh made; without it both programs run alone. The names are those of files.py, all where none is given.
 """
 import argparse
 import os
+import resource
 import subprocess
 import sys
 import tempfile
@@ -35,42 +37,35 @@ class Ran:
     """The least times of some runs of a command, its peak memory, and what it printed."""
 
     def __init__(self):
-        self.wall, self.processor, self.of_the_shortest, self.peak, self.text = float("inf"), float("inf"), 0, 0, None
+        self.wall, self.processor, self.peak, self.text = float("inf"), float("inf"), 0, None
 
     def again(self, words, limit):
+        """Whether a run ends within so many seconds of processor time."""
         start = time.monotonic()
         with tempfile.TemporaryFile() as out:
-            process = subprocess.Popen(words, stdin=subprocess.DEVNULL, stdout=out, stderr=subprocess.DEVNULL)
+            process = subprocess.Popen(words, stdin=subprocess.DEVNULL, stdout=out, stderr=subprocess.DEVNULL,
+                                       preexec_fn=lambda: resource.setrlimit(resource.RLIMIT_CPU, (limit, limit)))
             while process.returncode is None:
                 pid, status, used = os.wait4(process.pid, os.WNOHANG)
                 if pid:
                     process.returncode = status
-                elif time.monotonic() - start > limit:
-                    process.kill()
-                    os.wait4(process.pid, 0)
-                    process.returncode = 1
-                    return False
                 else:
                     self.peak = max(self.peak, peak_of(process.pid))
                     time.sleep(0.001)
+            if status:
+                return False
             out.seek(0)
             self.text = out.read().decode()
-        wall, processor = time.monotonic() - start, used.ru_utime + used.ru_stime
-        if wall < self.wall:
-            self.wall, self.of_the_shortest = wall, processor
-        self.processor = min(self.processor, processor)
-        return status == 0
+        self.wall = min(self.wall, time.monotonic() - start)
+        self.processor = min(self.processor, used.ru_utime + used.ru_stime)
+        return True
 
     def line(self, name):
         return parts_of(self.text or "").get(name, "-")
 
 
-def number(value, form):
-    return format(value, form) if value != float("inf") else "-"
-
-
 def ratio(one, other):
-    return f"{one.wall / other.wall:.2f}" if other.wall not in (0, float("inf")) and one.wall != float("inf") else "-"
+    return f"{one.processor / other.processor:.2f}" if one.processor != float("inf") else "-"
 
 
 def commands_of(given, pla, cert):
@@ -112,32 +107,16 @@ def judge(name, ran):
         sys.exit(f"{name}: ordercheck says {ran['check'].text}")
 
 
-def times(ran):
-    """Wall and processor time."""
-    return [number(ran.wall, ".3f"), number(ran.processor, ".2f")]
-
-
-def mean_threads(ran):
-    """How many threads worked, on the mean, in the run that was the shortest."""
-    return f"{ran.of_the_shortest / ran.wall:.1f}"
-
-
-def wall_and_peak(ran):
-    return [number(ran.wall, ".3f"), f"{ran.peak:.0f}"]
-
-
 def compare(name, given, room):
     pla, cert = f"{room}/{name}.pla", f"{room}/{name}.cert"
     with open(pla, "w") as file:
         file.write(files.FILES[name]())
     ran, late = run_in_turns(given, pla, cert)
     judge(name, ran)
-    found, check, cudd = ran["minorder"], ran["check"], ran["CUDD"]
-    exact = f"over {given.limit}" if "CUDD" in late else number(cudd.wall, ".3f")
-    cells = [name, *times(found), mean_threads(found), f"{found.peak:.0f}"]
-    cells += [*wall_and_peak(ran["certificate"]), *wall_and_peak(check)]
-    cells += [ratio(check, found), *times(ran["native"]), *times(ran["bounded"])]
-    cells += [exact, found.line("nodes"), cudd.line("nodes with complement edges")]
+    found = ran["minorder"]
+    cells = [name, f"{found.wall:.3f}", f"{found.processor:.2f}", f"{found.peak:.0f}"]
+    others = "certificate", "check", "native", "bounded", "CUDD"
+    cells += ["late" if tool in late else ratio(ran[tool], found) for tool in others]
     print("| " + " | ".join(cells) + " |", flush=True)
 
 
@@ -147,17 +126,12 @@ def main():
     given.add_argument("--ordercheck", default=f"{TOP}/crates/ordercheck/out/ordercheck")
     given.add_argument("--peers")
     given.add_argument("--runs", type=int, default=3)
-    given.add_argument("--limit", type=float, default=30)
+    given.add_argument("--limit", type=int, default=30)
     given.add_argument("--workers", type=int, default=4)
     given.add_argument("names", nargs="*")
     given = given.parse_args()
     tools.need(given.minorder, given.ordercheck)
-    heads = [
-        "File", "minorder, s", "processor, s", "threads", "MB", "with --cert, s", "MB", "ordercheck, s", "MB",
-        "ordercheck / minorder",
-        "native, s", "processor, s", "native with the bound, s", "processor, s", "CUDD exact, s", "nodes",
-        "CUDD's, with complement edges",
-    ]
+    heads = ["File", "minorder, s", "processor, s", "MB", "--cert", "ordercheck", "native", "native, bound", "CUDD exact"]
     print("| " + " | ".join(heads) + " |\n|" + "---|" * len(heads))
     with tempfile.TemporaryDirectory() as room:
         for name in given.names or files.FILES:
