@@ -30,7 +30,7 @@ trap 'rm -rf "$made"' EXIT
 proof() {
     echo "version: $version"
     echo "commit: $commit${changes:+ with changes that are not committed}"
-    sed -n 's/.*Proved with `\(.*\)`.*/proved with: \1/p' "$top/README.md"
+    sed -n 's/.*\(Rattle kit of logic\) `\([0-9a-f]*\)`.*/proved with: \1 \2/p' "$top/README.md"
 }
 
 archive() {
