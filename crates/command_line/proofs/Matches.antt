@@ -1,5 +1,5 @@
 -- The matches of either command line are those of a simple command, and their errors have that command's kinds.
-use Rattle.std.proofs.Common.{◌≡◌, ◌≢◌, ◌⊎◌, inl, inr, List, [], ◌∷◌, true, codes, refl, sym, subst, ap, ◌∙◌, Result, Ok, Err, IfErr, IsErrAnd}
+use Rattle.std.proofs.Common.{◌≡◌, ◌≢◌, ◌⊎◌, ◌↔◌, inl, inr, List, [], ◌∷◌, Option, true, codes, refl, sym, subst, ap, ◌∙◌, Result, Ok, Err, IfErr, IsErrAnd}
 use Rattle.clap.specs.Words.{App, HasKind, HasMatchesOf, IsAmong, Kinds, Text, fault_of, first_of, first_value, found_of, is_simple, is_simple_and_free, kind_of, matches_of, one_of, one_text}
 use Rattle.clap.specs.declared.error.Error.{Error}
 use Rattle.clap.specs.declared.error.kind.ErrorKind.{ErrorKind}
@@ -9,9 +9,10 @@ use Rattle.clap.proofs.OnLiterals.{clap_on_literals}
 use Rattle.clap.proofs.WalkLemmas.{first_value-rows, one_text-rows}
 use Rattle.command_line.specs.declared.ordercheck_line.CheckLine.{CheckLine}
 use Rattle.command_line.specs.declared.line.Line.{Line}
+use Rattle.command_line.specs.declared.line.Output.{Output}
 use Rattle.command_line.specs.declared.usage.Usage.{Usage}
 use Rattle.command_line.specs.declared.usage.Usage.TheVariants.{Information, Refused, OutOfMemory}
-use Rattle.command_line.specs.Lines.{IsCheckLineBy, IsCheckLineOf, IsFlag, IsLineBy, IsLineOf, IsNumber, faults_of, minorder, ordercheck, read_of, value_of}
+use Rattle.command_line.specs.Lines.{AreAtOdds, IsCheckLineBy, IsCheckLineOf, IsGiven, IsLineBy, IsLineOf, IsNumber, IsOutputBy, LacksValues, faults_of, minorder, ordercheck, read_of, value_of}
 use Rattle.command_line.specs.Usages.{Explains, IsNoInformation, usage_kind, usage_of_kind}
 
 pub minorder_is_simple : is_simple minorder ≡ true
@@ -49,8 +50,45 @@ pub taken_faultless : (built app : App) (words : List Text) → built ≡ app �
 unfolding faults_of
 taken_faultless built app words is free none = subst (λ a. fault_of a words ≡ []) is (none (ap is_simple_and_free is ∙ free))
 
--- what the matches of words that clap takes hold is the line of the words
+-- what values ask for is asked for by others that are the same
+module _ (value value' read read' : Text → Option Text) (v : (id : Text) → value id ≡ value' id) (r : (id : Text) → read id ≡ read' id) where
+  given_moved : (id : Text) → IsGiven (read id) ↔ IsGiven (read' id)
+  given_moved id = (subst IsGiven (r id), subst IsGiven (sym (r id)))
+
+  pub output_moved : (output : Output) → IsOutputBy value read output → IsOutputBy value' read' output
+  output_moved output is = record {
+    count = (λ e. (given_moved (codes "count")).0 (is.count.0 e), λ g. is.count.1 ((given_moved (codes "count")).1 g));
+    orders = (λ e. (given_moved (codes "orders")).0 (is.orders.0 e), λ g. is.orders.1 ((given_moved (codes "orders")).1 g));
+    sizes = (λ e. (given_moved (codes "sizes")).0 (is.sizes.0 e), λ g. is.sizes.1 ((given_moved (codes "sizes")).1 g));
+    certifies = λ some. is.certifies (λ none. some (sym (v (codes "cert")) ∙ none));
+  }
+
+  either : (id other : Text) → IsGiven (read id) × IsGiven (read other) → IsGiven (read' id) × IsGiven (read' other)
+  either id other (g, h) = ((given_moved id).0 g, (given_moved other).0 h)
+
+  pub odds_moved : AreAtOdds value read → AreAtOdds value' read'
+  odds_moved (inl both) = inl (either (codes "count") (codes "orders") both)
+  odds_moved (inr (inl both)) = inr (inl (either (codes "count") (codes "sizes") both))
+  odds_moved (inr (inr (inl both))) = inr (inr (inl (either (codes "orders") (codes "sizes") both)))
+  odds_moved (inr (inr (inr (some, inl g)))) =
+      inr (inr (inr ((λ none. some (v (codes "cert") ∙ none)), inl ((given_moved (codes "orders")).0 g))))
+  odds_moved (inr (inr (inr (some, inr g)))) =
+      inr (inr (inr ((λ none. some (v (codes "cert") ∙ none)), inr ((given_moved (codes "sizes")).0 g))))
+
+-- what the matches of words that clap takes hold is the line of the words, or they have none
 module _ (built : App) (words : List Text) (m : ArgMatches) (h : HasMatchesOf built words m) where
+  pub odds_matched : built ≡ minorder → AreAtOdds (first_value (found_of m)) (one_text (found_of m)) →
+      AreAtOdds (value_of minorder words) (read_of minorder words)
+  odds_matched is odds = odds_moved (first_value (found_of m)) (value_of minorder words) (one_text (found_of m)) (read_of minorder words)
+      (λ id. sym (value_matched built minorder is minorder_is_simple words m h id))
+      (λ id. sym (read_matched built minorder is minorder_is_simple words m h id)) odds
+
+  pub lacking_matched : built ≡ minorder → LacksValues (first_value (found_of m)) (one_text (found_of m)) →
+      LacksValues (value_of minorder words) (read_of minorder words)
+  lacking_matched is (inl none) = inl (value_matched built minorder is minorder_is_simple words m h (codes "FILE") ∙ none)
+  lacking_matched is (inr lacks) =
+      inr (λ n number. lacks n (subst (λ v. IsNumber v n) (read_matched built minorder is minorder_is_simple words m h (codes "workers")) number))
+
   pub line_taken : (line : Line) → built ≡ minorder → (is_simple_and_free built ≡ true → fault_of built words ≡ []) →
       IsLineBy (first_value (found_of m)) (one_text (found_of m)) line → IsLineOf words line
   line_taken line is none by =
@@ -62,7 +100,8 @@ module _ (built : App) (words : List Text) (m : ArgMatches) (h : HasMatchesOf bu
           file = value (codes "FILE") ∙ by.file;
           cert = value (codes "cert") ∙ by.cert;
           above = value (codes "above") ∙ by.above;
-          count = subst (λ v. IsFlag v line.plan.count) (sym (read (codes "count"))) by.count;
+          output = output_moved (first_value (found_of m)) (value_of minorder words) (one_text (found_of m)) (read_of minorder words)
+              (λ id. sym (value id)) (λ id. sym (read id)) line.plan.output by.output;
           workers = subst (λ v. IsNumber v line.plan.workers) (sym (read (codes "workers"))) by.workers;
           some_workers = by.some_workers;
           most_workers = by.most_workers;

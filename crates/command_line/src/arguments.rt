@@ -19,13 +19,12 @@ pub(crate) fn required_path<'a>(alloc: Global, name: &'a str, help: &'a str) -> 
     Arg::new(alloc, name).required(true).help(help)
 }
 
-/// The fault of a command line of `command` that lacks a required argument: `Refused` with the
-/// message `what`, or `OutOfMemory` if memory is refused for the message. No run has this fault,
-/// because clap refuses such a command line first.
-pub(crate) fn missing_argument<'a>(mut command: Command<'a>, what: &str) -> Usage
+/// The fault of words of `command`'s program that clap takes and the program doesn't: `Refused` with
+/// the message `what`, or `OutOfMemory` if memory is refused for the message.
+pub(crate) fn refused_words<'a>(mut command: Command<'a>, kind: ErrorKind, what: &str) -> Usage
     ensures { IsNoInformation result }
 {
-    match command.error(ErrorKind::MissingRequiredArgument, what) {
+    match command.error(kind, what) {
         Ok(error) => Usage::Refused(error),
         Err(_) => Usage::OutOfMemory,
     }

@@ -6,6 +6,6 @@ mod line;
 mod ordercheck_line;
 mod usage;
 
-pub use line::{Line, RunPlan};
+pub use line::{Line, Output, RunPlan};
 pub use ordercheck_line::CheckLine;
 pub use usage::Usage;

@@ -5,8 +5,9 @@ ghost use Rattle.clap.specs.Words.{app_of, first_value, found_of};
 ghost use Rattle.command_line.specs.Lines.{IsCheckLineBy, IsCheckLineOf, LacksFiles, LacksPaths, ordercheck, texts};
 ghost use Rattle.command_line.specs.Usages.{Explains};
 
-use crate::arguments::{missing_argument, required_path};
+use crate::arguments::{refused_words, required_path};
 use crate::usage::Usage;
+use clap::error::ErrorKind;
 use clap::{ArgMatches, Command};
 use std::alloc::{AllocError, Global};
 
@@ -63,7 +64,11 @@ impl<'a> CheckLine<'a> {
         let matches = command.try_get_matches_from_mut(words)?;
         match line_of(&matches) {
             Some(line) => Ok(line),
-            None => Err(missing_argument(command, "no file, or no certificate")),
+            None => Err(refused_words(
+                command,
+                ErrorKind::MissingRequiredArgument,
+                "no file, or no certificate",
+            )),
         }
     }
 }

@@ -11,3 +11,4 @@ pub mod PartialCounts
 pub mod SetCounts
 pub mod LayerCounts
 pub mod AllSizes
+pub mod Fewer

@@ -10,16 +10,19 @@
 --     AreCountsInLayer given size counts      such counts, at the mask of each set
 --     AreTrimmed least orders      the first and the last entry aren't 0
 --     AreSizesOfOrders n F P most fewest orders      how many of all orders have each size up to `most`
+--     orders_below n F P s      how many of all orders have fewer than s nodes
 --     CanTakeOrders given smaller set counts      counts to which the orders of a set can be added
 --     CoversAll given counts set k span      a span has the costs of the orders with a member below k on top
-use Rattle.std.specs.Prelude.{◌≡◌, ℕ, ◌+◌, ◌-◌, ◌^◌, ◌<◌, ◌≤◌, List, [], length, get_or, slice_index, slice_index_or, count_ones, IsTrue}
+use Rattle.std.specs.Prelude.{◌≡◌, ℕ, ◌+◌, ◌-◌, ◌^◌, ◌<◌, ◌≤◌, List, [], length, get_or, nat_lt, slice_index, slice_index_or, count_ones, IsTrue}
+use Rattle.std.specs.List.{count_by}
 use Rattle.std.specs.Int.{bit_at}
 use Rattle.definitions.specs.Functions.{Function}
 use Rattle.definitions.specs.Orders.{members}
 use Rattle.definitions.specs.Widths.{width}
 use Rattle.definitions.specs.Pairs.{Pair, is_lawful}
 use Rattle.definitions.specs.Problems.{functions}
-use Rattle.definitions.specs.AllOrders.{AreAllWidths, orders_of_size, ways}
+use Rattle.definitions.specs.Levels.{size_under}
+use Rattle.definitions.specs.AllOrders.{AreAllWidths, all_orders, orders_of_size, ways}
 use Rattle.order_counts.specs.declared.set_counts.Recurrence.{Recurrence}
 use Rattle.order_counts.specs.declared.cost_counts.CostCounts.{CostCounts}
 use Rattle.order_counts.specs.declared.cost_counts.Span.{Span}
@@ -106,3 +109,7 @@ pub record AreSizesOfOrders (n : ℕ) (F : List Function) (P : List Pair) (most 
   pub exact : (size : ℕ) → size ≤ most → entries_at fewest orders size ≡ orders_of_size n F P size
   pub within : fewest + length orders ≤ most + 1
   pub trimmed : AreTrimmed fewest orders
+
+-- how many of all orders that keep the pairs have fewer than s nodes
+unfoldable pub orders_below : ℕ → List Function → List Pair → ℕ → ℕ
+orders_below n F P s = count_by (λ order. nat_lt (size_under n F order) s) (all_orders n P)

@@ -20,9 +20,11 @@ mod set_counts;
 // The counts of the sets of a layer.
 mod layer_counts;
 
-// How many of all orders have each size.
+// How many of all orders have each size, and how many have fewer nodes than a given one.
+mod below;
 mod sizes;
 
+pub use below::orders_below;
 pub use cost_counts::CostCounts;
 pub use figures::{Figures, figures_of_orders};
 pub use sizes::sizes_of_orders;

@@ -4,7 +4,7 @@
 --     UsageEnds program usage status before after      how it ends at words that give no plan
 use Rattle.std.specs.Prelude.{◌≡◌, ◌≢◌, ℕ, ◌≤◌, List, Option, IsTrue}
 use Rattle.definitions.specs.Orders.{has}
-use Rattle.command_line.specs.Lines.{LacksArguments, LacksPaths, minorder, ordercheck}
+use Rattle.command_line.specs.Lines.{HasNoLine, LacksPaths, minorder, ordercheck}
 use Rattle.command_line.specs.Usages.{AreFaulty, TurnsAway}
 use Rattle.command_line.specs.declared.usage.Usage.{Usage}
 use Rattle.outcomes.specs.declared.fault_lines.Program.{Program}
@@ -29,7 +29,7 @@ exits_of Ordercheck = check_exits
 
 -- clap finds a fault in the words of a program, or they lack what it needs
 abbrev pub AreFaultyFor : Program → List (List ℕ) → Type 0
-AreFaultyFor Minorder words = AreFaulty minorder LacksArguments words
+AreFaultyFor Minorder words = AreFaulty minorder HasNoLine words
 AreFaultyFor Ordercheck words = AreFaulty ordercheck LacksPaths words
 
 -- how a program ends at words that ask for nothing that it does

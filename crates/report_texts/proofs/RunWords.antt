@@ -1,6 +1,6 @@
 -- Words that ask for a run, and the faults that may end it.
 use Rattle.std.proofs.Common.{◌≡◌, ◌⊎◌, inl, inr, ℕ, List, Option}
-use Rattle.command_line.specs.Lines.{IsLineOf, LacksArguments, minorder}
+use Rattle.command_line.specs.Lines.{IsLineOf, HasNoLine, minorder}
 use Rattle.command_line.specs.declared.line.Line.{Line as CommandLine}
 use Rattle.command_line.specs.Usages.{AreFaulty}
 use Rattle.command_line.specs.declared.line.RunPlan.{RunPlan}
@@ -12,7 +12,7 @@ use Rattle.outcomes.specs.declared.outcome.Outcome.TheVariants.{Done, Invalid, R
 use Rattle.report_texts.specs.Runs.{DeliversReport, IsHindered, MayEndRun}
 
 -- words that have a line are not faulty
-pub not_faulty : (words : List (List ℕ)) (line : CommandLine) → IsLineOf words line → AreFaulty minorder LacksArguments words → ⊥
+pub not_faulty : (words : List (List ℕ)) (line : CommandLine) → IsLineOf words line → AreFaulty minorder HasNoLine words → ⊥
 not_faulty words line is (inl faults) = faults is.taken
 not_faulty words line is (inr (inl none)) = let some = is.values.file in absurd (cc)
 not_faulty words line is (inr (inr lacks)) = lacks line.plan.workers is.values.workers is.values.some_workers is.values.most_workers

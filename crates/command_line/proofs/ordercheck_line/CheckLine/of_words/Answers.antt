@@ -16,7 +16,7 @@ returns-clause-refused c =
     c.in_ok-matches.matches c.in_ok-matches.ensures.ok.2 (codes "FILE") in
     let cert = value_matched (app_of c.in_ok-command.command) ordercheck c.in_ok-command.ensures ordercheck_is_simple words
     c.in_ok-matches.matches c.in_ok-matches.ensures.ok.2 (codes "CERT") in
-    lacking_explained ordercheck LacksPaths words c.missing_argument.result c.missing_argument.ensures
+    lacking_explained ordercheck LacksPaths words c.refused_words.result c.refused_words.ensures
     (subst (λ v. LacksFiles v (value_of ordercheck words (codes "CERT"))) (sym file)
     (subst (LacksFiles _) (sym cert) (c.in-None.ensures.lacks refl)))
 
