@@ -8,7 +8,7 @@
 -- Neither line speaks of the number of workers or of a schedule: both hold for each.
 -- What is printed is the same for each (the law `texts_are_determined`).
 -- With pairs, "any order" and "first" range over the orders that keep them.
-use Rattle.std.specs.Prelude.{◌≡◌, ◌≢◌, ℕ, ◌≤◌, false, List, ◌++◌, length, sum, Option, Ok}
+use Rattle.std.specs.Prelude.{◌≡◌, ◌≢◌, ℕ, ◌≤◌, List, ◌++◌, length, sum, Option, Ok}
 use Rattle.std.specs.Io.KnownBytes.{Appends}
 use Rattle.std.specs.Borrow.{Bor}
 use Rattle.std.specs.Ordering.{nat_cmp}
@@ -23,6 +23,7 @@ use Rattle.definitions.specs.Certificates.{Certificate}
 use Rattle.certificate.specs.Faults.{Spells}
 use Rattle.pla_reader.specs.Covers.{NamedCover, functions_of}
 use Rattle.pla_reader.specs.Reading.{Reads}
+use Rattle.command_line.specs.declared.line.Output.TheVariants.{Report}
 use Rattle.command_line.specs.declared.line.RunPlan.{RunPlan}
 use Rattle.outcomes.specs.declared.outcome.Outcome.{Outcome}
 use Rattle.outcomes.specs.declared.outcome.Outcome.TheVariants.{Done}
@@ -65,9 +66,9 @@ pub record IsTrueCertificate (file certificate : List ℕ) : Type 0 where
   pub the_certificate : Spells certificate cert
   pub none_has_fewer : IsOptimum cover.inputs (functions_of cover) cert.pairs cert.order cert.total
 
--- what a run without count writes that ends with status 0
+-- what a run that reports writes that ends with status 0
 abbrev pub PrintsOptimum : RunPlan → List ℕ → Option (List ℕ) → Option (List ℕ) → Outcome → Type 0
-PrintsOptimum plan file before after Done = plan.count ≡ false →
+PrintsOptimum plan file before after Done = plan.output ≡ Report →
     (text : List ℕ) × Appends before after text × IsPrintedOptimum file plan.above text
 PrintsOptimum plan file before after _ = Unit {0}
 

@@ -7,3 +7,5 @@ pub mod Optima
 pub mod WriterPaths
 pub mod OneAnswer
 pub mod SentTexts
+pub mod OrderLines
+pub mod OrderAnswers

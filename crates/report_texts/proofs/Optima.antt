@@ -1,7 +1,7 @@
 -- What a printed order says of all diagrams.
 --     optimum_of      an order of the fewest nodes is an optimum
 --     printed      what the text of an answer says
-use Rattle.std.proofs.Common.{◌≡◌, ℕ, Bool, true, false, List, Option, refl, arith}
+use Rattle.std.proofs.Common.{◌≡◌, ℕ, List, Option, refl, arith}
 use Rattle.std.specs.Borrow.{Bor}
 use Rattle.definitions.specs.Functions.{Function}
 use Rattle.definitions.specs.Pairs.{Pair}
@@ -13,6 +13,8 @@ use Rattle.definitions.proofs.Nodes.Construction.{exact_diagram}
 use Rattle.definitions.proofs.Nodes.LevelBound.{size_bound}
 use Rattle.pla_reader.specs.Covers.{NamedCover, functions_of}
 use Rattle.pla_reader.specs.Reading.{Reads}
+use Rattle.command_line.specs.declared.line.Output.{Output}
+use Rattle.command_line.specs.declared.line.Output.TheVariants.{Report, Count, Orders, Sizes}
 use Rattle.report_texts.specs.Answers.{IsText}
 use Rattle.outcomes.specs.Headline.{IsOptimum, IsPrintedOptimum}
 use Rattle.report_texts.specs.Texts.{levels_under, nodes_under, sizes_lines}
@@ -42,11 +44,13 @@ fewest_from n F P order nodes o =
       );
     }
 
-pub printed : (file : List ℕ) (cover : NamedCover) (count : Bool) (above : Option (Bor (List ℕ))) (text : List ℕ) → count ≡ false →
-    Reads file cover → IsText count above cover text → IsPrintedOptimum file above text
+pub printed : (file : List ℕ) (cover : NamedCover) (output : Output) (above : Option (Bor (List ℕ))) (text : List ℕ) → output ≡ Report →
+    Reads file cover → IsText output above cover text → IsPrintedOptimum file above text
 unfolding size_under
-printed file cover true above text e reads is = absurd (cc)
-printed file cover false above text e reads (kept, pairs, answer) = record {
+printed file cover Count above text e reads is = absurd (cc)
+printed file cover Orders above text e reads is = absurd (cc)
+printed file cover Sizes above text e reads is = absurd (cc)
+printed file cover Report above text e reads (kept, pairs, answer) = record {
   cover = cover;
   the_files_cover = reads;
   kept = kept;

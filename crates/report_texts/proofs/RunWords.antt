@@ -1,6 +1,8 @@
 -- Words that ask for a run, and the faults that may end it.
 use Rattle.std.proofs.Common.{◌≡◌, ◌⊎◌, inl, inr, ℕ, List, Option}
-use Rattle.command_line.specs.Lines.{IsLineOf, HasNoLine, minorder}
+use Rattle.command_line.specs.Lines.{AreAtOdds, HasNoLine, IsLineOf, IsOutputBy, minorder, read_of, value_of}
+use Rattle.command_line.specs.declared.line.Output.{Output}
+use Rattle.command_line.specs.declared.line.Output.TheVariants.{Report, Count, Orders, Sizes}
 use Rattle.command_line.specs.declared.line.Line.{Line as CommandLine}
 use Rattle.command_line.specs.Usages.{AreFaulty}
 use Rattle.command_line.specs.declared.line.RunPlan.{RunPlan}
@@ -11,11 +13,26 @@ use Rattle.outcomes.specs.declared.outcome.Outcome.{Outcome}
 use Rattle.outcomes.specs.declared.outcome.Outcome.TheVariants.{Done, Invalid, Refused}
 use Rattle.report_texts.specs.Runs.{DeliversReport, IsHindered, MayEndRun}
 
+apart : (output : Output) → (output ≡ Report) ⊎ (output ≡ Count) → (output ≡ Orders) ⊎ (output ≡ Sizes) → ⊥
+apart output (inl a) (inl b) = absurd (cc)
+apart output (inl a) (inr b) = absurd (cc)
+apart output (inr a) (inl b) = absurd (cc)
+apart output (inr a) (inr b) = absurd (cc)
+
+-- one text is asked for, and a certificate beside a report or a count alone
+at_odds : (value read : List ℕ → Option (List ℕ)) (output : Output) → IsOutputBy value read output → AreAtOdds value read → ⊥
+at_odds value read output is (inl (a, b)) = let count = is.count.1 a in let orders = is.orders.1 b in absurd (cc)
+at_odds value read output is (inr (inl (a, b))) = let count = is.count.1 a in let sizes = is.sizes.1 b in absurd (cc)
+at_odds value read output is (inr (inr (inl (a, b)))) = let orders = is.orders.1 a in let sizes = is.sizes.1 b in absurd (cc)
+at_odds value read output is (inr (inr (inr (some, inl g)))) = let orders = is.orders.1 g in apart output (is.certifies some) (inl orders)
+at_odds value read output is (inr (inr (inr (some, inr g)))) = let sizes = is.sizes.1 g in apart output (is.certifies some) (inr sizes)
+
 -- words that have a line are not faulty
 pub not_faulty : (words : List (List ℕ)) (line : CommandLine) → IsLineOf words line → AreFaulty minorder HasNoLine words → ⊥
 not_faulty words line is (inl faults) = faults is.taken
-not_faulty words line is (inr (inl none)) = let some = is.values.file in absurd (cc)
-not_faulty words line is (inr (inr lacks)) = lacks line.plan.workers is.values.workers is.values.some_workers is.values.most_workers
+not_faulty words line is (inr (inl (inl none))) = let some = is.values.file in absurd (cc)
+not_faulty words line is (inr (inl (inr lacks))) = lacks line.plan.workers is.values.workers is.values.some_workers is.values.most_workers
+not_faulty words line is (inr (inr odds)) = at_odds (value_of minorder words) (read_of minorder words) line.plan.output is.values.output odds
 
 -- the fault that a run of the words is refused with is one that may end it
 pub ends : (words : List (List ℕ)) (line : CommandLine) (before after : Option (List ℕ)) (fault : Fault) → IsLineOf words line →

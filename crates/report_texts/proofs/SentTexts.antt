@@ -1,7 +1,7 @@
 -- What a run answers and writes, by what its writers were sent.
 --     delivers      they get the texts of the cover
 --     tells, hindered      what the outcome says
---     good, optimum      what they hold after a run without count
+--     good, optimum      what they hold after a run that reports
 use Rattle.std.proofs.Common.{◌≡◌, inl, inr, ℕ, ◌≤◌, Bool, List, length, take, Option, String, is_some, option_map}
 use Rattle.std.specs.Global.{Global}
 use Rattle.pla_reader.specs.Answering.{longest}
@@ -19,7 +19,7 @@ use Rattle.report_texts.proofs.Optima.{printed}
 
 pub delivers : {C : Type 0} (contents : C → Option (List ℕ)) (plan : RunPlan) (IsRead : NamedCover → Type 0) (cover : NamedCover)
     (report : List ℕ) (asked : Bool) (text : Option (String Global)) (out : Option (List ℕ)) (cert : Option C) (after : Held) (outcome : Outcome) →
-    IsRead cover → IsTextOf plan cover report → HasCertificate plan.count plan.above cover asked text → asked ≡ is_some cert →
+    IsRead cover → IsTextOf plan cover report → HasCertificate plan.output plan.above cover asked text → asked ≡ is_some cert →
     Sends report text (held out (option_map contents cert)) after outcome →
     Delivers plan IsRead (held out (option_map contents cert)) after outcome
 delivers contents plan IsRead cover report asked text out cert after Done read is has same (got, certified) = (
@@ -28,15 +28,15 @@ delivers contents plan IsRead cover report asked text out cert after Done read i
   read,
   is,
   got,
-  certified_part contents plan.count plan.above cover asked text whole cert after.cert has same certified,
+  certified_part contents plan.output plan.above cover asked text whole cert after.cert has same certified,
 )
 delivers contents plan IsRead cover report asked text out cert after (Refused Device) read is has same (inl (kept, n, begun)) =
-    inr (cover, read, inl (kept, n, certified_part contents plan.count plan.above cover asked text (take n) cert after.cert has same begun))
+    inr (cover, read, inl (kept, n, certified_part contents plan.output plan.above cover asked text (take n) cert after.cert has same begun))
 delivers contents plan IsRead cover report asked text out cert after (Refused Device) read is has same (inr (certified, n, begun)) =
     inr (
       cover,
       read,
-      inr (certified_part contents plan.count plan.above cover asked text whole cert after.cert has same certified, report, n, is, begun),
+      inr (certified_part contents plan.output plan.above cover asked text whole cert after.cert has same certified, report, n, is, begun),
     )
 delivers contents plan IsRead cover report asked text out cert after Invalid read is has same sent = absurd sent
 delivers contents plan IsRead cover report asked text out cert after (Refused (Line line fault)) read is has same sent = absurd sent
@@ -76,13 +76,13 @@ hindered plan IsRead report text before after (Refused CertificateTooLong) sent 
 pub good : (plan : RunPlan) (file : List ℕ) (before after : Held) (outcome : Outcome) → Delivers plan (Reads file) before after outcome →
     WritesGood plan file before.cert after.cert outcome
 good plan file before after Done (cover, text, reads, is, got, certified) =
-    λ e. (cover, reads, good_written plan.count plan.above cover before.cert after.cert e certified)
+    λ e. (cover, reads, good_written plan.output plan.above cover before.cert after.cert e certified)
 good plan file before after Invalid delivered = record {}
 good plan file before after (Refused fault) delivered = record {}
 
 pub optimum : (plan : RunPlan) (file : List ℕ) (before after : Held) (outcome : Outcome) → Delivers plan (Reads file) before after outcome →
     PrintsOptimum plan file before.out after.out outcome
 optimum plan file before after Done (cover, text, reads, is, got, certified) =
-    λ e. (text, got, printed file cover plan.count plan.above text e reads is)
+    λ e. (text, got, printed file cover plan.output plan.above text e reads is)
 optimum plan file before after Invalid delivered = record {}
 optimum plan file before after (Refused fault) delivered = record {}

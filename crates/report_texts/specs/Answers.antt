@@ -1,9 +1,10 @@
 -- The answer of a run, by the cover and the pairs that the order has to keep.
 --     IsAnswer cover P text, IsCertificate cover P text      the text of the answer, and that of its certificate
---     IsTextOf plan cover text, IsCertificateOf above cover text      what a run writes of a cover: its report, and its certificate
+--     IsOrdersAnswer cover P text      what --orders prints
+--     IsTextOf plan cover text, IsCertificateOf above cover text      what a run writes of a cover: its text, and its certificate
 --     AskTheSame plan other      they differ in the number of workers alone
 --     Hinders plan cover fault      why it writes nothing of it
-use Rattle.std.specs.Prelude.{◌≡◌, ℕ, Bool, true, false, List, Option, Some, None, Ok, Err, String, option_map, string_bytes}
+use Rattle.std.specs.Prelude.{◌≡◌, ◌≢◌, ℕ, Bool, true, false, List, Option, Some, None, Ok, Err, String, option_map, string_bytes}
 use Rattle.std.specs.Borrow.{Bor}
 use Rattle.std.specs.Global.{Global}
 use Rattle.definitions.specs.Pairs.{Pair, IsFirstOrder}
@@ -14,11 +15,14 @@ use Rattle.definitions.specs.Certificates.{Certificate, IsCertOf, certificate_of
 use Rattle.definitions.specs.Problems.{TruthTables, functions}
 use Rattle.certificate.specs.Faults.{Spells}
 use Rattle.pla_reader.specs.Covers.{NamedCover, functions_of}
+use Rattle.command_line.specs.declared.line.Output.{Output}
+use Rattle.command_line.specs.declared.line.Output.TheVariants.{Report, Count, Orders, Sizes}
 use Rattle.command_line.specs.declared.line.RunPlan.{RunPlan}
 use Rattle.outcomes.specs.Plans.{PairsAre}
 use Rattle.outcomes.specs.declared.outcome.Fault.{Fault}
 use Rattle.outcomes.specs.declared.outcome.Fault.TheVariants as fault
-use Rattle.report_texts.specs.Texts.{count_text, report_text}
+use Rattle.report_texts.specs.OrderTexts.{orders_text, sizes_text}
+use Rattle.report_texts.specs.Texts.{count_text, nodes_under, report_text}
 
 -- the report of the first order that keeps the pairs and has a diagram of the fewest nodes, beside the order sifted from the first one that keeps them
 pub record IsAnswer (cover : NamedCover) (P : List Pair) (text : List ℕ) : Type 0 where
@@ -46,14 +50,24 @@ IsCertifiedBy t P order false text = text ≡ None
 IsCertifiedBy t P order true None = ⊥
 IsCertifiedBy t P order true (Some text) = Spells (string_bytes text) (certificate_of t.inputs (functions t) P order)
 
-abbrev pub IsText : Bool → Option (Bor (List ℕ)) → NamedCover → List ℕ → Type 0
-IsText true above cover text = text ≡ count_text cover
-IsText false above cover text = (kept : KeptPairs) × PairsAre above cover.inputs (Ok kept)
-    × IsAnswer cover kept.pairs text
+-- the figures of all orders that keep the pairs, beside the order sifted from the first one
+pub record IsOrdersAnswer (cover : NamedCover) (P : List Pair) (text : List ℕ) : Type 0 where
+  pub start : List ℕ
+  pub starts : IsFirstOrder cover.inputs P start
+  pub is : text ≡ orders_text cover P (nodes_under cover (sifted cover.inputs (functions_of cover) P start))
 
--- what a run writes of a cover: with `count` the two lines for the file order, else the answer
+-- what a run prints of a cover
+abbrev pub IsText : Output → Option (Bor (List ℕ)) → NamedCover → List ℕ → Type 0
+IsText Report above cover text = (kept : KeptPairs) × PairsAre above cover.inputs (Ok kept)
+    × IsAnswer cover kept.pairs text
+IsText Count above cover text = text ≡ count_text cover
+IsText Orders above cover text = (kept : KeptPairs) × PairsAre above cover.inputs (Ok kept)
+    × IsOrdersAnswer cover kept.pairs text
+IsText Sizes above cover text = (kept : KeptPairs) × PairsAre above cover.inputs (Ok kept)
+    × (text ≡ sizes_text cover kept.pairs)
+
 abbrev pub IsTextOf : RunPlan → NamedCover → List ℕ → Type 0
-IsTextOf plan cover text = IsText plan.count plan.above cover text
+IsTextOf plan cover text = IsText plan.output plan.above cover text
 
 -- the bytes of a list of pairs, if there is one
 abbrev pub bytes_of : Option (Bor (List ℕ)) → Option (List ℕ)
@@ -61,7 +75,7 @@ bytes_of above = option_map (λ s. s.now) above
 
 -- two plans that differ in the number of workers alone
 pub record AskTheSame (plan other : RunPlan) : Type 0 where
-  pub count : plan.count ≡ other.count
+  pub output : plan.output ≡ other.output
   pub above : bytes_of plan.above ≡ bytes_of other.above
 
 -- the certificate for the pairs of a list
@@ -69,15 +83,15 @@ abbrev pub IsCertificateOf : Option (Bor (List ℕ)) → NamedCover → List ℕ
 IsCertificateOf above cover text = (kept : KeptPairs) × PairsAre above cover.inputs (Ok kept)
     × IsCertificate cover kept.pairs text
 
--- what is made of a cover for a certificate's writer: nothing by a count or if there is no writer
-abbrev pub HasCertificate : Bool → Option (Bor (List ℕ)) → NamedCover → Bool → Option (String Global) → Type 0
-HasCertificate true above cover asked text = text ≡ None
-HasCertificate false above cover false text = text ≡ None
-HasCertificate false above cover true None = ⊥
-HasCertificate false above cover true (Some text) = IsCertificateOf above cover (string_bytes text)
+-- what is made of a cover for a certificate's writer: nothing beside another text than the report, or if there is no writer
+abbrev pub HasCertificate : Output → Option (Bor (List ℕ)) → NamedCover → Bool → Option (String Global) → Type 0
+HasCertificate Report above cover false text = text ≡ None
+HasCertificate Report above cover true None = ⊥
+HasCertificate Report above cover true (Some text) = IsCertificateOf above cover (string_bytes text)
+HasCertificate _ above cover asked text = text ≡ None
 
 -- why a run that read a cover writes nothing of it; a count needs no pairs, and no store is ever full
 abbrev pub Hinders : RunPlan → NamedCover → Fault → Type 0
 Hinders plan cover fault.OutOfMemory = Unit {0}
-Hinders plan cover (fault.Pairs f) = (plan.count ≡ false) × PairsAre plan.above cover.inputs (Err f)
+Hinders plan cover (fault.Pairs f) = (plan.output ≢ Count) × PairsAre plan.above cover.inputs (Err f)
 Hinders plan cover _ = ⊥

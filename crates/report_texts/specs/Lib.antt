@@ -1,3 +1,4 @@
 pub mod Texts
+pub mod OrderTexts
 pub mod Answers
 pub mod Runs

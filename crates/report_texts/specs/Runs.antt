@@ -9,7 +9,7 @@
 --     MayEndRun words fault      the faults that standard error may name
 --     LeaveTheSame plan other      what is written of a file by two plans is the same
 --     RunEnds plan file before after outcome, MinorderEnds words status before after      how a run and minorder end
-use Rattle.std.specs.Prelude.{◌≡◌, ◌≢◌, ◌⊎◌, ℕ, ◌<◌, ◌≤◌, Bool, true, false, List, length, take, Option, Some, None, Err, IfSome, String, option_map, string_bytes}
+use Rattle.std.specs.Prelude.{◌≡◌, ◌≢◌, ◌⊎◌, ℕ, ◌<◌, ◌≤◌, List, length, take, Option, Some, None, Err, IfSome, String, option_map, string_bytes}
 use Rattle.std.specs.Borrow.{Bor}
 use Rattle.std.specs.Global.{Global}
 use Rattle.std.specs.Io.KnownBytes.{Appends}
@@ -19,6 +19,8 @@ use Rattle.certificate.specs.Faults.{Spells}
 use Rattle.pla_reader.specs.Covers.{NamedCover, IsCover, functions_of}
 use Rattle.pla_reader.specs.Answering.{longest}
 use Rattle.pla_reader.specs.Reading.{Reads, FirstFault}
+use Rattle.command_line.specs.declared.line.Output.{Output}
+use Rattle.command_line.specs.declared.line.Output.TheVariants.{Report, Count}
 use Rattle.command_line.specs.declared.line.RunPlan.{RunPlan}
 use Rattle.command_line.specs.declared.line.Line.{Line as CommandLine}
 use Rattle.command_line.specs.Lines.{IsLineOf, minorder}
@@ -56,11 +58,11 @@ GetsText (Some text) None after = after ≡ None
 GetsText (Some text) (Some before) None = ⊥
 GetsText (Some text) (Some before) (Some after) = Appends before after text
 
--- a count leaves the certificate's writer alone; else it gets the certificate
-abbrev pub Certifies : Bool → Option (Bor (List ℕ)) → NamedCover → (List ℕ → List ℕ) → Option (Option (List ℕ)) →
+-- the certificate's writer gets the certificate beside a report, and nothing beside other texts
+abbrev pub Certifies : Output → Option (Bor (List ℕ)) → NamedCover → (List ℕ → List ℕ) → Option (Option (List ℕ)) →
     Option (Option (List ℕ)) → Type 0
-Certifies true above cover part before after = after ≡ before
-Certifies false above cover part before after = Gets (IsCertificateOf above cover) part before after
+Certifies Report above cover part before after = Gets (IsCertificateOf above cover) part before after
+Certifies _ above cover part before after = after ≡ before
 
 abbrev pub whole : List ℕ → List ℕ
 whole text = text
@@ -98,8 +100,8 @@ Tells plan file (Refused fault) = (length file ≤ longest) × (cover : NamedCov
 -- what a failed write leaves: a beginning of the certificate and no byte of the report, or the whole certificate and a beginning of the report
 abbrev pub LeavesPart : RunPlan → NamedCover → Held → Held → Type 0
 LeavesPart plan cover before after =
-    ((after.out ≡ before.out) × (n : ℕ) × Certifies plan.count plan.above cover (take n) before.cert after.cert)
-    ⊎ (Certifies plan.count plan.above cover whole before.cert after.cert × (text : List ℕ) × (n : ℕ)
+    ((after.out ≡ before.out) × (n : ℕ) × Certifies plan.output plan.above cover (take n) before.cert after.cert)
+    ⊎ (Certifies plan.output plan.above cover whole before.cert after.cert × (text : List ℕ) × (n : ℕ)
     × IsTextOf plan cover text
     × Appends before.out after.out (take n text))
 
@@ -107,7 +109,7 @@ LeavesPart plan cover before after =
 abbrev pub Delivers : RunPlan → (NamedCover → Type 0) → Held → Held → Outcome → Type 0
 Delivers plan IsRead before after Done = (cover : NamedCover) × (text : List ℕ) × IsRead cover
     × IsTextOf plan cover text × Appends before.out after.out text
-    × Certifies plan.count plan.above cover whole before.cert after.cert
+    × Certifies plan.output plan.above cover whole before.cert after.cert
 Delivers plan IsRead before after (Refused Device) = (after ≡ before)
     ⊎ ((cover : NamedCover) × IsRead cover × LeavesPart plan cover before after)
 Delivers plan IsRead before after Invalid = ⊥
@@ -121,9 +123,9 @@ ReadsAsGood cover text =
     (cert : Certificate) × SpellsWithin text cert × IsGood cover.inputs (functions_of cover) cert
     × ((other : Certificate) → Spells text other → other ≡ cert)
 
--- if a run without count is done, what the certificate's writer got reads as a good certificate of the file's functions
+-- if a run that reports is done, what the certificate's writer got reads as a good certificate of the file's functions
 abbrev pub WritesGood : RunPlan → List ℕ → Option (Option (List ℕ)) → Option (Option (List ℕ)) → Outcome → Type 0
-WritesGood plan file before after Done = plan.count ≡ false →
+WritesGood plan file before after Done = plan.output ≡ Report →
     (cover : NamedCover) × Reads file cover × Gets (ReadsAsGood cover) whole before after
 WritesGood plan file before after (Refused fault) = Unit {0}
 WritesGood plan file before after Invalid = Unit {0}
@@ -167,7 +169,7 @@ IsRunOf words = (line : CommandLine) × IsLineOf words line
 -- the words ask for a run without count, with a list of pairs that is faulty for some cover
 abbrev pub IsFaultyRunOf : List (List ℕ) → Type 0
 IsFaultyRunOf words =
-    (line : CommandLine) × IsLineOf words line × (line.plan.count ≡ false) × (cover : NamedCover) × IsCover cover
+    (line : CommandLine) × IsLineOf words line × (line.plan.output ≢ Count) × (cover : NamedCover) × IsCover cover
     × (fault : PairsFault) × PairsAre line.plan.above cover.inputs (Err fault)
 
 -- the faults that may end a run of the words: of pairs those of their list for some cover, and none of a certificate or a full store

@@ -6,9 +6,11 @@ pub mod laws;
 
 // The texts, and writing them.
 mod counts;
+mod order_texts;
 mod output;
 mod texts;
 
 pub use counts::counts_of;
+pub use order_texts::{OrdersReport, orders_text, sizes_text};
 pub use output::{RunTexts, write_texts};
 pub use texts::{Report, report_text};
