@@ -10,9 +10,10 @@ use crate::preparation::Preparation;
 use crate::request::WidthRequest;
 use crate::shared_tables::SharedTables;
 use crate::strips::members_only;
-use order_model::{Mask, Pairs, Problem, WidthRow};
+use order_model::{Mask, Pairs, Problem, WidthRow, Workers};
 use pair_numbering::PairMemory;
 use std::alloc::{AllocError, Global};
+use std::thread::Threads;
 
 /// The widths of the members of `set` over the other members, found by a walk of its own; 0 at
 /// other variables. Requires all members of `set` to be variables of the problem.
@@ -69,5 +70,23 @@ pub fn widths_of_all_sets(alloc: Global, problem: &Problem) -> Result<Vec<WidthR
     let renaming = renaming_of(alloc, problem)?;
     let mut prepared = Preparation::of(alloc, &renaming, &Pairs::none(problem.inputs()))?;
     prepared.find_all(alloc)?;
+    prepared.all_rows(alloc)
+}
+
+/// A row for each set of variables, at its mask, found by the threads of `workers` workers: at each
+/// member x the width of x over the other members, and 0 elsewhere.
+pub fn widths_of_all_sets_by_workers<R: Threads + Sync>(
+    rt: &R,
+    alloc: Global,
+    problem: &Problem,
+    workers: Workers,
+) -> Result<Vec<WidthRow>, AllocError>
+    ensures { IfOk result
+        (λ rows. AreAllWidths problem.now.inputs (functions problem.now) rows.items) }
+{
+    let renaming = renaming_of(alloc, problem)?;
+    let inputs = problem.inputs();
+    let none = Pairs::none(inputs);
+    let prepared = Preparation::by_workers(rt, alloc, &renaming, &none, inputs, workers)?;
     prepared.all_rows(alloc)
 }

@@ -19,7 +19,7 @@ mod strips;
 mod tally;
 mod values;
 
-pub use all_rows::widths_of_all_sets;
+pub use all_rows::{widths_of_all_sets, widths_of_all_sets_by_workers};
 pub use blocks::{BlockWidths, block_widths};
 pub use low_choice::renaming_of;
 pub use preparation::Preparation;

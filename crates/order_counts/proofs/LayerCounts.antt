@@ -1,12 +1,14 @@
 -- The counts of a layer's sets.
 --     counts_of_none      those of the empty set
 --     below_from_layer      those of the layer below, for a set
+--     counts_none, counts_between_more, counts_joined, whole_layer      counts of masks between two numbers
+--     part_ordered, parts_all, parts_none      the first masks of parts
 --     AreCountsTo given size k counts      those at the masks below k
 --     counts_to_none, counts_to_one, counts_to_more, counts_to_all      at first, with the empty set, with one mask more, and at the end
-use Rattle.std.proofs.Common.{◌≡◌, ℕ, zero, suc, ◌+◌, ◌-◌, ◌^◌, ◌<◌, inl, inr, List, [], ◌∷◌, ◌++◌, length, length-append, get_or, slice_index_or, count_ones, refl, sym, ap, ◌∙◌, subst, arith}
+use Rattle.std.proofs.Common.{◌≡◌, ℕ, zero, suc, ◌+◌, ◌-◌, ◌*◌, ◌^◌, ◌<◌, ◌≤◌, min, inl, inr, List, [], ◌∷◌, ◌++◌, length, length-append, get_or, slice_index_or, count_ones, Result, Ok, Err, IfOk, Vec, Global, refl, sym, ap, ◌∙◌, subst, arith}
 use Rattle.std.specs.Int.{bit_at}
 use Rattle.std.proofs.lemmas.Bool.{cases_lt}
-use Rattle.std.proofs.lemmas.List.{get_or_append_left, get_or_past, get_or_push}
+use Rattle.std.proofs.lemmas.List.{get_or-append_right, get_or_append_left, get_or_past, get_or_push}
 use Rattle.definitions.specs.Functions.{Function}
 use Rattle.definitions.specs.Orders.{members}
 use Rattle.definitions.specs.Pairs.{Pair}
@@ -19,7 +21,7 @@ use Rattle.definitions.proofs.Widths.AllOrders.{members_less, members_none, ways
 use Rattle.definitions.proofs.Widths.Recurrence.{length_without}
 use Rattle.order_counts.specs.declared.cost_counts.CostCounts.{CostCounts}
 use Rattle.order_counts.specs.declared.set_counts.Recurrence.{Recurrence}
-use Rattle.order_counts.specs.Sizes.{AreCountsBelow, AreCountsInLayer, AreCountsOf, AreOfLayer, counts_at}
+use Rattle.order_counts.specs.Sizes.{AreCountsBelow, AreCountsBetween, AreCountsInLayer, AreCountsOf, AreOfLayer, counts_at, first_of_part}
 use Rattle.order_counts.proofs.Entries.{at_entry}
 
 -- the empty set's one order, without nodes
@@ -62,6 +64,55 @@ below_from_layer given counts set size within ones some h =
           layer.are (set - 2 ^ x) s (omega (arith, within)) (omega (arith, one_less given.pairs.now.inputs set x within small bit, ones));
     }
 
+-- counts of masks up to a number, and from there on
+pub counts_joined : (given : Recurrence) (size middle end : ℕ) (counts more : List CostCounts) → middle ≤ end →
+    AreCountsBetween given size 0 middle counts → AreCountsBetween given size middle end more → AreCountsBetween given size 0 end (counts ++ more)
+counts_joined given size middle end counts more le a b = record {
+  each = length-append counts more ∙ (let x = a.each in let y = b.each in omega arith);
+  are = λ set s low lt. elim (cases_lt set middle) [
+    | inl below ↦
+        subst (AreOfLayer given size set) (sym (get_or_append_left counts more s (set - 0) (let x = a.each in omega (arith, below, x))))
+        (a.are set s low below)
+    | inr from ↦
+        subst (AreOfLayer given size set)
+        (sym (get_or-append_right counts more (length counts) (set - 0) s refl (let x = a.each in omega (arith, from, x))
+        ∙ ap (λ k. get_or more k s) (let x = a.each in let e : set - 0 - length counts ≡ set - middle = omega (arith, x) in e)))
+        (b.are set s from lt)
+  ];
+}
+
+pub counts_none : (given : Recurrence) (size first : ℕ) → AreCountsBetween given size first first []
+counts_none given size first = record { each = omega arith; are = λ set s low lt. absurd (omega arith) }
+
+-- one mask more
+pub counts_between_more : (given : Recurrence) (size first set : ℕ) (counts : List CostCounts) (new : CostCounts) → first ≤ set →
+    AreCountsBetween given size first set counts → AreOfLayer given size set new → AreCountsBetween given size first (set + 1) (counts ++ new ∷ [])
+counts_between_more given size first set counts new le h is = record {
+  each = length-append counts (new ∷ []) ∙ (let x = h.each in omega arith);
+  are = λ m s low lt. elim (cases_lt m set) [
+    | inl below ↦
+        subst (AreOfLayer given size m) (sym (get_or_append_left counts (new ∷ []) s (m - first) (let x = h.each in omega (arith, below, x, low))))
+        (h.are m s low below)
+    | inr from ↦
+        let e : m ≡ set = omega arith in
+        subst (AreOfLayer given size m) (sym (get_or_push counts new s (m - first) (let x = h.each in omega (arith, x, e))))
+        (subst (λ k. AreOfLayer given size k new) (sym e) is)
+  ];
+}
+
+pub whole_layer : (given : Recurrence) (size end : ℕ) (counts : List CostCounts) → end ≡ 2 ^ given.pairs.now.inputs →
+    AreCountsBetween given size 0 end counts → AreCountsInLayer given size counts
+whole_layer given size end counts all h = record {
+  each = h.each ∙ (let e : end - 0 ≡ 2 ^ given.pairs.now.inputs = omega (arith, all) in e);
+  are = λ set s lt. subst (λ k. AreOfLayer given size set (slice_index_or counts k s)) (let e : set - 0 ≡ set = omega arith in e)
+      (h.are set s (omega arith) (omega (arith, all)));
+}
+
+pub whole_if_ok : {E : Type 0} (given : Recurrence) (size end : ℕ) (r : Result (Vec CostCounts Global) E) → end ≡ 2 ^ given.pairs.now.inputs →
+    IfOk r (λ counts. AreCountsBetween given size 0 end counts.items) → IfOk r (λ counts. AreCountsInLayer given size counts.items)
+whole_if_ok given size end (Ok counts) all h = whole_layer given size end counts.items all h
+whole_if_ok given size end (Err e) all h = tt
+
 pub record AreCountsTo (given : Recurrence) (size k : ℕ) (counts : List CostCounts) : Type 0 where
   pub each : length counts ≡ k
   pub are : (set : ℕ) (s : CostCounts) → set < k → AreOfLayer given size set (slice_index_or counts set s)
@@ -93,3 +144,15 @@ counts_to_one given s items is own =
 pub counts_to_all : (given : Recurrence) (size k : ℕ) (counts : List CostCounts) → k ≡ 2 ^ given.pairs.now.inputs → AreCountsTo given size k counts →
     AreCountsInLayer given size counts
 counts_to_all given size k counts all h = record { each = h.each ∙ all; are = λ set s lt. h.are set s (omega (arith, all)) }
+
+-- parts of `step` masks each
+pub part_ordered : (step sets part : ℕ) → first_of_part step sets part ≤ first_of_part step sets (part + 1)
+part_ordered step sets part =
+    let more : (part + 1) * step ≡ part * step + step = omega arith in
+    omega (arith, more)
+
+pub parts_all : (step sets parts : ℕ) → sets ≤ parts * step → first_of_part step sets parts ≡ sets
+parts_all step sets parts le = omega (arith, le)
+
+pub parts_none : (step sets : ℕ) → first_of_part step sets 0 ≡ 0
+parts_none step sets = omega arith

@@ -7,13 +7,14 @@
 --     AreCountsOf n F P S limit s      s counts the lawful lists of a set's members at costs below a limit, and no others
 --     AreCountsBelow given counts set      the counts of the sets without one of a set's members
 --     AreOfLayer given size set s      the counts of a set, if it has `size` members
+--     AreCountsBetween given size first end counts      such counts, of the masks from `first` to before `end`
 --     AreCountsInLayer given size counts      such counts, at the mask of each set
 --     AreTrimmed least orders      the first and the last entry aren't 0
 --     AreSizesOfOrders n F P most fewest orders      how many of all orders have each size up to `most`
 --     orders_below n F P s      how many of all orders have fewer than s nodes
 --     CanTakeOrders given smaller set counts      counts to which the orders of a set can be added
 --     CoversAll given counts set k span      a span has the costs of the orders with a member below k on top
-use Rattle.std.specs.Prelude.{◌≡◌, ℕ, ◌+◌, ◌-◌, ◌^◌, ◌<◌, ◌≤◌, List, [], length, get_or, nat_lt, slice_index, slice_index_or, count_ones, IsTrue}
+use Rattle.std.specs.Prelude.{◌≡◌, ℕ, ◌+◌, ◌-◌, ◌*◌, ◌^◌, ◌<◌, ◌≤◌, List, [], length, get_or, min, nat_lt, slice_index, slice_index_or, count_ones, IsTrue}
 use Rattle.std.specs.List.{count_by}
 use Rattle.std.specs.Int.{bit_at}
 use Rattle.definitions.specs.Functions.{Function}
@@ -92,6 +93,15 @@ AreOfLayer given size set s =
     count_ones set ≡ size →
     AreCountsOf given.pairs.now.inputs (functions given.problem.now) given.pairs.now.pairs (members given.pairs.now.inputs set)
     (get_or given.limits.now set 0) s
+
+-- such counts of the sets whose masks lie from one number to before another
+pub record AreCountsBetween (given : Recurrence) (size first end : ℕ) (counts : List CostCounts) : Type 0 where
+  pub each : length counts ≡ end - first
+  pub are : (set : ℕ) (s : CostCounts) → first ≤ set → set < end → AreOfLayer given size set (slice_index_or counts (set - first) s)
+
+-- the first mask of a part, where each part but the last ones has `step` of so many masks
+abbrev pub first_of_part : ℕ → ℕ → ℕ → ℕ
+first_of_part step sets part = min (part * step) sets
 
 -- such counts, at the mask of each set
 pub record AreCountsInLayer (given : Recurrence) (size : ℕ) (counts : List CostCounts) : Type 0 where

@@ -3,12 +3,14 @@
 ghost use Rattle.std.specs.Prelude.{◌≡◌, ℕ, ◌+◌, ◌^◌, ◌<◌, ◌≤◌, List, [], IfOk};
 ghost use Rattle.definitions.specs.Functions.{Function};
 ghost use Rattle.definitions.specs.Pairs.{Pair};
-ghost use Rattle.order_counts.specs.Sizes.{AreCountsInLayer, AreCountsOf, AreLimited, AreOfLayer};
+ghost use Rattle.order_counts.specs.Sizes.{AreCountsBetween, AreCountsInLayer, AreCountsOf, AreLimited, AreOfLayer};
 
 use crate::cost_counts::CostCounts;
 use crate::set_counts::{Recurrence, counts_of_set};
-use order_model::Mask;
+use order_model::{Mask, Workers};
 use std::alloc::{AllocError, Global};
+use std::thread;
+use std::thread::Threads;
 
 /// The counts of `set` if it has `size` members, and no orders otherwise. Entry m of `smaller` has
 /// the counts of the set with the mask m, if that has one member less.
@@ -31,25 +33,121 @@ fn counts_in_layer(
     Ok(CostCounts::none(alloc))
 }
 
-/// The counts of the sets with `size` members, at their masks, and no orders at other masks. Entry
-/// m of `smaller` has the counts of the set with the mask m, if that has one member less.
-pub(crate) fn counts_of_layer(
+/// The counts of the sets with `size` members whose masks lie from `first` to before `end`, one
+/// entry a mask, and no orders at other masks. Entry m of `smaller` has the counts of the set with
+/// the mask m, if that has one member less.
+fn counts_of_range(
     alloc: Global,
     given: Recurrence,
     smaller: &[CostCounts],
     size: u32,
+    first: usize,
+    end: usize,
 ) -> Result<Vec<CostCounts>, AllocError>
     requires given { AreLimited given }
     requires size { 0 < size }
+    requires ordered { first ≤ end }
+    requires within { end ≤ 2 ^ given.pairs.now.inputs }
     requires smaller { (k : ℕ) → k + 1 ≡ size → AreCountsInLayer given k smaller.now }
-    ensures { IfOk result (λ counts. AreCountsInLayer given.entry size counts.items) }
+    ensures { IfOk result (λ counts. AreCountsBetween given.entry size first end counts.items) }
 {
-    let sets = 1usize << given.pairs.inputs();
-    let mut counts = Vec::with_capacity(alloc, sets)?;
-    for set in 0..sets {
+    let mut counts = Vec::with_capacity(alloc, end - first)?;
+    for set in first..end {
         counts.push(counts_in_layer(alloc, given, smaller, size, set as Mask)?)?;
     }
     Ok(counts)
+}
+
+/// Who counts the orders of the sets of a layer: several workers, or the calling thread.
+pub trait Counter {
+    // What counting requires.
+    ghost ready: { Self → Type 0 };
+
+    /// The counts of the sets with `size` members, at their masks, and no orders at other masks.
+    /// Entry m of `smaller` has the counts of the set with the mask m, if that has one member less.
+    fn counts_of_layer(
+        &self,
+        alloc: Global,
+        given: Recurrence,
+        smaller: &[CostCounts],
+        size: u32,
+    ) -> Result<Vec<CostCounts>, AllocError>
+        requires ready { ready self.now }
+        requires given { AreLimited given }
+        requires size { 0 < size }
+        requires smaller { (k : ℕ) → k + 1 ≡ size → AreCountsInLayer given k smaller.now }
+        ensures { IfOk result (λ counts. AreCountsInLayer given.entry size counts.items) };
+}
+
+/// Workers count, each a range of masks.
+#[derive(Drop)]
+pub struct ByWorkers<'r, R> {
+    /// The runtime, which starts the threads.
+    pub rt: &'r R,
+    /// How many workers share the masks.
+    pub workers: Workers,
+}
+
+/// The calling thread counts alone.
+#[derive(Drop)]
+pub struct CallingThread;
+
+impl Counter for CallingThread {
+    ghost ready = { λ _. Unit {0} };
+
+    /// The counts of the sets with `size` members, found by the calling thread.
+    fn counts_of_layer(
+        &self,
+        alloc: Global,
+        given: Recurrence,
+        smaller: &[CostCounts],
+        size: u32,
+    ) -> Result<Vec<CostCounts>, AllocError> {
+        let sets = 1usize << given.pairs.inputs();
+        counts_of_range(alloc, given, smaller, size, 0, sets)
+    }
+}
+
+impl<'r, R: Threads + Sync> Counter for ByWorkers<'r, R> {
+    ghost use Rattle.std.specs.Thread.{IsSync};
+    ghost use Rattle.order_counts.specs.Sizes.{AreCountsBetween, first_of_part};
+
+    ghost ready = { λ _. IsSync R.row };
+
+    /// The counts of the sets with `size` members, found by the threads of the workers.
+    fn counts_of_layer(
+        &self,
+        alloc: Global,
+        given: Recurrence,
+        smaller: &[CostCounts],
+        size: u32,
+    ) -> Result<Vec<CostCounts>, AllocError> {
+        let sets = 1usize << given.pairs.inputs();
+        let parts = usize::from(self.workers.count());
+        let step = sets.div_ceil(parts);
+        let found = thread::map_indices(
+            self.rt,
+            alloc,
+            parts,
+            &|part: usize| -> Result<Vec<CostCounts>, AllocError>
+                requires { (part < 64) × (step ≤ sets) × (sets ≡ 2 ^ given.pairs.now.inputs)
+                    × AreLimited given × (0 < size)
+                    × ((k : ℕ) → k + 1 ≡ size → AreCountsInLayer given k smaller.now) }
+                ensures { IfOk result (λ counts. AreCountsBetween given.entry size
+                    (first_of_part step sets part) (first_of_part step sets (part + 1)) counts.items) }
+            {
+                let first = (part * step).min(sets);
+                let end = ((part + 1) * step).min(sets);
+                counts_of_range(alloc, given, smaller, size, first, end)
+            },
+        )?;
+        let mut counts = Vec::with_capacity(alloc, sets)?;
+        for part in found {
+            let mut part = part?;
+            counts.append(&mut part)?;
+        }
+        Ok(counts)
+    }
 }
 
 /// The counts of the empty set: one order, without nodes. It counts if `limit` is above 0.

@@ -27,4 +27,5 @@ mod sizes;
 pub use below::orders_below;
 pub use cost_counts::CostCounts;
 pub use figures::{Figures, figures_of_orders};
+pub use layer_counts::{ByWorkers, CallingThread, Counter};
 pub use sizes::sizes_of_orders;

@@ -14,7 +14,7 @@ use std::alloc::{AllocError, Global};
 
 /// What the counts of each set are found from, beside those of the sets with one member less.
 #[derive(Clone, Copy)]
-pub(crate) struct Recurrence<'a> {
+pub struct Recurrence<'a> {
     /// The functions.
     pub problem: &'a Problem,
     /// The pairs that the orders keep.

@@ -6,7 +6,7 @@ ghost use Rattle.definitions.specs.AllOrders.{AreAllWidths};
 ghost use Rattle.order_counts.specs.Sizes.{AreSizesOfOrders, AreTrimmed, counts_at};
 
 use crate::cost_counts::CostCounts;
-use crate::layer_counts::{counts_of_layer, counts_of_nothing};
+use crate::layer_counts::{Counter, counts_of_nothing};
 use crate::limits::limits_of_sets;
 use crate::set_counts::Recurrence;
 use order_model::{Pairs, Problem, WidthRow};
@@ -71,16 +71,18 @@ fn trimmed(alloc: Global, counts: &CostCounts) -> Result<CostCounts, AllocError>
 
 /// How many of the orders that keep `pairs` have each size, from the fewest nodes to `most`: the
 /// first entry is of the fewest nodes, the last one of the most nodes, up to `most`, that an order
-/// has. Entry m of `widths` is the row of the set with the mask m: at each member x the width of x
+/// has. `counter` counts. Entry m of `widths` is the row of the set with the mask m: at each member x the width of x
 /// over the other members. Sets whose orders all lead to more than `most` nodes cost next to
 /// nothing. Takes 8 bytes for each cost that some order of a set has, of the sets of two layers.
-pub fn sizes_of_orders(
+pub fn sizes_of_orders<C: Counter>(
+    counter: &C,
     alloc: Global,
     problem: &Problem,
     pairs: &Pairs,
     widths: &[WidthRow],
     most: u32,
 ) -> Result<CostCounts, AllocError>
+    requires ready { C.ready counter.now }
     requires few { length (functions problem.now) ≤ 16 }
     requires widths { AreAllWidths pairs.now.inputs (functions problem.now) widths.now }
     ensures { IfOk result
@@ -97,7 +99,7 @@ pub fn sizes_of_orders(
     };
     let mut counts = counts_of_nothing(alloc, given)?;
     for size in 0..inputs {
-        counts = counts_of_layer(alloc, given, &counts, u32::from(size) + 1)?;
+        counts = counter.counts_of_layer(alloc, given, &counts, u32::from(size) + 1)?;
     }
     trimmed(alloc, &counts[(1usize << inputs) - 1])
 }

@@ -1,3 +1,4 @@
 pub mod StartingDiagrams
 pub mod Bests
 pub mod Found
+pub mod Planned

@@ -5,14 +5,14 @@ ghost use Rattle.std.specs.Prelude.{◌≡◌, ◌≤◌, IfOk, is_some, string_
 ghost use Rattle.report.specs.Bests.{IsBestFor};
 ghost use Rattle.report.specs.Found.{IsFound};
 ghost use Rattle.report_texts.specs.Answers.{IsAnswer, IsCertified, IsCertifiedBy};
-ghost use Rattle.outcomes.specs.Plans.{PairsAre};
+ghost use Rattle.report.specs.Planned.{ArePlanned};
 ghost use Rattle.report_texts.specs.Texts.{report_parts};
 
 use crate::best::Best;
 use crate::search::{Found, search};
 use crate::search_input::SearchInput;
 use certificate::certificate_text;
-use command_line::RunPlan;
+use command_line::{Output, RunPlan};
 use order_model::{Pairs, PairsFault, Problem, Workers};
 use pla_reader::Cover;
 use report_texts::{Report, RunTexts, report_text};
@@ -21,16 +21,16 @@ use std::thread::Threads;
 use truth_table::Tables;
 
 /// The pairs that an order of `n` variables has to keep: those that `plan` lists, or none if it has
-/// no list. Err if the list is refused: it isn't of the form `2,0:1,0`, or it has a variable that
-/// isn't below `n`, or no order keeps its pairs. Requires `n` to be from 1 to 16.
+/// no list or only counts. Err if the list is refused: it isn't of the form `2,0:1,0`, or it has a
+/// variable that isn't below `n`, or no order keeps its pairs.
 pub(crate) fn pairs_of<'a>(plan: &RunPlan<'a>, n: u8) -> Result<Pairs, PairsFault>
     requires some { 1 ≤ n }
     requires few { n ≤ 16 }
-    ensures { PairsAre plan.now.above n result }
+    ensures { ArePlanned plan.now n result }
 {
-    match plan.above {
-        None => Ok(Pairs::none(n)),
-        Some(list) => Pairs::parse(list.as_bytes(), n),
+    match (plan.output, plan.above) {
+        (Output::Count, _) | (_, None) => Ok(Pairs::none(n)),
+        (_, Some(list)) => Pairs::parse(list.as_bytes(), n),
     }
 }
 
@@ -86,26 +86,26 @@ pub(crate) fn answer_texts<R: Threads + Sync>(
     rt: &R,
     alloc: Global,
     cover: &Cover,
-    pairs: Pairs,
+    pairs: &Pairs,
     workers: Workers,
     certify: bool,
 ) -> Result<RunTexts, AllocError>
-    requires { pairs.inputs ≡ cover.now.inputs }
-    ensures report { IfOk result (λ t. IsAnswer cover.now pairs.pairs (string_bytes t.report)) }
+    requires { pairs.now.inputs ≡ cover.now.inputs }
+    ensures report { IfOk result (λ t. IsAnswer cover.now pairs.now.pairs (string_bytes t.report)) }
     ensures certificate { IfOk result
-        (λ t. IsCertified cover.now pairs.pairs certify t.certificate) }
+        (λ t. IsCertified cover.now pairs.now.pairs certify t.certificate) }
 {
     let tables = Tables::of_cover(rt, alloc, cover)?;
     let instance = SearchInput {
         cover,
         tables: &tables,
-        pairs: &pairs,
+        pairs,
         certify,
         workers,
     };
     let found = search(rt, alloc, &instance)?;
     let report = report_of(alloc, &instance, &found)?;
-    let certificate = certificate_of(alloc, tables.problem(), &pairs, found.best)?;
+    let certificate = certificate_of(alloc, tables.problem(), pairs, found.best)?;
     Ok(RunTexts {
         report,
         certificate,

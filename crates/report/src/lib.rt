@@ -8,13 +8,14 @@ mod program;
 mod runs;
 
 // Answers.
+mod all_orders;
 mod answers;
 mod best;
 mod diagrams;
 mod search;
 mod search_input;
 
-pub use command_line::RunPlan;
+pub use command_line::{Output, RunPlan};
 pub use program::minorder;
 pub use report_texts::laws;
 pub use runs::run;

@@ -8,15 +8,15 @@ ghost use Rattle.outcomes.specs.Messages.{writer};
 ghost use Rattle.outcomes.specs.Programs.{streams};
 
 use crate::runs::run;
-use command_line::Line;
+use command_line::{Line, Output};
 use counted_io::{CountedWrite, Counting};
 use outcomes::{Fault, Outcome, Program, write_fault, write_usage};
 use std::fs;
 use std::rt::Files;
 use std::thread::Threads;
 
-/// Opens the PLA file of `line`, creates the certificate's file if `line` names one and has no
-/// `--count`, and carries out the plan of `line`, whose report goes to `out`. Returns how the run
+/// Opens the PLA file of `line`, creates the certificate's file if `line` names one and asks for a
+/// report, and carries out the plan of `line`, whose report goes to `out`. Returns how the run
 /// ended, which is `Refused` for `Fault::Device` if a file can't be opened or created.
 fn run_on_files<'a, R: Files + AllocGlobal + Threads + Sync, W: CountedWrite>(
     rt: &R,
@@ -33,7 +33,7 @@ fn run_on_files<'a, R: Files + AllocGlobal + Threads + Sync, W: CountedWrite>(
     let mut file = Counting::new(file);
     let mut cert: Option<Counting<R::File>> = None;
     if let Some(path) = line.cert
-        && !line.plan.count
+        && line.plan.output == Output::Report
     {
         let Ok(made) = fs::create(rt, path) else {
             return Outcome::Refused(Fault::Device);
@@ -43,11 +43,11 @@ fn run_on_files<'a, R: Files + AllocGlobal + Threads + Sync, W: CountedWrite>(
     run(rt, rt.alloc(), &line.plan, &mut file, out, &mut cert)
 }
 
-/// The program minorder. `words`, those after its name, are `[--workers W] [--cert OUT] [--count]
-/// [--above LIST] FILE`. The report goes to `out`, messages to `err`. Returns the exit status: 0
-/// done, or help or the version was requested; 2 words refused; 3 FILE refused; 4 out of memory; 5
-/// a device failed; 8 pairs refused. OUT is created, empty, after FILE is opened and before it is
-/// read, but not with `--count`.
+/// The program minorder. `words`, those after its name, are `[--workers W] [--cert OUT] [--count |
+/// --orders | --sizes] [--above LIST] FILE`. The text goes to `out`, messages to `err`. Returns the
+/// exit status: 0 done, or help or the version was requested; 2 words refused; 3 FILE refused; 4
+/// out of memory; 5 a device failed; 8 pairs refused. OUT is created, empty, after FILE is opened
+/// and before it is read, but not with `--count`.
 pub fn minorder<'a, R: Files + AllocGlobal + Threads + Sync, W: CountedWrite, E: CountedWrite>(
     rt: &R,
     words: &'a [&'a str],

@@ -1,23 +1,56 @@
 //! Runs of minorder, over any reader and writers.
 
-ghost use Rattle.std.specs.Prelude.{[], ◌∷◌, IfOk, IfErr, option_map, string_bytes};
+ghost use Rattle.std.specs.Prelude.{◌≡◌, [], ◌∷◌, IfOk, IfErr, None, Ok, option_map, string_bytes};
+ghost use Rattle.report.specs.Planned.{ArePlanned};
 ghost use Rattle.report_texts.specs.Answers.{HasCertificate, Hinders, IsTextOf};
 ghost use Rattle.report_texts.specs.Runs.{RunEnds, devices, failures_in, held};
 
+use crate::all_orders::{orders_answer, sizes_answer};
 use crate::answers::{answer_texts, pairs_of};
-use command_line::RunPlan;
+use command_line::{Output, RunPlan};
 use counted_io::{CountedRead, CountedWrite};
+use order_model::Pairs;
 use outcomes::{Fault, Outcome};
 use pla_reader::{Cover, read_cover};
 use report_texts::{RunTexts, counts_of, write_texts};
-use std::alloc::Global;
+use std::alloc::{AllocError, Global};
 use std::thread::Threads;
 
-/// The texts of a run on `cover`. With `plan.count` there is only the report of the level counts
-/// under the file order, and the plan's pairs are not looked at. Otherwise there are the report on
-/// the first order of the fewest nodes among those that keep these pairs and, if `certify` is true,
-/// this order's certificate; Err is `Pairs` with the fault of the plan's list of pairs. Err is
-/// `OutOfMemory` if memory is refused.
+/// `text` as the only text of a run.
+fn alone(text: Result<String, AllocError>) -> Result<RunTexts, AllocError>
+    ensures ok { IfOk result (λ t. (text ≡ Ok t.report) × (t.certificate ≡ None)) }
+{
+    Ok(RunTexts {
+        report: text?,
+        certificate: None,
+    })
+}
+
+/// The texts of a run on `cover`, whose orders keep `pairs`: what the plan prints and, beside a
+/// report and if `certify` is true, the certificate of its order.
+fn texts_for<'a, R: Threads + Sync>(
+    rt: &R,
+    alloc: Global,
+    plan: &RunPlan<'a>,
+    cover: &Cover,
+    pairs: &Pairs,
+    certify: bool,
+) -> Result<RunTexts, AllocError>
+    requires { ArePlanned plan.now cover.now.inputs (Ok pairs.now) }
+    ensures report { IfOk result (λ t. IsTextOf plan.now cover.now (string_bytes t.report)) }
+    ensures certificate { IfOk result
+        (λ t. HasCertificate plan.now.output plan.now.above cover.now certify t.certificate) }
+{
+    match plan.output {
+        Output::Report => answer_texts(rt, alloc, cover, pairs, plan.workers, certify),
+        Output::Count => alone(counts_of(rt, alloc, cover)),
+        Output::Orders => alone(orders_answer(rt, alloc, cover, pairs, plan.workers)),
+        Output::Sizes => alone(sizes_answer(rt, alloc, cover, pairs, plan.workers)),
+    }
+}
+
+/// The texts of a run on `cover`. Err is `Pairs` with the fault of the plan's list of pairs, or
+/// `OutOfMemory`.
 fn planned_texts<'a, R: Threads + Sync>(
     rt: &R,
     alloc: Global,
@@ -27,20 +60,11 @@ fn planned_texts<'a, R: Threads + Sync>(
 ) -> Result<RunTexts, Fault>
     ensures report { IfOk result (λ t. IsTextOf plan.now cover.now (string_bytes t.report)) }
     ensures certificate { IfOk result
-        (λ t. HasCertificate plan.now.count plan.now.above cover.now certify t.certificate) }
+        (λ t. HasCertificate plan.now.output plan.now.above cover.now certify t.certificate) }
     ensures fault { IfErr result (Hinders plan.now cover.now) }
 {
-    if plan.count {
-        return match counts_of(rt, alloc, cover) {
-            Ok(report) => Ok(RunTexts {
-                report,
-                certificate: None,
-            }),
-            Err(_) => Err(Fault::OutOfMemory),
-        };
-    }
     match pairs_of(plan, cover.inputs()) {
-        Ok(pairs) => match answer_texts(rt, alloc, cover, pairs, plan.workers, certify) {
+        Ok(pairs) => match texts_for(rt, alloc, plan, cover, &pairs, certify) {
             Ok(texts) => Ok(texts),
             Err(_) => Err(Fault::OutOfMemory),
         },
@@ -49,10 +73,9 @@ fn planned_texts<'a, R: Threads + Sync>(
 }
 
 /// Reads the PLA file `file` to its end, makes all texts of the run, then writes them, and returns
-/// how the run ended. With `plan.count` the text is a report of the level counts and the size under
-/// the file order, which goes to `out`. Otherwise the texts are the certificate of the first order
-/// of the fewest nodes among those that keep the plan's pairs, which goes to `cert` unless that is
-/// None, and then a report on this order and the sifted order, which goes to `out`.
+/// how the run ended. What the plan prints goes to `out`. A report's certificate, that of the first
+/// order of the fewest nodes among those that keep the plan's pairs, goes to `cert` before it,
+/// unless that is None.
 pub fn run<'a, R: Threads + Sync, F: CountedRead, W: CountedWrite, C: CountedWrite>(
     rt: &R,
     alloc: Global,

@@ -57,7 +57,7 @@ fn sift<R: Threads + Sync>(
 /// Makes the manager by which `starting` is sifted among the orders that keep the pairs of
 /// `instance`. Requires that `starting` is the cover's reduced diagram under the lexicographically
 /// first of these orders.
-fn manager_of(
+pub(crate) fn manager_of(
     alloc: Global,
     instance: &SearchInput<'_>,
     starting: Diagram,

@@ -2,7 +2,7 @@
 --     decided      what a check that decides writes
 --     verdict      the verdict on a run's certificate
 --     accepted      it is accepted
-use Rattle.std.proofs.Common.{◌≡◌, ℕ, ◌≤◌, Bool, true, false, List, [], length, Option, Some, refl, sym, ap, subst}
+use Rattle.std.proofs.Common.{◌≡◌, ℕ, ◌≤◌, List, [], length, Option, Some, refl, sym, ap, subst}
 use Rattle.std.specs.Borrow.{Bor}
 use Rattle.std.specs.Io.KnownBytes.{Appends}
 use Rattle.definitions.specs.Certificates.{Certificate, certificate_of, IsCertOf}
@@ -18,6 +18,8 @@ use Rattle.certificate.proofs.Lengths.{text_readable}
 use Rattle.pla_reader.specs.Answering.{longest}
 use Rattle.pla_reader.specs.Covers.{NamedCover, functions_of}
 use Rattle.pla_reader.specs.Reading.{Reads}
+use Rattle.command_line.specs.declared.line.Output.{Output}
+use Rattle.command_line.specs.declared.line.Output.TheVariants.{Report, Count, Orders, Sizes}
 use Rattle.command_line.specs.declared.line.RunPlan.{RunPlan}
 use Rattle.outcomes.specs.declared.outcome.Outcome.{Outcome}
 use Rattle.outcomes.specs.declared.outcome.Outcome.TheVariants.{Done, Invalid, Refused}
@@ -88,11 +90,13 @@ seen_by cover P file text written few reads answer is = record {
   printed = in_report cover P text is.cert answer is.is;
 }
 
-seen : (count : Bool) (above : Option (Bor (List ℕ))) (cover : NamedCover) (file report text written : List ℕ) → count ≡ false →
-    length file ≤ longest → Reads file cover → IsText count above cover text → report ≡ text →
-    Certifies count above cover whole (Some (Some [])) (Some (Some written)) → IsSeen file written report
-seen true above cover file report text written e few reads is same got = absurd (cc)
-seen false above cover file report text written e few reads (kept, pairs, answer) same (t, (other, also, cert), put) =
+seen : (output : Output) (above : Option (Bor (List ℕ))) (cover : NamedCover) (file report text written : List ℕ) → output ≡ Report →
+    length file ≤ longest → Reads file cover → IsText output above cover text → report ≡ text →
+    Certifies output above cover whole (Some (Some [])) (Some (Some written)) → IsSeen file written report
+seen Count above cover file report text written e few reads is same got = absurd (cc)
+seen Orders above cover file report text written e few reads is same got = absurd (cc)
+seen Sizes above cover file report text written e few reads is same got = absurd (cc)
+seen Report above cover file report text written e few reads (kept, pairs, answer) same (t, (other, also, cert), put) =
     let one = pairs_unique above above cover.inputs kept other refl pairs also in
     let cert' = subst (λ (k : KeptPairs). IsCertificate cover k.pairs t) (sym one) cert in
     let here = seen_by cover kept.pairs file text t few reads answer cert' in
@@ -102,7 +106,7 @@ pub accepted : (plan : RunPlan) (file report cert : List ℕ) (before after : Op
     Wrote plan file report cert → Decides outcome → ChecksAs file cert before after outcome → AcceptsWritten cert report before after outcome
 accepted plan file report cert before after outcome wrote decides checks =
     let d = wrote.delivers in
-    let s = seen plan.count plan.above d.0 file report d.1 cert wrote.without_count wrote.tells d.2 d.3 d.4 d.5 in
+    let s = seen plan.output plan.above d.0 file report d.1 cert wrote.reports wrote.tells d.2 d.3 d.4 d.5 in
     let c = decided file cert before after outcome decides checks in
     let same = judge_unique file cert outcome Done c.0 (valid_line s.cert) c.1 s.verdict in record {
       done = same.0;

@@ -6,7 +6,7 @@ use Rattle.order_counts.proofs.Fewer.{below_counted, below_small, none_below}
 use Rattle.order_counts.proofs.below.orders_below.Goals as goal
 
 pub returns-in_default : goal.returns-in_default
-returns-in_default c =
+returns-in_default g c =
     let n = c.args.pairs.now.inputs in
     let F = functions c.args.problem.now in
     let P = c.args.pairs.now.pairs in
@@ -15,7 +15,7 @@ returns-in_default c =
     sym (ap (orders_below n F P) zero ∙ none_below n F P)
 
 pub sum_of-requires : goal.sum_of-requires
-sum_of-requires c =
+sum_of-requires g c =
     let n = c.args.pairs.now.inputs in
     let F = functions c.args.problem.now in
     let P = c.args.pairs.now.pairs in
@@ -26,7 +26,7 @@ sum_of-requires c =
     omega (arith, items, all, below_small n F P order.0 order.2.is_order order.2.kept kept.few (c.in-Some.most + 1))
 
 pub returns : goal.returns
-returns c =
+returns g c =
     let n = c.args.pairs.now.inputs in
     let F = functions c.args.problem.now in
     let P = c.args.pairs.now.pairs in

@@ -15,7 +15,7 @@ all_said (Ok s) A B C Q a b c f = f s a b c
 all_said (Err e) A B C Q a b c f = tt
 
 pub trimmed-requires : goal.trimmed-requires
-trimmed-requires c =
+trimmed-requires g c =
     let n = c.args.pairs.now.inputs in
     let few = c.inputs-inputs.ensures.kept.few in
     let sets : 1 * 2 ^ c.inputs-inputs.result % 18446744073709551616 ≡ 2 ^ n =
@@ -29,7 +29,7 @@ trimmed-requires c =
     omega (arith, whole.within, limit)
 
 pub returns : goal.returns
-returns c =
+returns g c =
     let n = c.args.pairs.now.inputs in
     let kept = c.inputs-inputs.ensures.kept in
     let order = acyclic_kept n c.args.pairs.now.pairs kept.below kept.acyclic in
