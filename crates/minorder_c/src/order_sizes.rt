@@ -13,7 +13,7 @@ use crate::all_orders::AllOrders;
 use crate::arguments::GivenTables;
 use crate::rooms::{SHORT_ROOM, put_front};
 use crate::status::Refusal;
-use order_counts::sizes_of_orders;
+use order_counts::{CallingThread, sizes_of_orders};
 use std::alloc::Global;
 
 /// Writes to the front of `orders`, for the packed truth tables `tables`, how many orders that keep
@@ -50,7 +50,7 @@ pub extern "C" fn minorder_sizes_with_pairs(
         Ok(all) => all,
         Err(refusal) => return refusal.status(),
     };
-    match sizes_of_orders(alloc, all.tables.problem(), &all.pairs, &all.widths, most) {
+    match sizes_of_orders(&CallingThread, alloc, all.tables.problem(), &all.pairs, &all.widths, most) {
         Ok(found) => {
             *fewest = found.least;
             *sizes = found.orders.len();

@@ -58,6 +58,21 @@ fn counts_of_range(
     Ok(counts)
 }
 
+/// The fewest sets that are worth threads.
+const SETS_WORTH_THREADS: usize = 1 << 11;
+
+/// How many parts `workers` workers make of so many sets.
+fn parts_of(workers: Workers, sets: usize) -> usize
+    ensures some { 0 < result }
+    ensures most { result ≤ 64 }
+{
+    if sets < SETS_WORTH_THREADS {
+        1
+    } else {
+        usize::from(workers.count())
+    }
+}
+
 /// Who counts the orders of the sets of a layer: several workers, or the calling thread.
 pub trait Counter {
     // What counting requires.
@@ -123,7 +138,7 @@ impl<'r, R: Threads + Sync> Counter for ByWorkers<'r, R> {
         size: u32,
     ) -> Result<Vec<CostCounts>, AllocError> {
         let sets = 1usize << given.pairs.inputs();
-        let parts = usize::from(self.workers.count());
+        let parts = parts_of(self.workers, sets);
         let step = sets.div_ceil(parts);
         let found = thread::map_indices(
             self.rt,

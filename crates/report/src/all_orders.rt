@@ -13,7 +13,7 @@ use crate::diagrams::starting_diagram;
 use crate::search::manager_of;
 use crate::search_input::SearchInput;
 use compaction::widths_of_all_sets_by_workers;
-use order_counts::{figures_of_orders, orders_below, sizes_of_orders};
+use order_counts::{ByWorkers, Counter, figures_of_orders, orders_below, sizes_of_orders};
 use order_model::{Pairs, Problem, WidthRow, Workers};
 use pla_reader::Cover;
 use report_texts::{OrdersReport, orders_text, sizes_text};
@@ -60,13 +60,16 @@ fn sifted_size_of<R: Threads + Sync>(
 }
 
 /// The figures of all orders that keep `pairs`, beside a sifted order of `sifted_size` nodes.
-fn orders_report(
+/// `counter` counts the orders that have fewer nodes.
+fn orders_report<C: Counter>(
+    counter: &C,
     alloc: Global,
     problem: &Problem,
     pairs: &Pairs,
     widths: &[WidthRow],
     sifted_size: u32,
 ) -> Result<OrdersReport, AllocError>
+    requires ready { C.ready counter.now }
     requires inputs { pairs.now.inputs ≡ problem.now.inputs }
     requires widths { AreAllWidths problem.now.inputs (functions problem.now) widths.now }
     ensures figures { IfOk result (λ r.
@@ -81,7 +84,7 @@ fn orders_report(
     Ok(OrdersReport {
         figures: figures_of_orders(alloc, problem, pairs, widths)?,
         sifted_size,
-        better: orders_below(alloc, problem, pairs, widths, sifted_size)?,
+        better: orders_below(counter, alloc, problem, pairs, widths, sifted_size)?,
     })
 }
 
@@ -107,7 +110,8 @@ pub(crate) fn orders_answer<R: Threads + Sync>(
     };
     let sifted_size = sifted_size_of(rt, alloc, &instance)?;
     let widths = widths_of(rt, alloc, tables.problem(), workers)?;
-    let report = orders_report(alloc, tables.problem(), pairs, &widths, sifted_size)?;
+    let counter = ByWorkers { rt, workers };
+    let report = orders_report(&counter, alloc, tables.problem(), pairs, &widths, sifted_size)?;
     let text = orders_text(alloc, &report)?;
     Ok(text)
 }
@@ -129,7 +133,8 @@ pub(crate) fn sizes_answer<R: Threads + Sync>(
     let problem = tables.problem();
     prove!(problem.outputs() <= 16);
     let widths = widths_of(rt, alloc, problem, workers)?;
-    let counts = sizes_of_orders(alloc, problem, pairs, &widths, MOST_NODES)?;
+    let counter = ByWorkers { rt, workers };
+    let counts = sizes_of_orders(&counter, alloc, problem, pairs, &widths, MOST_NODES)?;
     let text = sizes_text(alloc, &counts)?;
     Ok(text)
 }

@@ -4,7 +4,7 @@ use crate::devices::{AMPLE, FailingReader, FailingWriter, Room, certificate_hold
 use counted_io::Counting;
 use order_model::Workers;
 use outcomes::{Fault, Outcome};
-use report::{RunPlan, run};
+use report::{Output, RunPlan, run};
 use std::io::{ErrorKind, Read};
 use std::process::Abort;
 use std::thread::Threads;
@@ -41,10 +41,10 @@ fn failed<'a>(report: &'a [u8], certificate: &'a [u8]) -> Ending<'a> {
     }
 }
 
-/// Whether a run of two workers over a reader, or a count, ends so with writers of this room.
+/// Whether a run of two workers over a reader, with this output, ends so with writers of this room.
 fn ends<T: Abort + AllocGlobal + Threads + Sync, R: Read + Drop>(
     rt: &T,
-    count: bool,
+    output: Output,
     reader: R,
     report: Room,
     certificate: Room,
@@ -52,7 +52,7 @@ fn ends<T: Abort + AllocGlobal + Threads + Sync, R: Read + Drop>(
 ) -> bool {
     let plan = RunPlan {
         workers: Workers::new(2).expect(rt, "two workers"),
-        count,
+        output,
         above: None,
     };
     let mut file = Counting::new(reader);
@@ -89,7 +89,7 @@ fn ends_as_read<T: Abort + AllocGlobal + Threads + Sync>(
     } else {
         DONE
     };
-    ends(rt, false, reader, AMPLE, AMPLE, &wanted)
+    ends(rt, Output::Report, reader, AMPLE, AMPLE, &wanted)
 }
 
 #[test]
@@ -104,27 +104,39 @@ fn readers_that_fail_leave_nothing(rt: HostRuntime) {
 fn writers_that_fail_hold_a_beginning(rt: HostRuntime) {
     for bytes in 0..REPORT.len() {
         let wanted = failed(&REPORT[..bytes], CERTIFICATE);
-        assert!(rt; ends(&rt, false, FILE, Room::of(bytes), AMPLE, &wanted));
+        assert!(rt; ends(&rt, Output::Report, FILE, Room::of(bytes), AMPLE, &wanted));
     }
     for bytes in 0..CERTIFICATE.len() {
         let wanted = failed(&[], &CERTIFICATE[..bytes]);
-        assert!(rt; ends(&rt, false, FILE, AMPLE, Room::of(bytes), &wanted));
+        assert!(rt; ends(&rt, Output::Report, FILE, AMPLE, Room::of(bytes), &wanted));
     }
 }
 
-/// What a count writes, which leaves the certificate alone.
-const COUNTED: Ending<'static> = Ending {
-    outcome: Outcome::Done,
-    report: b"levels: 1 2 2\nnodes: 5\n",
-    certificate: &[],
-};
+/// What the multiplexer's level counts, figures and sizes are.
+static COUNTED: &[u8] = b"levels: 1 2 2\nnodes: 5\n";
+
+static FIGURES: &[u8] =
+    b"orders: 6\nnodes: 3\noptimal orders: 2\nmost nodes: 5\nworst orders: 2\nmean nodes: 4.00\nsifted nodes: 3\norders below sifted: 0\n";
+
+static SIZES: &[u8] = b"3 2\n4 2\n5 2\n";
+
+/// How a run ends that writes this text, and no certificate.
+fn alone<'a>(report: &'a [u8]) -> Ending<'a> {
+    Ending {
+        outcome: Outcome::Done,
+        report,
+        certificate: &[],
+    }
+}
 
 #[test]
-fn slow_writers_hold_all_and_counts_no_certificate(rt: HostRuntime) {
+fn slow_writers_hold_all_and_reports_alone_have_certificates(rt: HostRuntime) {
     let slow = Room {
         bytes: 1000,
         most_a_call: 1,
     };
-    assert!(rt; ends(&rt, false, FILE, slow, slow, &DONE));
-    assert!(rt; ends(&rt, true, FILE, AMPLE, AMPLE, &COUNTED));
+    assert!(rt; ends(&rt, Output::Report, FILE, slow, slow, &DONE));
+    assert!(rt; ends(&rt, Output::Count, FILE, AMPLE, AMPLE, &alone(COUNTED)));
+    assert!(rt; ends(&rt, Output::Orders, FILE, slow, AMPLE, &alone(FIGURES)));
+    assert!(rt; ends(&rt, Output::Sizes, FILE, slow, AMPLE, &alone(SIZES)));
 }

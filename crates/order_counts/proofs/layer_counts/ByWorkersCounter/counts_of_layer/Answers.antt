@@ -26,7 +26,7 @@ loop-part-preserved g c =
     let turn = YieldsList-turn (YieldsList-from_vec {s = c.into_iter-part-iterator.result} parts.items (search rules) (search rules))
     c.loop-part.yielded c.loop-part.part-iterator c.loop-part.yielded_by c.next.result c.next.new.self
     c.in-Some.part c.in-Some.is c.next.ensures.steps in
-    let inside : n < c.from-parts.result = (let l = parts.ok.0 in let t = turn.0 in let m = c.in_ok-found.ensures.len in omega arith) in
+    let inside : n < c.parts_of-parts.result = (let l = parts.ok.0 in let t = turn.0 in let m = c.in_ok-found.ensures.len in omega arith) in
     let own : AreCountsBetween given size (first_of_part step sets n) (first_of_part step sets (n + 1)) c.in_ok-part.part.items =
     (let k = (c.in_ok-found.ensures.each n c.in-Some.part inside).1 in
     subst (λ r. IfOk r (λ v. AreCountsBetween given size (first_of_part step sets n) (first_of_part step sets (n + 1)) v.items))
@@ -45,15 +45,15 @@ returns g c =
     let end = YieldsList-end (YieldsList-from_vec {s = c.into_iter-part-iterator.result} parts.items (search rules) (search rules))
     c.loop-part.yielded c.loop-part.part-iterator c.loop-part.yielded_by c.next.result c.next.new.self
     c.in-None.is c.next.ensures.steps in
-    let all : length c.loop-part.yielded ≡ c.from-parts.result =
+    let all : length c.loop-part.yielded ≡ c.parts_of-parts.result =
     (let l = parts.ok.0 in let e = end.1 in let m = c.in_ok-found.ensures.len in omega arith) in
     let masks = 1 * 2 ^ c.inputs.result % 18446744073709551616 in
-    let step = div_ceil masks c.from-parts.result in
-    let some = c.count.ensures.some in
-    let room = (div_ceil_times masks c.from-parts.result (omega (arith, some, c.from-parts.ensures))).0 in
-    let turned : c.from-parts.result * step ≡ step * c.from-parts.result = omega arith in
-    let product : length c.loop-part.yielded * c.div_ceil-step.result ≡ step * c.from-parts.result =
-    ap (λ k. k * c.div_ceil-step.result) all ∙ ap (λ k. c.from-parts.result * k) c.div_ceil-step.ensures ∙ turned in
+    let step = div_ceil masks c.parts_of-parts.result in
+    let some = c.parts_of-parts.ensures.some in
+    let room = (div_ceil_times masks c.parts_of-parts.result (some)).0 in
+    let turned : c.parts_of-parts.result * step ≡ step * c.parts_of-parts.result = omega arith in
+    let product : length c.loop-part.yielded * c.div_ceil-step.result ≡ step * c.parts_of-parts.result =
+    ap (λ k. k * c.div_ceil-step.result) all ∙ ap (λ k. c.parts_of-parts.result * k) c.div_ceil-step.ensures ∙ turned in
     let enough : masks ≤ length c.loop-part.yielded * c.div_ceil-step.result = subst (λ k. masks ≤ k) (sym product) room in
     whole_layer c.args.given c.args.size _ c.loop-part.counts.items
     (parts_all c.div_ceil-step.result (1 * 2 ^ c.inputs.result % 18446744073709551616) (length c.loop-part.yielded) enough ∙ sets)
