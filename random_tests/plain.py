@@ -1,6 +1,7 @@
 """What minorder and ordercheck answer, written from docs/DEFINITIONS.md and docs/USING.md alone: a function is its truth table
 as a whole number (bit p is the value at point p), and up to 5 inputs each order is looked at; beyond, the recurrence of Friedman
 and Supowit is used."""
+from collections import Counter
 from functools import lru_cache
 from itertools import combinations, permutations
 
@@ -245,6 +246,20 @@ class Functions:
             mask ^= 1 << x
         return order
 
+    def order_sizes(self, pairs):
+        """How many of the orders that keep the pairs have each size."""
+        if self.n <= ALL_ORDERS_UP_TO:
+            return Counter(self.size(order) for order in permutations(range(self.n)) if keeps(order, pairs))
+        widths = self.costs(pairs)[1]
+        found = {0: Counter([0])}
+        for mask in range(1, 1 << self.n):
+            if self.lawful(mask, pairs):
+                found[mask] = Counter()
+                for x in range(self.n):
+                    for size, orders in found.get(mask ^ 1 << x, {}).items() if mask >> x & 1 else ():
+                        found[mask][size + widths[mask ^ 1 << x, x]] += orders
+        return found[(1 << self.n) - 1]
+
     def first(self, pairs):
         """The first order that keeps the pairs."""
         order = []
@@ -306,6 +321,28 @@ def report(cover, functions, pairs):
 def count(functions):
     order = range(functions.n)
     return words("levels:", *functions.levels(order)) + words("nodes:", functions.size(order))
+
+
+def orders(functions, pairs):
+    """The lines of --orders; the mean in hundredths, rounded half up."""
+    sizes, sifted = functions.order_sizes(pairs), functions.size(functions.sifted(pairs))
+    number, total = sum(sizes.values()), sum(size * many for size, many in sizes.items())
+    mean = (200 * total + number) // (2 * number)
+    return "".join([
+        words("orders:", number),
+        words("nodes:", min(sizes)),
+        words("optimal orders:", sizes[min(sizes)]),
+        words("most nodes:", max(sizes)),
+        words("worst orders:", sizes[max(sizes)]),
+        words("mean nodes:", f"{mean // 100}.{mean % 100:02}"),
+        words("sifted nodes:", sifted),
+        words("orders below sifted:", sum(many for size, many in sizes.items() if size < sifted)),
+    ])
+
+
+def sizes_of_orders(functions, pairs):
+    """The lines of --sizes."""
+    return "".join(words(size, many) for size, many in sorted(functions.order_sizes(pairs).items()))
 
 
 class Certificate:

@@ -20,6 +20,7 @@ from random_texts import Files
 
 TOP = os.path.dirname(os.path.dirname(os.path.abspath(__file__)))
 READ, NEW = os.O_RDONLY, os.O_WRONLY | os.O_CREAT | os.O_TRUNC
+OUTPUTS = ["--count", "--orders", "--sizes"]
 VALUED = {"--workers": "workers", "--cert": "cert", "--above": "above"}
 
 
@@ -42,8 +43,8 @@ class Asked:
     behind it or behind `=`; one FILE."""
 
     def __init__(self, given):
-        self.help, self.values, self.file = False, {"count": False}, None
-        self.fault = self.read(list(given))
+        self.help, self.values, self.file = False, {}, None
+        self.fault = self.read(list(given)) or not self.help and self.is_at_odds()
 
     def read(self, given):
         """Whether the words are refused."""
@@ -56,10 +57,10 @@ class Asked:
             elif options and word in ("--help", "-h"):
                 self.help = True
                 return False
-            elif options and word == "--count":
-                if self.values["count"]:
+            elif options and word in OUTPUTS:
+                if word in self.values:
                     return True
-                self.values["count"] = True
+                self.values[word] = True
             elif options and name in VALUED:
                 if not equals:
                     if not given or given[0].startswith("-") and given[0] != "-":
@@ -73,6 +74,14 @@ class Asked:
             else:
                 self.file = word
         return self.file is None
+
+    def output(self):
+        """The option that says what is printed, None for the report."""
+        return next((it for it in OUTPUTS if it in self.values), None)
+
+    def is_at_odds(self):
+        """Whether two texts are asked for, or a certificate of all orders."""
+        return sum(it in self.values for it in OUTPUTS) > 1 or "cert" in self.values and self.output() in OUTPUTS[1:]
 
     def is_workers(self, value):
         digits = value[1:] if value[:1] == "+" else value
@@ -158,10 +167,10 @@ class Case:
         if asked.fault or asked.help:
             self.runner.compare("minorder", given, (2, b"", None) if asked.fault else (0, None, b""))
             return
-        count, above, cert = asked.values["count"], asked.values.get("above"), asked.values.get("cert")
+        output, above, cert = asked.output(), asked.values.get("above"), asked.values.get("cert")
         if content_of("out.cert") is not None:
             os.remove("out.cert")
-        makes = cert is not None and not count
+        makes = cert is not None and output is None
         if asked.file != "in.pla" and (asked.file != "a_folder") or makes and cert not in ("out.cert", "in.pla"):
             wanted, out = (5, b"", b"minorder: Device\n"), ("out.cert", None)
         elif asked.file == "a_folder":
@@ -170,17 +179,19 @@ class Case:
             wanted, out = (3, b"", b"minorder: line 0: MissingHead\n"), ("in.pla", b"")
         else:
             written = []
-            wanted = answered("minorder", lambda: self.answer(count, above, written))
+            wanted = answered("minorder", lambda: self.answer(output, above, written))
             out = "out.cert", (written[0] if written else b"") if makes else None
         self.runner.compare("minorder", given, wanted, out)
         if cert == "in.pla":
             put("in.pla", self.content)
 
-    def answer(self, count, above, written):
+    def answer(self, output, above, written):
         functions = self.functions_or_fault()
-        if count:
+        if output == "--count":
             return plain.count(functions)
         pairs = () if above is None else plain.pairs_of(above, functions.n)
+        if output is not None:
+            return (plain.orders if output == "--orders" else plain.sizes_of_orders)(functions, pairs)
         written.append(plain.certificate(self.cover, functions, pairs).text().encode())
         return plain.report(self.cover, functions, pairs)
 
@@ -211,11 +222,12 @@ class Case:
             usual, odd = ["1", "2", "3", "4", "7", "64"], ["0", "65", "", "x", "007", "+3", "1.5", "-1", "999", "4 "]
             workers = draw.choice(usual if chance(0.95) else odd)
             found.append(draw.choice([["--workers", workers], [f"--workers={workers}"]]))
-        if chance(0.6):
+        output = draw.choice(OUTPUTS) if chance(0.35) else None
+        if chance(0.6 if output is None else 0.1):
             cert = "out.cert" if chance(0.96) else draw.choice(["in.pla", "no_folder/out", "", "a_folder"])
             found.append(draw.choice([["--cert", cert], [f"--cert={cert}"]]))
-        if chance(0.15):
-            found.append(["--count"])
+        if output is not None:
+            found.append([output])
         if chance(0.4):
             pairs = self.files.pairs(self.cover.inputs if self.cover else 3)
             found.append([f"--above={pairs}"] if chance(0.5) else ["--above", pairs])
