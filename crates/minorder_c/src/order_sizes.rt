@@ -50,7 +50,14 @@ pub extern "C" fn minorder_sizes_with_pairs(
         Ok(all) => all,
         Err(refusal) => return refusal.status(),
     };
-    match sizes_of_orders(&CallingThread, alloc, all.tables.problem(), &all.pairs, &all.widths, most) {
+    match sizes_of_orders(
+        &CallingThread,
+        alloc,
+        all.tables.problem(),
+        &all.pairs,
+        &all.widths,
+        most,
+    ) {
         Ok(found) => {
             *fewest = found.least;
             *sizes = found.orders.len();

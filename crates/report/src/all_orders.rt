@@ -111,7 +111,14 @@ pub(crate) fn orders_answer<R: Threads + Sync>(
     let sifted_size = sifted_size_of(rt, alloc, &instance)?;
     let widths = widths_of(rt, alloc, tables.problem(), workers)?;
     let counter = ByWorkers { rt, workers };
-    let report = orders_report(&counter, alloc, tables.problem(), pairs, &widths, sifted_size)?;
+    let report = orders_report(
+        &counter,
+        alloc,
+        tables.problem(),
+        pairs,
+        &widths,
+        sifted_size,
+    )?;
     let text = orders_text(alloc, &report)?;
     Ok(text)
 }

@@ -1,5 +1,6 @@
 -- What is counted of a cover's truth tables answers --orders and --sizes for the cover.
 --     sizes_answered      the counts of all sizes make the text of --sizes
+--     some_orders      some order keeps the pairs
 --     orders_answered      the figures make that of --orders
 use Rattle.std.proofs.Common.{◌≡◌, ℕ, zero, suc, ◌+◌, ◌-◌, ◌^◌, ◌<◌, ◌≤◌, max, inl, inr, List, [], ◌∷◌, ◌++◌, length, map, get_or, nat_eq, nat_lt, refl, sym, ap, ◌∙◌, subst, append-nil, arith}
 use Rattle.std.specs.List.{count_by, flat_map, fold, range_with_len, sum_by}
@@ -7,6 +8,7 @@ use Rattle.std.proofs.lemmas.Bool.{cases_lt}
 use Rattle.std.proofs.lemmas.Grind.{flat_map-append}
 use Rattle.std.proofs.lemmas.List.{get_or_past}
 use Rattle.std.proofs.lemmas.List.Concat.{flat_map-cons}
+use Rattle.std.proofs.lemmas.List.Sums.{count_by-le-length}
 use Rattle.definitions.specs.Functions.{Function}
 use Rattle.definitions.specs.Orders.{IsOrder, variables}
 use Rattle.definitions.specs.Pairs.{IsFirstOrder, Keeps, Pair}
@@ -86,6 +88,14 @@ module _ (n : ℕ) (F : List Function) (P : List Pair) (base : List ℕ) (o : Is
       let there = most_is_counted n F P base o k in
       let all = sizes_are_ways n P base o k F (most n F P) ∙ ap (λ S. ways n F P S (most n F P)) (sym (members_all n)) in
       costs_small n F few outputs P (2 ^ n - 1) (most n F P) (omega (arith, there, all))
+
+  -- some order keeps the pairs
+  pub some_orders : 0 < length (all_orders n P)
+  unfolding orders_of_size
+  some_orders =
+      let there = most_is_counted n F P base o k in
+      let all = count_by-le-length (λ order. nat_eq (size_under n F order) (most n F P)) (all_orders n P) in
+      omega (arith, there, all)
 
   counted_lines : (s : CostCounts) (last : ℕ) → 262148 ≤ last → AreSizesOfOrders n F P last s.least s.orders.items →
       flat_map (size_line (counts_at s)) (range_with_len s.least (length s.orders.items))
