@@ -146,6 +146,14 @@ def random_ones(comparison: Comparison, count: int) -> None:
 
 # ---- limits
 
+def conjunction(inputs: int) -> str:
+    """The certificate of the conjunction of all inputs, which lists all sets."""
+    cells = [f"{mask:04x} {bin(mask).count('1')}" for mask in range((1 << inputs) - 1)]
+    order, levels = " ".join(map(str, range(inputs))), " ".join("1" * inputs)
+    head = ["bddorder-certificate 2", f"inputs {inputs}", "outputs 1", f"order {order}", f"levels {levels}", f"total {inputs}"]
+    return "\n".join([*head, "pairs 0", f"cells {len(cells)}", *cells, "end", ""])
+
+
 def limits(comparison: Comparison) -> None:
     pla, certificate = pathlib.Path("it.pla"), pathlib.Path("it.cert")
     head, good = b".i 3\n.o 1\n", pathlib.Path("multiplexer.cert").read_bytes()
@@ -155,6 +163,10 @@ def limits(comparison: Comparison) -> None:
                             (b"1-- 1\n" * (whole // 6), ""), (b".p " + b"1" * MEGABYTE, "line 3: BadNumber")):
         pla.write_bytes(head + content)
         comparison.same((3, "", f"{errors}\n") if errors else (1, "invalid Levels\n", ""), pla, certificate)
+    for inputs, terms in ((2, 3_000_000), (16, 1)):
+        pla.write_bytes(b".i %d\n.o 1\n" % inputs + (b"1" * inputs + b" 1\n") * terms)
+        certificate.write_text(conjunction(inputs))
+        comparison.same((0, f"valid {inputs}\n", ""), pla, certificate)
     pla.write_bytes(pathlib.Path("multiplexer.pla").read_bytes())
     for content, errors in ((good + b"\n" * rest, " line 14: TrailingText"), (good + b"\n" * (rest + 1), ": TooLong"),
                             (b"\n" * MEGABYTE, " line 1: BadLine"), (b" " * MEGABYTE, " line 1: MissingLine"),
