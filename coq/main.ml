@@ -1,8 +1,6 @@
 (* ordercheck-coq FILE CERT: prints what the checker answers, with the lines and statuses of ordercheck. *)
 open Checked
 
-external end_with_4_if_out_of_memory : unit -> unit = "end_with_4_if_out_of_memory"
-
 let usage = "Usage: ordercheck-coq FILE CERT"
 let pla_limit = 16_777_216
 let certificate_limit = 1_048_576
@@ -46,7 +44,6 @@ and called_with = function
   | _ -> prerr_endline usage; 2
 
 let () =
-  end_with_4_if_out_of_memory ();
   exit
     (try
        Gc.set { (Gc.get ()) with minor_heap_size = 1 lsl 22; space_overhead = 150 };

@@ -1,7 +1,7 @@
-/* OCaml's runtime aborts a program when memory runs out in a minor collection: here it ends with status 4. */
+/* Where memory runs out at its start or in a minor collection OCaml's runtime aborts a program:
+   here it ends with status 4. */
 #define CAML_INTERNALS
 #include <caml/misc.h>
-#include <caml/mlvalues.h>
 #include <stdarg.h>
 #include <unistd.h>
 
@@ -13,7 +13,4 @@ static void out_of_memory(char *message, va_list arguments) {
     _exit(4);
 }
 
-value end_with_4_if_out_of_memory(value unit) {
-    caml_fatal_error_hook = out_of_memory;
-    return unit;
-}
+__attribute__((constructor)) static void before_the_runtime(void) { caml_fatal_error_hook = out_of_memory; }

@@ -178,8 +178,10 @@ def limits(comparison: Comparison) -> None:
         comparison.same((5, "", "Device\n"), *words)
     for words in (("-x", "it.cert"), ("it.pla", "it.cert", "it.cert"), ("it.pla",)):
         comparison.same((2, "", ""), *words)
-    ran = subprocess.run(["sh", "-c", f"ulimit -v 24000; {CHECKER} {pla} {certificate}"], capture_output=True, text=True)
-    assert (ran.returncode, ran.stderr) == (4, "ordercheck-coq: OutOfMemory\n"), ran
+    for kilobytes in (8_000, 24_000):
+        script = f"ulimit -v {kilobytes}; exec {CHECKER} {pla} {certificate}"
+        ran = subprocess.run(["sh", "-c", script], capture_output=True, text=True)
+        assert (ran.returncode, ran.stderr) == (4, "ordercheck-coq: OutOfMemory\n"), ran
     with open("/dev/full", "w") as full:
         assert subprocess.run([CHECKER, pla, certificate], stdout=full, stderr=subprocess.DEVNULL).returncode == 5
 
