@@ -54,7 +54,7 @@ class Asked:
             name, equals, value = word.partition("=")
             if options and word == "--":
                 options = False
-            elif options and word in ("--help", "-h"):
+            elif options and word in ("--help", "-h", "--version", "-V"):
                 self.help = True
                 return False
             elif options and word in OUTPUTS:
