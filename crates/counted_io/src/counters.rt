@@ -10,16 +10,14 @@ use std::io;
 use std::io::{Read, Write};
 use std::marker::Model;
 
-/// A reader that counts its failed calls: those that return an error.
+/// A reader that counts its failed calls.
 pub trait CountedRead {
     // The bytes that reads will give from here on, if they are known.
     ghost remaining: { Self → Option (List ℕ) } = { λ _. None };
-    // How many calls have failed, counted up to the greatest value of a u64.
+    // The failed calls, counted up to the greatest value of a u64.
     ghost failures: { Self → ℕ };
 
-    /// Reads bytes into the front of `buf` as std's `Read::read` does, and returns how many: 0 at
-    /// the end, or if `buf` is empty. If it returns an error, the reader's count of failed calls
-    /// rises by 1, but not above 2^64 - 1.
+    /// Reads bytes as std's `Read::read` does. The count rises with each error.
     fn read_some(&mut self, buf: &mut [u8]) -> io::Result<usize>
         ensures bound { ReadsAtMost result buf.new }
         ensures bytes { ReadConsumes (remaining self.old) (remaining self.new) result buf.new }
@@ -27,17 +25,14 @@ pub trait CountedRead {
             ≡ (if is_ok result then failures self.old else one_more (failures self.old)) };
 }
 
-/// A writer that counts its failed calls: those that return an error, or take no byte of a text
-/// that isn't empty.
+/// A writer that counts its failed calls: those that fail, or take no byte of a text with some.
 pub trait CountedWrite {
     // The bytes that the writer holds, if they are known.
     ghost contents: { Self → Option (List ℕ) } = { λ _. None };
-    // How many calls have failed, counted up to the greatest value of a u64.
+    // The failed calls, counted up to the greatest value of a u64.
     ghost failures: { Self → ℕ };
 
-    /// Writes bytes from the front of `buf` as std's `Write::write` does, and returns how many were
-    /// taken. If it returns an error, or takes no byte of a `buf` that isn't empty, the writer's
-    /// count of failed calls rises by 1, but not above 2^64 - 1.
+    /// Writes bytes as std's `Write::write` does.
     fn write_some(&mut self, buf: &[u8]) -> io::Result<usize>
         ensures bound { WritesAtMost result buf.now }
         ensures bytes { WriteAppends (contents self.old) (contents self.new) result buf.now }
@@ -48,9 +43,7 @@ pub trait CountedWrite {
 /// A reader or a writer with a count of its failed calls.
 #[derive(Drop)]
 pub struct Counting<T> {
-    /// The reader or writer.
     inner: T,
-    /// How many of its calls failed. The count stays at the greatest value of a u64.
     failed: u64,
 }
 
@@ -87,8 +80,6 @@ impl<T: Read> CountedRead for Counting<T> {
 
     ghost failures = { λ c. c.failed };
 
-    /// Reads bytes into the front of `buf`, and returns how many: 0 at the end, or if `buf` is
-    /// empty. If it returns an error, the count of failed calls rises by 1, but not above 2^64 - 1.
     fn read_some(&mut self, buf: &mut [u8]) -> io::Result<usize> {
         let result = self.inner.read(buf);
         if result.is_err() {
@@ -103,9 +94,6 @@ impl<T: Write> CountedWrite for Counting<T> {
 
     ghost failures = { λ c. c.failed };
 
-    /// Writes bytes from the front of `buf`, and returns how many were taken. If it returns an
-    /// error, or takes no byte of a `buf` that isn't empty, the count of failed calls rises by 1,
-    /// but not above 2^64 - 1.
     fn write_some(&mut self, buf: &[u8]) -> io::Result<usize> {
         let result = self.inner.write(buf);
         let failed = match &result {

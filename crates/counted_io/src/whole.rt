@@ -1,5 +1,3 @@
-//! Reading a device to its end, and writing a whole text.
-
 ghost use Rattle.std.specs.Prelude.{◌≡◌, ◌^◌, ◌<◌, ◌≤◌, ℕ, IfSome, IfOk, IfErr, OnOk, OnErr, IsErrOf, take, vec_len};
 ghost use Rattle.std.specs.Io.KnownBytes.{Appends, IsAtEnd};
 ghost use Rattle.counted_io.specs.Counts.{one_more};
@@ -19,14 +17,11 @@ pub enum Refused {
     OutOfMemory,
 }
 
-/// The first allocation for a file's bytes: 4 MiB, enough for most files. Pages of it that are
-/// never written cost nothing, and once it is freed the C library keeps memory of that size for
-/// later allocations.
+/// 4 MiB, enough for most files. Pages that are never written cost nothing, and once the memory is
+/// freed the C library keeps it for later allocations.
 const FIRST_ROOM: usize = 1 << 22;
 
-/// Reads a device to its end, and returns the bytes read. The error is `TooLong` if there are more
-/// than `limit` bytes, `Device` if a call of the device fails, and `OutOfMemory` if an allocation
-/// is refused. After an error the bytes that were read are lost. Requires `limit` to be below 2^32.
+/// Reads a device to its end. After an error the bytes that were read are lost.
 pub fn read_all<R: CountedRead>(
     alloc: Global,
     device: &mut R,
@@ -60,8 +55,8 @@ pub fn read_all<R: CountedRead>(
     }
 }
 
-/// Writes the whole of `text`. The only error is `Device`: a call of the device failed or took no
-/// byte. The device has then taken a beginning of the text, which may be empty.
+/// Writes the whole of `text`. The only error is `Device`; the device may then have taken a
+/// beginning of the text.
 pub fn write_whole<W: CountedWrite>(device: &mut W, text: &[u8]) -> Result<(), Refused>
     ensures ok { OnOk result (Appends (W.contents device.old) (W.contents device.new) text.now) }
     ensures ok_calls { OnOk result (W.failures device.new ≡ W.failures device.old) }

@@ -1,25 +1,24 @@
 //! What prunes a search.
 
-/// The rule of the lower bound on the number of nodes above a set of variables. These are the nodes
-/// of the variables outside the set, if the set's variables are the lowest in the order.
+/// The rule of the lower bound on the number of nodes above a set of variables: on nodes of the
+/// variables outside the set, if the set's variables are the lowest in the order.
 #[derive(Clone, Copy, Debug, PartialEq, Eq)]
 pub enum LowerBound {
     /// One node for each variable outside the set on which some function depends.
     Variables,
     /// The maximum of the bound by `Variables` and, over the members x of the set, of max(0, w(x) -
-    /// d(x)) + e(x). Here w(x) is the width of x over the other members, d(x) is the number of
-    /// functions that depend on x, and e(x) is the number of variables outside the set on which
-    /// some function depends that doesn't depend on x.
+    /// d(x)) + e(x). Here w(x) is the width of x over the other members, d(x) the number of
+    /// functions that depend on x, and e(x) the number of variables outside the set on which some
+    /// function depends that doesn't depend on x.
     Widths,
 }
 
 /// What prunes the sets of a search.
 #[derive(Clone, Copy, Debug, PartialEq, Eq)]
 pub struct Limit {
-    /// The upper bound. A set is pruned if its least cost plus the lower bound on the nodes above
-    /// it exceeds this. The least cost is the least number of nodes of the set's variables, if
-    /// these are the lowest in an order that keeps the pairs.
+    /// The upper bound. A set is pruned if its least cost (the fewest nodes of its variables, if
+    /// these are the lowest in an order that keeps the pairs) plus the lower bound above it exceeds
+    /// this.
     pub bound: u32,
-    /// The rule of the lower bound on the nodes above a set.
     pub lower_bound: LowerBound,
 }

@@ -7,8 +7,8 @@ ghost use Rattle.definitions.specs.Problems.{IsClean, packed_bit, table_in, word
 
 use crate::variables::VarIx;
 
-/// The number of words of 64 points in the packed truth table of a function of n variables:
-/// `2^n / 64`, but at least 1. Requires n to be at most 16.
+/// The number of words in the packed truth table of a function of n variables: `2^n / 64`, but at
+/// least 1.
 pub fn words_per_table(n: u8) -> usize
     requires { n ≤ 16 }
     ensures value { result ≡ size_of n }
@@ -18,8 +18,7 @@ pub fn words_per_table(n: u8) -> usize
     ((1usize << n) + 63) / 64
 }
 
-/// Table number `table`, counted from 0, of the packed truth tables that stand one after the other
-/// in `words`, each of `size` words. Requires `words` to have this table.
+/// Table number `table` of the packed truth tables that stand one after the other in `words`.
 pub fn block(words: &[u64], size: usize, table: usize) -> &[u64]
     requires { table * size + size ≤ length words.now }
     ensures { result.now ≡ words_of size words.now table }
@@ -29,9 +28,7 @@ pub fn block(words: &[u64], size: usize, table: usize) -> &[u64]
     block
 }
 
-/// The value at `point` of the function with the packed truth table `words`: bit `point % 64` of
-/// word `point / 64`. Bit x of `point` is the value of variable x. Requires `words` to have this
-/// word.
+/// The value at `point`: bit `point % 64` of word `point / 64`. Bit x of `point` is variable x.
 pub fn bit_of(words: &[u64], point: usize) -> bool
     requires { point / 64 < length words.now }
     ensures { result ≡ packed_bit words.now point }
@@ -39,8 +36,7 @@ pub fn bit_of(words: &[u64], point: usize) -> bool
     (words[point / 64] >> (point % 64)) & 1 == 1
 }
 
-/// The word that marks those of 64 points at which variable x is 0: bit k of the word is 1 if bit x
-/// of k is 0, and else 0. Requires x to be below 6.
+/// The word that marks those of 64 points at which variable x is 0.
 pub fn lower_half(x: VarIx) -> u64
     requires { x < 6 }
     ensures { (b : ℕ) → b < 64 → bit_at result b ≡ 1 - bit_at b x }
@@ -55,8 +51,7 @@ pub fn lower_half(x: VarIx) -> u64
     }
 }
 
-/// Whether the function of six variables with the truth table `word` depends on variable x. Bit k
-/// of `word` is the value at point k. Requires x to be below 6.
+/// Whether the function of six variables with the truth table `word` depends on variable x.
 fn halves_differ(word: u64, x: VarIx) -> bool
     requires { x < 6 }
     ensures differ { IsTrue result →
@@ -69,8 +64,7 @@ fn halves_differ(word: u64, x: VarIx) -> bool
 }
 
 /// Whether the function with the packed truth table `words` depends on variable r + 6, which is bit
-/// `r` of a word's index. Requires r to be below 10, and the number of words to be a multiple of
-/// `2^(r + 1)` and at most 1024.
+/// `r` of a word's index.
 fn rows_differ(words: &[u64], r: u8) -> bool
     requires few { length words.now ≤ 1024 }
     requires small { r < 10 }
@@ -91,8 +85,6 @@ fn rows_differ(words: &[u64], r: u8) -> bool
 }
 
 /// Whether the function of n variables with the packed truth table `words` depends on variable x.
-/// Requires x to be below n, n to be at most 16, and `words` to have `2^n / 64` words. With n below
-/// 6 it has one word instead, whose bits from `2^n` on are 0.
 pub fn depends_on(n: u8, words: &[u64], x: VarIx) -> bool
     requires few { n ≤ 16 }
     requires variable { x < n }

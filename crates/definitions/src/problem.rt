@@ -1,5 +1,3 @@
-//! Problems: truth tables of up to 16 functions of the same variables.
-
 ghost use Rattle.std.specs.Prelude.{◌≡◌, ◌+◌, ◌<◌, ◌≤◌, ◌^◌, false, true, length, set, replicate, IfOk};
 ghost use Rattle.definitions.specs.Problems.{TruthTables, IsClean, IsPacked, functions, outputs_of, packed_tables, table_at, table_in, value_at, words_per_table as size_of};
 ghost use Rattle.std.specs.List.{list_any, filter};
@@ -12,13 +10,10 @@ use crate::variables::{Mask, VarIx};
 use std::alloc::{AllocError, Global};
 use std::marker::Model;
 
-/// The truth tables of 1 to 16 functions of 1 to 16 variables. Bit i of a point's number is the
-/// value of variable i.
+/// The truth tables of 1 to 16 functions of 1 to 16 variables. Bit i of a point is variable i.
 #[derive(Debug, Drop)]
 pub struct Problem {
-    /// The number of variables.
     inputs: u8,
-    /// The number of functions.
     outputs: u8,
     /// The packed truth tables, one after the other, each of `words_per_table(inputs)` words.
     words: Vec<u64>,
@@ -33,8 +28,7 @@ impl Model for Problem {
 }
 
 impl Problem {
-    /// A problem of n variables and m functions, all of whose values are 0. Requires n and m to be
-    /// from 1 to 16.
+    /// The problem of n variables and m functions whose values are all 0.
     pub fn new(alloc: Global, n: u8, m: u8) -> Result<Problem, AllocError>
         requires some_inputs { 1 ≤ n }
         requires few_inputs { n ≤ 16 }
@@ -52,10 +46,8 @@ impl Problem {
         })
     }
 
-    /// The problem of `inputs` variables and `outputs` functions whose packed truth tables stand
-    /// one after the other in `words`. Requires both numbers to be from 1 to 16, and each table to
-    /// have `2^inputs / 64` words. With `inputs` below 6 it has one word instead, whose bits from
-    /// `2^inputs` on are 0.
+    /// The problem whose packed truth tables stand one after the other in `words`. With fewer than
+    /// 6 variables each has one word, whose bits from `2^inputs` on are 0.
     pub fn from_words(inputs: u8, outputs: u8, words: Vec<u64>) -> Problem
         requires { IsPacked inputs outputs words.items }
         ensures { result ≡ packed_tables inputs outputs words.items }
@@ -85,9 +77,7 @@ impl Problem {
         self.outputs
     }
 
-    /// The value at `point` of function `output`, counted from 0. Bit x of `point` is the value of
-    /// variable x. Requires `output` to be below the number of functions, and `point` below `2^n`,
-    /// where n is the number of variables.
+    /// The value at `point` of function `output`, counted from 0.
     pub fn value(&self, output: u8, point: u32) -> bool
         requires output { output < outputs_of self.now }
         requires point { point < 2 ^ self.now.inputs }
@@ -96,9 +86,7 @@ impl Problem {
         bit_of(self.words(output), point as usize)
     }
 
-    /// Sets function `output`, counted from 0, to 1 at `point`; all other values stay. Bit x of
-    /// `point` is the value of variable x. Requires `output` to be below the number of functions,
-    /// and `point` below `2^n`, where n is the number of variables.
+    /// Sets function `output`, counted from 0, to 1 at `point`.
     pub fn set(&mut self, output: u8, point: u32)
         requires output { output < outputs_of self.old }
         requires point { point < 2 ^ self.old.inputs }
@@ -111,8 +99,7 @@ impl Problem {
     }
 
     /// The packed truth table of function `output`, counted from 0. With n variables, n below 6, it
-    /// is one word, whose bits from `2^n` on are 0. Requires `output` to be below the number of
-    /// functions.
+    /// is one word, whose bits from `2^n` on are 0.
     pub fn words(&self, output: u8) -> &[u64]
         requires { output < outputs_of self.now }
         ensures long { length result.now ≡ size_of self.now.inputs }
@@ -122,7 +109,7 @@ impl Problem {
         block(&self.words, words_per_table(self.inputs), output as usize)
     }
 
-    /// The set of the variables on which some function depends.
+    /// The variables on which some function depends.
     pub fn essential(&self) -> Mask
         ensures { result ≡ essential_mask self.now.inputs (functions self.now) }
     {
@@ -135,7 +122,7 @@ impl Problem {
         mask
     }
 
-    /// Whether some function depends on x, which has to be one of the problem's variables.
+    /// Whether some function depends on x.
     fn has_dependence(&self, x: VarIx) -> bool
         requires { x < self.now.inputs }
         ensures { result ≡ list_any (λ f. depends self.now.inputs f x) (functions self.now) }
@@ -148,8 +135,7 @@ impl Problem {
         false
     }
 
-    /// The set of the variables on which function `output`, counted from 0, depends. Requires
-    /// `output` to be below the number of functions.
+    /// The variables on which function `output`, counted from 0, depends.
     pub fn support(&self, output: u8) -> Mask
         requires { output < outputs_of self.now }
         ensures { result ≡ mask_of (filter

@@ -1,5 +1,3 @@
-//! Nodes of decision diagrams.
-
 use crate::variables::VarIx;
 
 /// What a child of a node, or a root of a diagram, refers to.

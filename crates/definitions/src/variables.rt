@@ -1,5 +1,3 @@
-//! Variables, sets of variables, and the number of workers.
-
 ghost use Rattle.std.specs.Prelude.{◌≡◌, ◌<◌, ◌≤◌, ℕ, ◌↔◌, IsTrue, IsNone, IsSome, IfSome};
 ghost use Rattle.std.specs.Int.{bit_at};
 
@@ -11,8 +9,8 @@ pub type VarIx = u8;
 /// A set of variables: bit x stands for variable x.
 pub type Mask = u16;
 
-/// The widths of a set's members, as far as they are needed: entry x is the width of member x over
-/// the set without x. All other entries may have any value.
+/// The widths of a set's members: entry x is the width of member x over the set without x. All
+/// other entries may have any value.
 pub type WidthRow = [u32; 16];
 
 /// Whether variable x, from 0 to 15, is in `set`.
@@ -24,8 +22,7 @@ pub fn contains(set: Mask, x: VarIx) -> bool
     (set >> x) & 1 == 1
 }
 
-/// The smallest member of `set` that is at least `from`. None if there is none. Requires `from` to
-/// be at most 16.
+/// The smallest member of `set` that is at least `from`. None if there is none.
 #[inline(always)]
 pub fn next_member(set: Mask, from: VarIx) -> Option<VarIx>
     requires { from ≤ 16 }

@@ -11,9 +11,7 @@ use crate::orders::Order;
 use definitions::{Node, Ref, VarIx};
 use std::marker::Model;
 
-/// The child of `node` that evaluation at `point` takes: the high child if the node's variable is 1
-/// at the point, else the low one. Bit x of `point` is the value of variable x. Requires the node's
-/// variable to be below `variables`, the number of variables, which is at most 16.
+/// The child of `node` that evaluation at `point` takes. Bit x of `point` is variable x.
 fn child(variables: u8, node: Node, point: u32) -> Ref
     requires variables { variables ≤ 16 }
     requires node { node.variable < variables }
@@ -26,9 +24,7 @@ fn child(variables: u8, node: Node, point: u32) -> Ref
     }
 }
 
-/// The value at `point` of the function with root `root`. Bit x of `point` is the value of variable
-/// x. Requires `root` to be a terminal or one of `nodes`. Each node has to stand after its
-/// children, and have a variable below `variables`, the number of variables, which is at most 16.
+/// The value at `point` of the function with root `root`. Bit x of `point` is variable x.
 pub fn eval(variables: u8, nodes: &[Node], root: Ref, point: u32) -> bool
     requires variables { variables ≤ 16 }
     requires nodes { AreNodes variables nodes.now }
@@ -44,8 +40,7 @@ pub fn eval(variables: u8, nodes: &[Node], root: Ref, point: u32) -> bool
     }
 }
 
-/// The number of nodes of each variable: entry x is that of variable x. Requires each node's
-/// variable to be below 16, and fewer than 2^32 nodes.
+/// The number of nodes of each variable.
 fn counts_by_variable(nodes: &[Node]) -> [u32; 16]
     requires few { length nodes.now < 2 ^ 32 }
     requires variables { All (λ (node : Node). node.variable < 16) nodes.now }
@@ -59,9 +54,7 @@ fn counts_by_variable(nodes: &[Node]) -> [u32; 16]
     counts
 }
 
-/// Node counts by level, top first, under the order `order`: entry i is `counts[x]`, where x is
-/// `order[i]`. `counts[x]` is the number of nodes of variable x. Entries past the last level are 0.
-/// Requires `order` to have at most 16 variables, each below 16.
+/// Node counts by level, top first, of the counts by variable. Entries past the last level are 0.
 fn in_order(order: &[VarIx], counts: [u32; 16]) -> [u32; 16]
     requires few { length order.now ≤ 16 }
     requires variables { All (λ x. x < 16) order.now }
@@ -76,16 +69,13 @@ fn in_order(order: &[VarIx], counts: [u32; 16]) -> [u32; 16]
     levels
 }
 
-/// A decision diagram with one root per function, and an order of its variables. Calls that need it
-/// to be reduced, or its nodes to follow the order, require this. The size of the diagram is the
-/// number of its nodes, whether a root reaches them or not.
+/// A decision diagram with one root per function. It need not be reduced, and its nodes need not
+/// follow its order. Its size is the number of its nodes, whether a root reaches them or not.
 #[derive(Debug, Drop)]
 pub struct Diagram {
-    /// The order of the variables, top first.
     order: Order,
     /// The nodes, each after its children.
     nodes: Vec<Node>,
-    /// The roots, one per function.
     roots: Vec<Ref>,
 }
 
@@ -106,10 +96,7 @@ impl Model for Diagram {
 }
 
 impl Diagram {
-    /// The diagram of `nodes`, with the roots `roots`, one per function, and the order `order`,
-    /// which the nodes need not follow. Requires fewer than 2^32 nodes. Each node has to stand
-    /// after its children and have a variable of `order`, and each root has to be a terminal or one
-    /// of the nodes.
+    /// The diagram of `nodes`, each after its children, which need not follow `order`.
     pub fn new(order: Order, nodes: Vec<Node>, roots: Vec<Ref>) -> Diagram
         requires few { length nodes.items < 2 ^ 32 }
         requires diagram { IsDiagramUnder order nodes.items roots.items }
@@ -155,8 +142,7 @@ impl Diagram {
         self.nodes.len()
     }
 
-    /// The value at `point` of function `output`, counted from 0. Bit x of `point` is the value of
-    /// variable x. Requires `output` to be below the number of roots.
+    /// The value at `point` of function `output`, counted from 0. Bit x of `point` is variable x.
     pub fn eval(&self, output: usize, point: u32) -> bool
         requires { output < length self.now.graph.roots }
         ensures { result ≡ root_value self.now.graph output
@@ -166,8 +152,7 @@ impl Diagram {
         eval(variables, &self.nodes, self.roots[output], point)
     }
 
-    /// The number of nodes of each variable, in the diagram's order, top first. The entries past
-    /// the last variable are 0.
+    /// The number of nodes on each level, top first. Entries past the last level are 0.
     pub fn level_counts(&self) -> [u32; 16]
         ensures counts { (i : ℕ) → i < length self.now.order →
             slice_index result i ≡ nodes_at self.now.graph (slice_index self.now.order i) }
@@ -176,8 +161,7 @@ impl Diagram {
         in_order(self.order.variables(), counts_by_variable(&self.nodes))
     }
 
-    /// Takes the diagram apart and returns its order, its nodes (each after its children), and its
-    /// roots (one per function).
+    /// Takes the diagram apart: its order, its nodes and its roots.
     pub fn into_parts(self) -> (Order, Vec<Node>, Vec<Ref>)
         ensures order { result.0 ≡ self.order }
         ensures nodes { result.1.items ≡ self.graph.nodes }
@@ -188,8 +172,7 @@ impl Diagram {
     }
 }
 
-/// The sum of `counts`. If these are the level counts of a diagram, it is the diagram's size.
-/// Requires at most 16 counts.
+/// The sum of level counts: the size of their diagram.
 pub fn total(counts: &[u32]) -> u64
     requires { length counts.now ≤ 16 }
     ensures { result ≡ sum counts.now }

@@ -1,5 +1,3 @@
-//! Lower bounds on the nodes above a set of variables.
-
 ghost use Rattle.std.specs.Prelude.{◌≡◌, ◌==◌, ◌+◌, ◌^◌, ◌<◌, ◌≤◌, ℕ, List, max, not, length, map, slice_index, take, bit_or};
 ghost use Rattle.std.specs.Int.{bit_at};
 ghost use Rattle.std.specs.List.{filter, fold};
@@ -12,19 +10,16 @@ ghost use Rattle.definitions.specs.LowerBounds.{support};
 use definitions::{LowerBound, Mask, Problem, VarIx, WidthRow, contains, next_member};
 use std::marker::Model;
 
-/// Lower bounds, by one rule, on the nodes above each set of a problem's variables. These are the
-/// nodes of the other variables, if the set's variables are the lowest in the order.
+/// Lower bounds, by one rule, on the nodes above each set of a problem's variables.
 #[derive(Drop)]
 pub struct LowerBounds<'a> {
-    /// The functions of the variables, as truth tables.
     problem: &'a Problem,
-    /// The rule that gives the bounds.
     lower_bound: LowerBound,
-    /// The set of the variables on which some function depends.
+    /// The variables on which some function depends.
     essential: Mask,
     /// Entry x: how many functions depend on variable x.
     dependents: [u32; 16],
-    /// Entry x: the set of the variables on which some function depends that doesn't depend on x.
+    /// Entry x: the variables on which some function depends that doesn't depend on x.
     others: [Mask; 16],
 }
 
@@ -38,8 +33,7 @@ impl<'a> Model for LowerBounds<'a> {
     ghost invariant = { λ r. HoldsLowerBounds r.problem.now r.essential r.dependents r.others };
 }
 
-/// The support of each function, entry j for function j: the set of the variables on which the
-/// function depends. The entries past the last function are empty.
+/// The variables on which each function depends. Entries past the last function are empty.
 fn supports(problem: &Problem) -> [Mask; 16]
     ensures { take (outputs_of problem.now) result ≡ map (support problem.now.inputs)
         (functions problem.now) }
@@ -51,7 +45,6 @@ fn supports(problem: &Problem) -> [Mask; 16]
     found
 }
 
-/// How many of `sets` contain variable x. Requires at most 16 sets, and x to be below 16.
 fn count_with(sets: &[Mask], x: VarIx) -> u32
     requires few { length sets.now ≤ 16 }
     requires variable { x < 16 }
@@ -66,7 +59,6 @@ fn count_with(sets: &[Mask], x: VarIx) -> u32
     count
 }
 
-/// The union of those of `sets` that do not contain variable x. Requires x to be below 16.
 fn union_without(sets: &[Mask], x: VarIx) -> Mask
     requires { x < 16 }
     ensures { result ≡ fold bit_or 0 (filter (λ s. not (bit_at s x == 1)) sets.now) }
@@ -80,7 +72,6 @@ fn union_without(sets: &[Mask], x: VarIx) -> Mask
     union
 }
 
-/// How many variables of `set` are outside `mask`.
 fn count_outside(set: Mask, mask: Mask) -> u64
     ensures few { result ≤ 16 }
     ensures exact { (n : ℕ) (F : List Function) → set ≡ essential_mask n F →
@@ -96,9 +87,7 @@ impl<'a> LowerBounds<'a> {
     ghost use Rattle.definitions.specs.LowerBounds.{AreMembersWidths};
     ghost use Rattle.definitions.specs.declared.limits.LowerBound.TheVariants.{Widths};
 
-    /// The lower bounds, by the rule `lower_bound`, on the nodes above each set of a problem's
-    /// variables: the nodes of the variables outside, if those of the set are the lowest in the
-    /// order.
+    /// The lower bounds of `problem`'s sets by the rule `lower_bound`.
     pub fn new(problem: &'a Problem, lower_bound: LowerBound) -> LowerBounds<'a>
         ensures { result ≡ lower_bounds_with problem.now lower_bound }
     {
@@ -119,7 +108,7 @@ impl<'a> LowerBounds<'a> {
         }
     }
 
-    /// The set of the variables on which some function depends.
+    /// The variables on which some function depends.
     pub fn essential(&self) -> Mask
         ensures { result ≡ essential_mask self.now.problem.inputs (functions self.now.problem) }
     {
@@ -133,9 +122,8 @@ impl<'a> LowerBounds<'a> {
         self.lower_bound
     }
 
-    /// The lower bound on the number of nodes above the set `mask` of the problem's variables.
-    /// Under the rule `Widths`, entry x of `widths` has to be the width of x over the other
-    /// members, for each member x of the set. Under the rule `Variables`, `widths` is not read.
+    /// The lower bound on the nodes above the set `mask`. `widths` is read under the rule `Widths`
+    /// alone: entry x is the width of the member x over the other members.
     pub fn above(&self, mask: Mask, widths: &WidthRow) -> u64
         requires { mask < 2 ^ self.now.problem.inputs }
         ensures few { result < 2 ^ 33 }
@@ -151,10 +139,7 @@ impl<'a> LowerBounds<'a> {
         }
     }
 
-    /// The maximum of `least` and, over the members x of the set `mask`, of
-    /// `max(0, widths[x] - d) + e`. Here `widths[x]` is the width of x over the other members, d is
-    /// the number of functions that depend on x, and e is the number of variables outside the set
-    /// on which some function depends that does not depend on x. Requires `least` to be below 2^33.
+    /// The maximum of `least` and what the width of each member of `mask` requires.
     fn most_asked(&self, mask: Mask, widths: &WidthRow, least: u64) -> u64
         requires within { mask < 2 ^ self.now.problem.inputs }
         requires least { least < 2 ^ 33 }
@@ -173,10 +158,8 @@ impl<'a> LowerBounds<'a> {
         most
     }
 
-    /// The number of nodes above the set `mask` that the width of its member x requires: `max(0,
-    /// width - d) + e`. Here `width` is the width of x over the set without x, d is the number of
-    /// functions that depend on x, and e is the number of variables outside the set on which some
-    /// function depends that does not depend on x.
+    /// The nodes above the set `mask` that the width of its member x requires: `max(0, width - d) +
+    /// e`, as `LowerBound::Widths` has them.
     fn nodes_for_width(&self, mask: Mask, x: VarIx, width: u32) -> u64
         requires { x < self.now.problem.inputs }
         ensures few { result < 2 ^ 33 }

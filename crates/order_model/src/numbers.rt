@@ -1,10 +1,7 @@
-//! Decimal numbers in texts.
-
 ghost use Rattle.std.specs.Prelude.{◌≡◌, IsTrue, IfSome, IfNone, false};
 ghost use Rattle.definitions.specs.Texts.{is_number, number_of};
 
-/// The value of a word of one to nine decimal digits, or None for any other word. Leading zeros are
-/// allowed.
+/// The value of a word of one to nine decimal digits, which may begin with zeros.
 #[tactic(auto, using(definitions::proofs::Lists::Digits::digit_is, definitions::proofs::Lists::Digits::pow_small))]
 pub fn decimal_number(word: &[u8]) -> Option<u32>
     ensures some { IfSome result

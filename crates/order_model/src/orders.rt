@@ -1,5 +1,3 @@
-//! Orders of the variables.
-
 ghost use Rattle.std.specs.Prelude.{◌≡◌, ◌↔◌, ◌+◌, ◌<◌, ◌≤◌, ℕ, length, swap, IfOk, IfErr, OnOk, IsTrue, IsFalse, List, nat_eq};
 ghost use Rattle.std.specs.Bool.{OnTrue};
 ghost use Rattle.std.specs.List.{All, IsDistinct};
@@ -24,7 +22,6 @@ impl Model for Order {
     ghost invariant = { λ o. Accepts o.variables.items };
 }
 
-/// Whether `variables` has 1 to 16 variables, each below the length of the list.
 fn is_in_range(variables: &[VarIx]) -> bool
     ensures { IsTrue result ↔ IsInRange variables.now }
 {
@@ -32,7 +29,6 @@ fn is_in_range(variables: &[VarIx]) -> bool
     1 <= n && n <= 16 && variables.iter().all(|x| (*x as usize) < n)
 }
 
-/// Whether some variable occurs more than once in `variables`. Requires each to be below 16.
 fn has_repeat(variables: &[VarIx]) -> bool
     requires { All (λ x. x < 16) variables.now }
     ensures repeated { OnTrue result (IsDistinct nat_eq variables.now → ⊥) }
@@ -48,7 +44,6 @@ fn has_repeat(variables: &[VarIx]) -> bool
     false
 }
 
-/// The index of variable x in `variables`. Requires the list to have x, and no variable twice.
 fn place_in_list(variables: &[VarIx], x: VarIx) -> usize
     requires distinct { IsDistinct nat_eq variables.now }
     requires there { IsTrue (has variables.now x) }
@@ -64,9 +59,8 @@ fn place_in_list(variables: &[VarIx], x: VarIx) -> usize
 }
 
 impl Order {
-    /// The order with these variables, top first. The error is `OutOfRange` unless there are 1 to
-    /// 16 variables, each below the length of the list. Otherwise it is `NotEach` if a variable is
-    /// repeated, and `OutOfMemory` if an allocation is refused.
+    /// The order with these variables, top first. The error is `OutOfRange` if there are not 1 to
+    /// 16 below their number, else `NotEach` if one is repeated, or `OutOfMemory`.
     pub fn try_from_slice(alloc: Global, variables: &[VarIx]) -> Result<Order, BadOrder>
         ensures accepted { OnOk result (Accepts variables.now) }
         ensures value { IfOk result (λ order. order ≡ variables.now) }
@@ -84,8 +78,7 @@ impl Order {
         }
     }
 
-    /// The order with these variables, top first. Requires 1 to 16 of them, each variable below the
-    /// length of the list exactly once.
+    /// The order with these variables, top first.
     pub fn from_variables(variables: Vec<VarIx>) -> Order
         requires { Accepts variables.items }
         ensures { result ≡ variables.items }
@@ -93,7 +86,7 @@ impl Order {
         Order { variables }
     }
 
-    /// The file order of n variables: 0, 1, .., n-1. Requires n to be from 1 to 16.
+    /// The file order of n variables: 0, 1, .., n-1.
     pub fn file_order(alloc: Global, n: u8) -> Result<Order, AllocError>
         requires some { 1 ≤ n }
         requires few { n ≤ 16 }
@@ -124,7 +117,7 @@ impl Order {
         &self.variables
     }
 
-    /// The place of variable x, counted from 0 at the top. Requires the order to have x.
+    /// The place of variable x, counted from 0 at the top.
     pub fn place_of(&self, x: VarIx) -> usize
         requires { x < length self.now }
         ensures place { result ≡ place_in self.now x }
@@ -134,7 +127,6 @@ impl Order {
     }
 
     /// Swaps the variable at place `level`, counted from 0 at the top, and the one just below it.
-    /// Requires `level` not to be the lowest place.
     pub fn swap(&mut self, level: usize)
         requires { level + 1 < length self.old }
         ensures { self.new ≡ swap self.old level (level + 1) }

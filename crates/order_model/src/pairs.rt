@@ -1,5 +1,3 @@
-//! Pairs of variables that an order must keep.
-
 ghost use Rattle.std.specs.Prelude.{◌≡◌, ◌==◌, ◌↔◌, ◌^◌, ◌<◌, ◌≤◌, ℕ, List, Option, Some, [], length, position, IsTrue, IfSome, IfNone, IfOk};
 ghost use Rattle.std.specs.Int.{bit_at};
 ghost use Rattle.definitions.specs.Orders.{has, members};
@@ -12,11 +10,9 @@ use definitions::{Mask, PairsFault, VarIx, contains};
 use std::alloc::{AllocError, Global};
 use std::marker::Model;
 
-/// Pairs (a, b) of variables. An order keeps the pairs if a stands above b for each pair. At least
-/// one order keeps them, because they lead from no variable back to itself.
+/// Pairs (a, b) of variables. An order keeps them if each a stands above its b, as some order does.
 #[derive(Debug, Drop)]
 pub struct Pairs {
-    /// The number of variables.
     inputs: u8,
     // bit b of below[a] stands for the pair (a, b)
     below: [Mask; 16],
@@ -32,8 +28,7 @@ impl Model for Pairs {
     ghost invariant = { λ p. HoldsKept p.inputs p.below };
 }
 
-/// The variable that `word` states: a decimal from 0 to 15 without leading zeros. None for any
-/// other word.
+/// The variable that `word` states: a decimal from 0 to 15 without leading zeros.
 fn number(word: &[u8]) -> Option<VarIx>
     ensures { result ≡ variable_of word.now }
 {
@@ -44,7 +39,6 @@ fn number(word: &[u8]) -> Option<VarIx>
     }
 }
 
-/// The index of the first comma in `part`. None if there is no comma.
 fn comma_place(part: &[u8]) -> Option<usize>
     ensures first { result ≡ position (λ byte. byte == 44) part.now }
     ensures within { IfSome result (λ place. place < length part.now) }
@@ -52,8 +46,7 @@ fn comma_place(part: &[u8]) -> Option<usize>
     part.iter().position(|byte| *byte == b',')
 }
 
-/// The pair (a, b), where a must stand above b, that `part` states as `a,b`: two decimals from 0 to
-/// 15 without leading zeros. None if `part` is not of this form.
+/// The pair (a, b) that `part` states as `a,b`.
 fn pair(part: &[u8]) -> Option<(VarIx, VarIx)>
     ensures { result ≡ pair_of part.now }
 {
@@ -63,9 +56,7 @@ fn pair(part: &[u8]) -> Option<(VarIx, VarIx)>
     Some((above, below))
 }
 
-/// The pairs that a text such as `2,0:1,0` lists, here (2, 0) and (1, 0), as masks: bit b of entry
-/// a stands for the pair (a, b). None if a part between colons is not two decimals from 0 to 15,
-/// without leading zeros, with a comma between them.
+/// The pairs that a text such as `2,0:1,0` lists, as masks: bit b of entry a stands for (a, b).
 fn listed_masks(text: &[u8]) -> Option<[Mask; 16]>
     ensures { AreMasksOf (listed text.now) result }
 {
@@ -77,8 +68,7 @@ fn listed_masks(text: &[u8]) -> Option<[Mask; 16]>
     Some(below)
 }
 
-/// Whether all variables of the pairs are below n, which is at most 16. Bit b of `below[a]` stands
-/// for the pair (a, b).
+/// Whether all variables of the pairs are below n.
 fn are_within(below: &[Mask; 16], n: u8) -> bool
     requires { n ≤ 16 }
     ensures { IsTrue result ↔ AreWithin n below.now }
@@ -92,9 +82,7 @@ fn are_within(below: &[Mask; 16], n: u8) -> bool
     true
 }
 
-/// One step of Warshall's transitive closure: for each a that reaches k, `reached[a]` gets all
-/// variables that k reaches. Bit b of `reached[a]` is 1 if a reaches b. Other bits stay. Requires k
-/// to be below 16.
+/// One step of Warshall's transitive closure: each a that reaches k reaches all that k reaches.
 fn join_through(reached: &mut [Mask; 16], k: VarIx)
     requires { k < 16 }
     ensures { IsJoined reached.old k reached.new }
@@ -107,8 +95,7 @@ fn join_through(reached: &mut [Mask; 16], k: VarIx)
     }
 }
 
-/// The smallest variable from which a chain of one or more pairs leads back to it, where (a, b)
-/// leads from a to b. None if there is none. Bit b of `below[a]` stands for the pair (a, b).
+/// The smallest variable from which one or more pairs lead back to it.
 fn least_on_cycle(below: &[Mask; 16]) -> Option<VarIx>
     ensures found { IfSome result (λ v. IsPairCycle (pairs_in 16 below.now) v) }
     ensures none { IfNone result (HasNoCycle (pairs_in 16 below.now)) }
@@ -125,8 +112,7 @@ fn least_on_cycle(below: &[Mask; 16]) -> Option<VarIx>
     None
 }
 
-/// `pairs` as masks: bit b of entry a is 1 if (a, b) is one of them. None if a variable is 16 or
-/// more.
+/// `pairs` as masks. None if a variable is 16 or more.
 fn masks_of(pairs: &[(VarIx, VarIx)]) -> Option<[Mask; 16]>
     ensures some { IfSome result (λ below. AreMasksOf (Some pairs.now) (Some below)) }
     ensures none { IfNone result (AreBelow 16 pairs.now → ⊥) }
@@ -142,10 +128,7 @@ fn masks_of(pairs: &[(VarIx, VarIx)]) -> Option<[Mask; 16]>
     Some(below)
 }
 
-/// The pairs of n variables, n from 1 to 16, that `below` has: bit b of `below[a]` stands for the
-/// pair (a, b). The error is `PairOutOfRange` if a variable of a pair isn't below n. Otherwise, if
-/// the pairs lead from a variable back to itself, it is `PairCycle` with the smallest variable for
-/// which this holds.
+/// The pairs that `below` has. The error is `PairOutOfRange` or `PairCycle`.
 fn of_masks(below: [Mask; 16], n: u8) -> Result<Pairs, PairsFault>
     requires some { 1 ≤ n }
     requires few { n ≤ 16 }
@@ -161,7 +144,7 @@ fn of_masks(below: [Mask; 16], n: u8) -> Result<Pairs, PairsFault>
 }
 
 impl Pairs {
-    /// No pairs of n variables, so that every order keeps them. Requires n to be from 1 to 16.
+    /// No pairs of n variables, so that every order keeps them.
     pub fn none(n: u8) -> Pairs
         requires some { 1 ≤ n }
         requires few { n ≤ 16 }
@@ -174,11 +157,8 @@ impl Pairs {
         }
     }
 
-    /// The pairs of n variables, n from 1 to 16, that a text such as `2,0:1,0` lists, here (2, 0)
-    /// and (1, 0). Duplicates are ignored. The error is `BadPair` if a part between colons is not
-    /// two decimals from 0 to 15, without leading zeros, with a comma between them; else
-    /// `PairOutOfRange` if a variable isn't below n; else, if the pairs lead from a variable back
-    /// to itself, `PairCycle` with the smallest variable for which this holds.
+    /// The pairs of n variables that a text such as `2,0:1,0` lists, here (2, 0) and (1, 0).
+    /// Duplicates are ignored.
     pub fn parse(text: &[u8], n: u8) -> Result<Pairs, PairsFault>
         requires some { 1 ≤ n }
         requires few { n ≤ 16 }
@@ -190,10 +170,8 @@ impl Pairs {
         of_masks(below, n)
     }
 
-    /// The pairs (a, b) of n variables, n from 1 to 16, that `pairs` lists in any arrangement.
-    /// Duplicates are ignored. The error is `PairOutOfRange` if a variable isn't below n.
-    /// Otherwise, if the pairs lead from a variable back to itself, it is `PairCycle` with the
-    /// smallest variable for which this holds.
+    /// The pairs (a, b) of n variables that `pairs` lists in any arrangement. Duplicates are
+    /// ignored.
     pub fn of(pairs: &[(VarIx, VarIx)], n: u8) -> Result<Pairs, PairsFault>
         requires some { 1 ≤ n }
         requires few { n ≤ 16 }
@@ -226,8 +204,7 @@ impl Pairs {
         count
     }
 
-    /// The variables that must stand below variable a: the set of those b for which (a, b) is a
-    /// pair. Requires a to be below the number of variables.
+    /// The variables that must stand below variable a.
     pub fn below(&self, a: VarIx) -> Mask
         requires { a < self.now.inputs }
         ensures pairs { (b : ℕ) → (bit_at result b ≡ 1) ↔ IsTrue (has_pair self.now.pairs a b) }
@@ -252,8 +229,7 @@ impl Pairs {
         Ok(pairs)
     }
 
-    /// Whether `order` keeps the pairs: for each pair (a, b), a stands above b. Requires the order
-    /// and the pairs to be of the same number of variables.
+    /// Whether `order` keeps the pairs.
     pub fn keeps(&self, order: &Order) -> bool
         requires { length order.now ≡ self.now.inputs }
         ensures { result ≡ keeps self.now.pairs order.now }
@@ -268,8 +244,8 @@ impl Pairs {
         true
     }
 
-    /// Whether `set` is lawful, that is downward closed: for each pair (a, b), the set contains b
-    /// if it contains a.
+    /// Whether `set` is lawful, that is downward closed: with a it contains b, for each pair (a,
+    /// b).
     pub fn lawful(&self, set: Mask) -> bool
         ensures { result ≡ is_lawful self.now.pairs (members self.now.inputs set) }
     {
@@ -281,8 +257,6 @@ impl Pairs {
         true
     }
 
-    /// The smallest member of `set` without which the set stays lawful. Requires the set to be
-    /// lawful and not empty.
     fn smallest_top(&self, set: Mask) -> VarIx
         requires some { 0 < set }
         requires within { set < 2 ^ self.now.inputs }

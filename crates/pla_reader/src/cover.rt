@@ -1,5 +1,3 @@
-//! Covers: product terms, and the names of inputs and outputs.
-
 ghost use Rattle.std.specs.Prelude.{◌≡◌, ◌≤◌, length, map};
 ghost use Rattle.std.specs.List.{All};
 ghost use Rattle.std.specs.String.{string_bytes};
@@ -32,9 +30,7 @@ impl Model for Cover {
 }
 
 impl Cover {
-    /// A cover with these names and these product terms. Requires `inputs` and `outputs` to be from
-    /// 1 to 16, one name for each input and each output, by rising number, and terms that have
-    /// literals of these inputs only and belong to these outputs only.
+    /// A cover with these names, by rising number, and these product terms.
     pub(crate) fn new(
         inputs: u8,
         outputs: u8,

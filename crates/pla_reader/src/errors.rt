@@ -1,13 +1,10 @@
-//! Why an input is not read as a cover, and what is wrong with its lines.
-
 use std::alloc::AllocError;
 use thiserror::Error;
 
 /// What is wrong with a line of a PLA description.
 #[derive(Clone, Copy, Debug, PartialEq, Eq, Error)]
 pub enum LineFault {
-    /// A term or names stand before the numbers of inputs and outputs that they require, or the
-    /// description ends without these numbers.
+    /// A term or names stand before the numbers of inputs and outputs, or these are missing.
     #[error("MissingHead")]
     MissingHead,
     /// A directive that may occur only once comes again: `.i`, `.o`, `.ilb`, `.ob` or `.type`.
@@ -19,8 +16,7 @@ pub enum LineFault {
     /// The number of outputs isn't 1 to 16.
     #[error("OutputCount")]
     OutputCount,
-    /// A directive that takes one number (`.i`, `.o` or `.p`) isn't followed by exactly one word of
-    /// one to nine decimal digits.
+    /// `.i`, `.o` or `.p` isn't followed by exactly one word of one to nine decimal digits.
     #[error("BadNumber")]
     BadNumber,
     /// `.ilb` lists more or fewer names than there are inputs, or `.ob` than there are outputs.
@@ -29,7 +25,6 @@ pub enum LineFault {
     /// A name with a byte outside 33 to 126.
     #[error("BadName")]
     BadName,
-    /// A directive that isn't known.
     #[error("UnknownDirective")]
     UnknownDirective,
     /// A logical type other than f and fd, or one that stands after a term.
@@ -55,12 +50,10 @@ pub enum LineFault {
 /// Why an input is not read as a cover.
 #[derive(Clone, Copy, Debug, PartialEq, Eq, Error)]
 pub enum PlaError {
-    /// The number of the first faulty line, counted from 1, and its fault. A description that ends
-    /// without the numbers of inputs and outputs is faulty at its last line, or at line 0 if it has
-    /// no line.
+    /// The first faulty line, counted from 1, and its fault. A description that ends without the
+    /// numbers of inputs and outputs is faulty at its last line, or at line 0 if it has no line.
     #[error("line {0}: {1}")]
     Line(usize, LineFault),
-    /// The input has more than 16,777,216 bytes.
     #[error("TooLong")]
     TooLong,
     /// A call of the reader failed.
@@ -77,7 +70,6 @@ impl From<AllocError> for PlaError {
 
     ghost from_gives = { λ _ e. e ≡ OutOfMemory };
 
-    /// Turns a refused allocation into `OutOfMemory`.
     fn from(_: AllocError) -> PlaError {
         PlaError::OutOfMemory
     }

@@ -1,13 +1,11 @@
-//! Laws of the reading of PLA descriptions. Each law is the contract of a function that does
-//! nothing.
+//! Laws of the reading of PLA descriptions, each the contract of a function that does nothing.
 
 ghost use Rattle.std.specs.Prelude.{◌≡◌, ◌⊎◌, ℕ, List};
 ghost use Rattle.pla_reader.specs.declared.errors.LineFault.{LineFault};
 ghost use Rattle.pla_reader.specs.Covers.{NamedCover, IsCover};
 ghost use Rattle.pla_reader.specs.Reading.{Reads, FirstFault};
 
-/// Law: as a PLA description, each list of bytes either states exactly one cover, or has exactly
-/// one first fault, at exactly one line, and not both.
+/// Law: each list of bytes states exactly one cover, or has exactly one first fault at one line.
 pub fn inputs_have_one_reading()
     ensures some { (bytes : List ℕ) →
         ((cover : NamedCover) × Reads bytes cover)
@@ -20,9 +18,8 @@ pub fn inputs_have_one_reading()
         FirstFault bytes i e → FirstFault bytes j f → (i ≡ j) × (e ≡ f) }
 {}
 
-/// Law: a cover that is read from a PLA description has 1 to 16 inputs and 1 to 16 outputs, with a
-/// name for each. Each of its products has an entry for each input, its literal of the input if
-/// there is one, and an entry for each output: whether the product belongs to the output's ON-set.
+/// Law: a cover has 1 to 16 inputs and outputs with a name each, and each product has an entry for
+/// each of them.
 pub fn covers_are_well_formed()
     ensures { (bytes : List ℕ) (cover : NamedCover) → Reads bytes cover → IsCover cover }
 {}

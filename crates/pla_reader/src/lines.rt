@@ -1,5 +1,4 @@
-//! The lines of a text, and the words of a line. Blanks separate words: spaces, tabs and carriage
-//! returns.
+//! The lines of a text, and their words, which spaces, tabs and carriage returns separate.
 
 ghost use Rattle.std.specs.Prelude.{◌≡◌, ◌<◌, ◌≤◌, ◌==◌, ◌||◌, ◌∷◌, ◌++◌, [], List, ℕ, length, IfSome, IfNone, Some, None};
 ghost use Rattle.std.specs.List.{position_or_len, list_all};
@@ -7,7 +6,7 @@ ghost use Rattle.pla_reader.specs.Text.{lines_of, is_blank, bar, words, content 
 
 use memchr::{memchr, memchr3};
 
-/// The number of bytes of `text` before the first `byte`, or of all its bytes if there is none.
+/// The number of bytes before the first `byte`, or of all bytes.
 fn len_until(text: &[u8], byte: u8) -> usize
     ensures value { result ≡ position_or_len (λ b. b == byte) text.now }
     ensures bound { result ≤ length text.now }
@@ -15,23 +14,19 @@ fn len_until(text: &[u8], byte: u8) -> usize
     memchr(byte, text).unwrap_or(text.len())
 }
 
-/// Whether a byte is a blank: a space, a tab or a carriage return.
 pub(crate) fn is_blank_byte(b: u8) -> bool
     ensures { result ≡ is_blank b }
 {
     b == b' ' || (b == b'\t' || b == b'\r')
 }
 
-/// Whether a byte may stand between the positions of a term and is skipped there: a space, a tab, a
-/// carriage return or `|`.
+/// Whether a byte is skipped between the positions of a term.
 pub(crate) fn is_separator(b: u8) -> bool
     ensures { result ≡ (is_blank b || b == bar) }
 {
     is_blank_byte(b) || b == b'|'
 }
 
-/// The number of bytes of `text` before the first space, tab or carriage return, or of all its
-/// bytes if there is none.
 fn word_len(text: &[u8]) -> usize
     ensures value { result ≡ position_or_len is_blank text.now }
     ensures bound { result ≤ length text.now }
@@ -39,8 +34,7 @@ fn word_len(text: &[u8]) -> usize
     memchr3(b' ', b'\t', b'\r', text).unwrap_or(text.len())
 }
 
-/// The first line of `text`, without its line feed, and the text after the line feed, which is
-/// empty if there is no line feed. Requires `text` not to be empty.
+/// The first line of `text` without its line feed, and the text after the line feed.
 #[tactic(auto, using(crate::proofs::TextLemmas::first_line_lem))]
 pub(crate) fn first_line(text: &[u8]) -> (&[u8], &[u8])
     requires { 0 < length text.now }
@@ -55,8 +49,7 @@ pub(crate) fn first_line(text: &[u8]) -> (&[u8], &[u8])
     }
 }
 
-/// The part of `line` before its first `#`, with which a comment begins, or all of it if it has no
-/// `#`.
+/// The part of `line` before its comment.
 pub(crate) fn content(line: &[u8]) -> &[u8]
     ensures value { result.now ≡ content_of line.now }
     ensures front { (comment : List ℕ) × (line.now ≡ result.now ++ comment) }
@@ -65,8 +58,7 @@ pub(crate) fn content(line: &[u8]) -> &[u8]
     front
 }
 
-/// The first word of `text`, and the text after this word. Spaces, tabs and carriage returns
-/// separate words. None if the text has no word.
+/// The first word of `text`, and the text after it.
 #[tactic(auto, using(crate::proofs::TextLemmas::words_blank, crate::proofs::TextLemmas::words_word, crate::proofs::TextLemmas::words_none))]
 pub(crate) fn next_word(text: &[u8]) -> Option<(&[u8], &[u8])>
     ensures none { IfNone result (words text.now ≡ []) }
@@ -86,8 +78,7 @@ pub(crate) fn next_word(text: &[u8]) -> Option<(&[u8], &[u8])>
     None
 }
 
-/// The word of `text` if it has exactly one, else None. Spaces, tabs and carriage returns separate
-/// words.
+/// The word of `text` if it has exactly one.
 pub(crate) fn only_word(text: &[u8]) -> Option<&[u8]>
     ensures some { IfSome result (λ word. one_word (words text.now) ≡ Some word.now) }
     ensures none { IfNone result (one_word (words text.now) ≡ None) }
@@ -99,7 +90,6 @@ pub(crate) fn only_word(text: &[u8]) -> Option<&[u8]>
     }
 }
 
-/// How many words `text` has. Spaces, tabs and carriage returns separate words.
 pub(crate) fn count_words(text: &[u8]) -> usize
     ensures { result ≡ length (words text.now) }
 {
@@ -112,8 +102,6 @@ pub(crate) fn count_words(text: &[u8]) -> usize
     count
 }
 
-/// Whether all words of `text` may be names: all their bytes are from 33 to 126. True if it has no
-/// word.
 pub(crate) fn has_names(text: &[u8]) -> bool
     ensures { result ≡ list_all is_name (words text.now) }
 {
@@ -127,7 +115,6 @@ pub(crate) fn has_names(text: &[u8]) -> bool
     true
 }
 
-/// Whether a word may be a name: all its bytes are from 33 to 126.
 fn is_graphic(word: &[u8]) -> bool
     ensures { result ≡ is_name word.now }
 {

@@ -1,5 +1,3 @@
-//! Names of inputs and outputs.
-
 ghost use Rattle.std.specs.Prelude.{◌≡◌, true, map, IfOk};
 ghost use Rattle.std.specs.List.{list_all};
 ghost use Rattle.std.specs.String.{string_bytes};
@@ -10,7 +8,6 @@ use crate::lines::next_word;
 use std::alloc::{AllocError, Global};
 use std::str;
 
-/// Copies a word to a string. Requires the word to be a name: all its bytes are from 33 to 126.
 fn name(alloc: Global, word: &[u8]) -> Result<String, AllocError>
     requires { is_name word.now ≡ true }
     ensures { IfOk result (λ name. string_bytes name ≡ word.now) }
@@ -21,8 +18,6 @@ fn name(alloc: Global, word: &[u8]) -> Result<String, AllocError>
     }
 }
 
-/// The words of `text` as strings, in their order. Requires each word to be a name: all its bytes
-/// are from 33 to 126.
 pub(crate) fn names(alloc: Global, text: &[u8]) -> Result<Vec<String>, AllocError>
     requires { list_all is_name (words text.now) ≡ true }
     ensures { IfOk result (λ names. map string_bytes names.items ≡ words text.now) }
@@ -36,7 +31,7 @@ pub(crate) fn names(alloc: Global, text: &[u8]) -> Result<Vec<String>, AllocErro
     Ok(names)
 }
 
-/// Makes `count` names: `front` followed by 0, `front` followed by 1, and so on.
+/// The names `front` followed by 0, `front` followed by 1, and so on.
 pub(crate) fn default_names(
     alloc: Global,
     front: &str,

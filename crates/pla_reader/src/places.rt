@@ -1,5 +1,3 @@
-//! Where names stand in the bytes of an input.
-
 ghost use Rattle.std.specs.Prelude.{◌≡◌, ◌+◌, ◌++◌, ◌<◌, ◌^◌, List, ℕ, length, map, is_some, IfOk};
 ghost use Rattle.std.specs.List.{All};
 ghost use Rattle.pla_reader.specs.declared.places.Names.{Names};
@@ -16,21 +14,18 @@ use std::alloc::{AllocError, Global};
 #[repr(C)]
 #[derive(Clone, Copy, Debug, PartialEq, Eq)]
 pub struct TextPlace {
-    /// The index of the part's first byte in the text, counted from 0.
+    /// The index of its first byte.
     pub start: usize,
-    /// How many bytes the part has.
     pub length: usize,
 }
 
-/// Which names a caller asks for: those of the inputs or those of the outputs.
+/// Whether the names of the inputs or those of the outputs are meant.
 #[derive(Clone, Copy, Debug, PartialEq, Eq)]
 pub enum Names {
     Inputs,
     Outputs,
 }
 
-/// Whether `statement` lists the names of the inputs, or those of the outputs, whichever `names`
-/// is.
 fn gives(statement: &Statement<'_>, names: Names) -> bool
     ensures { result ≡ is_some (naming_by names (line_of statement.now)) }
 {
@@ -40,8 +35,7 @@ fn gives(statement: &Statement<'_>, names: Names) -> bool
     }
 }
 
-/// Where the words of `text` stand in a longer text, of which `text` is the part from index `start`
-/// on. Requires `start` plus the length of `text` to be below 2^64.
+/// Where the words of `text` stand in a longer text, of which `text` is the part from `start` on.
 fn word_places(alloc: Global, text: &[u8], start: usize) -> Result<Vec<TextPlace>, AllocError>
     requires { start + length text.now < 2 ^ 64 }
     ensures spell { IfOk result (λ v. (front back : List ℕ) → length front ≡ start →
@@ -60,10 +54,8 @@ fn word_places(alloc: Global, text: &[u8], start: usize) -> Result<Vec<TextPlace
     Ok(places)
 }
 
-/// Where the names that `line` lists stand in a longer text, of which `line` is the part from index
-/// `start` on. The names are the line's words before its comment, but for the first word, which is
-/// a directive. Empty if the line has no word. Requires `start` plus the length of `line` to be
-/// below 2^64.
+/// Where the names that `line` lists after its directive stand in a longer text, of which `line` is
+/// the part from `start` on.
 fn given_places(alloc: Global, line: &[u8], start: usize) -> Result<Vec<TextPlace>, AllocError>
     requires { start + length line.now < 2 ^ 64 }
     ensures given { IfOk result (λ v. (front back : List ℕ) (names : Names) → length front ≡ start →
@@ -77,9 +69,8 @@ fn given_places(alloc: Global, line: &[u8], start: usize) -> Result<Vec<TextPlac
     }
 }
 
-/// Where the names of the inputs, or of the outputs, as `names` says, stand in the PLA description
-/// `bytes`. They are those of the first line that lists them. Empty if no line before `.e` or
-/// `.end` does.
+/// Where the names stand in the PLA description `bytes`, as its first line that lists them does.
+/// Empty if no line before `.e` or `.end` does.
 pub fn name_places(alloc: Global, bytes: &[u8], names: Names) -> Result<Vec<TextPlace>, AllocError>
     ensures { IfOk result (λ v. AreNamesAt names bytes.now v.items) }
 {

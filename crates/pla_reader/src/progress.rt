@@ -31,9 +31,7 @@ pub(crate) enum LogicalType {
 /// Why a line was not recorded.
 #[derive(Clone, Copy)]
 pub(crate) enum LineError {
-    /// An allocation was refused.
     Memory,
-    /// The line has this fault.
     Fault(LineFault),
 }
 
@@ -43,7 +41,6 @@ impl From<LineFault> for LineError {
 
     ghost from_gives = { λ fault e. e ≡ Fault fault };
 
-    /// Turns the fault of a line into the error `Fault` with this fault.
     fn from(fault: LineFault) -> LineError {
         LineError::Fault(fault)
     }
@@ -55,16 +52,13 @@ impl From<AllocError> for LineError {
 
     ghost from_gives = { λ _ e. e ≡ Memory };
 
-    /// Turns a refused allocation into `Memory`.
     fn from(_: AllocError) -> LineError {
         LineError::Memory
     }
 }
 
-/// The number of inputs or outputs that `text` states after the directive `.i` or `.o`. Err is
-/// `RepeatedHead` if `known` isn't None, which is the number that an earlier line stated. Otherwise
-/// it is `BadNumber` if `text` isn't exactly one word of one to nine decimal digits, or `outside`
-/// if the number isn't from 1 to 16.
+/// The number that `text` states after `.i` or `.o`, where `known` is what an earlier line stated.
+/// The error is `RepeatedHead`, `BadNumber` or `outside`.
 fn count(known: Option<u8>, text: &[u8], outside: LineFault) -> Result<u8, LineFault>
     ensures { MatchResult result
         (λ d. (head_fault (is_some known) (words text.now) outside ≡ None)
@@ -84,7 +78,6 @@ fn count(known: Option<u8>, text: &[u8], outside: LineFault) -> Result<u8, LineF
     }
 }
 
-/// Whether a text has exactly one word, and this is a number of one to nine decimal digits.
 fn is_number_alone(text: &[u8]) -> bool
     ensures { result ≡ is_one_number (words text.now) }
 {
@@ -94,10 +87,8 @@ fn is_number_alone(text: &[u8]) -> bool
     }
 }
 
-/// Checks the names that `text` lists after the directive `.ilb` or `.ob`. Err is the first of
-/// these faults: `MissingHead` if `count`, the number of inputs or outputs, is None, as no line
-/// stated it; `RepeatedHead` if a line listed names already (`repeated`); `NameCount` if there are
-/// not `count` names; `BadName` if a name has a byte outside 33 to 126.
+/// Checks the names that `text` lists after `.ilb` or `.ob`. The error is `MissingHead`,
+/// `RepeatedHead`, `NameCount` or `BadName`, whichever is the first.
 fn check_names(count: Option<u8>, repeated: bool, text: &[u8]) -> Result<(), LineFault>
     ensures { MatchResult result
         (λ done. (naming_fault (is_some count) repeated (unwrap_or count 0) (words text.now) ≡ None)
@@ -119,9 +110,8 @@ fn check_names(count: Option<u8>, repeated: bool, text: &[u8]) -> Result<(), Lin
     }
 }
 
-/// The logical type that `text` states after the directive `.type`. Err is `RepeatedHead` if a line
-/// stated a type already (`repeated`). Otherwise it is `UnsupportedType` if a term was read already
-/// (`late`), or if `text` is not exactly the word `f` or the word `fd`.
+/// The logical type that `text` states after `.type`. The error is `RepeatedHead` or
+/// `UnsupportedType`.
 fn logical_type(repeated: bool, late: bool, text: &[u8]) -> Result<LogicalType, LineFault>
     ensures { MatchResult result
         (λ kind. (type_fault repeated late (words text.now) ≡ None)
@@ -138,8 +128,7 @@ fn logical_type(repeated: bool, late: bool, text: &[u8]) -> Result<LogicalType, 
     }
 }
 
-/// The names `given`. If this is None, `count` names instead: `front` followed by 0, `front`
-/// followed by 1, and so on.
+/// The names `given`, or `count` names that begin with `front`.
 fn given_or_default_names(
     alloc: Global,
     given: Option<Vec<String>>,
@@ -168,7 +157,7 @@ pub(crate) struct Progress {
 }
 
 impl Progress {
-    /// The progress before the first line is read: no number, name, type or term is recorded.
+    /// The progress before the first line.
     pub(crate) fn new(alloc: Global) -> Progress
         ensures { state_of result ≡ start }
     {
@@ -182,25 +171,20 @@ impl Progress {
         }
     }
 
-    /// Whether output positions of terms may be `-` or `2`: only if the logical type f was
-    /// recorded.
+    /// Whether output positions of terms may be `-` or `2`: with the logical type f.
     fn takes_dont_cares(&self) -> bool
         ensures { result ≡ is_f self.now.logical_type }
     {
         matches!(self.logical_type, Some(LogicalType::F))
     }
 
-    /// Whether a term was recorded.
     fn has_terms(&self) -> bool
         ensures { result ≡ is_filled self.now.terms.items }
     {
         !self.terms.is_empty()
     }
 
-    /// Records the number of inputs that `text` states after the directive `.i`. An error changes
-    /// nothing, and is the fault: `RepeatedHead` if the number was recorded before, `BadNumber` if
-    /// `text` isn't exactly one word of one to nine decimal digits, `InputCount` if the number
-    /// isn't from 1 to 16.
+    /// Records the number of inputs after `.i`. An error changes nothing.
     fn take_inputs(&mut self, text: &[u8]) -> Result<(), LineError>
         ensures { Takes self.old (Inputs (words text.now)) self.new result }
     {
@@ -208,10 +192,7 @@ impl Progress {
         Ok(())
     }
 
-    /// Records the number of outputs that `text` states after the directive `.o`. An error changes
-    /// nothing, and is the fault: `RepeatedHead` if the number was recorded before, `BadNumber` if
-    /// `text` isn't exactly one word of one to nine decimal digits, `OutputCount` if the number
-    /// isn't from 1 to 16.
+    /// Records the number of outputs after `.o`. An error changes nothing.
     fn take_outputs(&mut self, text: &[u8]) -> Result<(), LineError>
         ensures { Takes self.old (Outputs (words text.now)) self.new result }
     {
@@ -219,10 +200,7 @@ impl Progress {
         Ok(())
     }
 
-    /// Records the names of the inputs that `text` lists after the directive `.ilb`. An error
-    /// changes nothing, and is `Memory`, or the fault: `MissingHead` without a recorded number of
-    /// inputs, `RepeatedHead` if names of inputs were recorded before, `NameCount` if there are not
-    /// as many names as inputs, `BadName` if a name has a byte outside 33 to 126.
+    /// Records the names of the inputs after `.ilb`. An error changes nothing.
     fn take_input_names(&mut self, alloc: Global, text: &[u8]) -> Result<(), LineError>
         ensures { Takes self.old (InputNames (words text.now)) self.new result }
     {
@@ -231,10 +209,7 @@ impl Progress {
         Ok(())
     }
 
-    /// Records the names of the outputs that `text` lists after the directive `.ob`. An error
-    /// changes nothing, and is `Memory`, or the fault: `MissingHead` without a recorded number of
-    /// outputs, `RepeatedHead` if names of outputs were recorded before, `NameCount` if there are
-    /// not as many names as outputs, `BadName` if a name has a byte outside 33 to 126.
+    /// Records the names of the outputs after `.ob`. An error changes nothing.
     fn take_output_names(&mut self, alloc: Global, text: &[u8]) -> Result<(), LineError>
         ensures { Takes self.old (OutputNames (words text.now)) self.new result }
     {
@@ -243,9 +218,7 @@ impl Progress {
         Ok(())
     }
 
-    /// Records the logical type that `text` states after the directive `.type`. An error changes
-    /// nothing, and is the fault: `RepeatedHead` if a type was recorded before, `UnsupportedType`
-    /// if a term was recorded before or `text` is not exactly the word `f` or the word `fd`.
+    /// Records the logical type after `.type`. An error changes nothing.
     fn take_type(&mut self, text: &[u8]) -> Result<(), LineError>
         ensures { Takes self.old (TypeLine (words text.now)) self.new result }
     {
@@ -254,10 +227,7 @@ impl Progress {
         Ok(())
     }
 
-    /// Records the term that `text`, a line without its comment, states. An error changes nothing,
-    /// and is `MissingHead` if the number of inputs or that of outputs isn't recorded, else the
-    /// line's first fault from the left, or `Memory`. Requires `self` to be made by `new` and by
-    /// calls of `take` that succeeded.
+    /// Records the term that `text`, a line without its comment, states. An error changes nothing.
     fn take_row(&mut self, text: &[u8]) -> Result<(), LineError>
         requires { IsSoundState (state_of self.old) }
         ensures { Takes self.old (Row (positions text.now)) self.new result }
@@ -272,10 +242,7 @@ impl Progress {
         }
     }
 
-    /// Records what `statement`, that of the next line, states. An error changes nothing, and is
-    /// the fault of the line, or `Memory`. `.p` with one number, the end of the description, and a
-    /// line without a word change nothing. Requires `self` to be made by `new` and by calls of
-    /// `take` that succeeded.
+    /// Records what the next line states. An error changes nothing.
     pub(crate) fn take(&mut self, alloc: Global, statement: Statement) -> Result<(), LineError>
         requires { IsSoundState (state_of self.old) }
         ensures { Takes self.old (line_of statement.entry) self.new result }
@@ -299,11 +266,8 @@ impl Progress {
         }
     }
 
-    /// The cover of what is recorded. If no names of inputs are recorded, they are x0, x1 and so
-    /// on; those of outputs are y0, y1 and so on. If the number of inputs or that of outputs isn't
-    /// recorded, the error is `MissingHead` at line `number`, which is the number of lines read;
-    /// else it can only be `OutOfMemory`. Requires `self` to be made by `new` and by calls of
-    /// `take` that succeeded.
+    /// The cover of what is recorded. Names that are missing are x0, x1, .. and y0, y1, .. The
+    /// error is `MissingHead` at line `number`, the number of lines read, or `OutOfMemory`.
     pub(crate) fn finish(self, alloc: Global, number: usize) -> Result<Cover, PlaError>
         requires { IsSoundState (state_of self) }
         ensures ok { IfOk result (IsCoverOf (state_of self)) }

@@ -1,5 +1,3 @@
-//! Reads covers from devices, and from bytes.
-
 ghost use Rattle.std.specs.Prelude.{◌≡◌, IfOk, IfSome, OnOk};
 ghost use Rattle.std.specs.Io.KnownBytes.{IsAtEnd};
 ghost use Rattle.pla_reader.specs.Covers.{IsCover};
@@ -16,9 +14,8 @@ use std::alloc::Global;
 /// The most bytes that an input may have: 16 MiB.
 pub const MOST_BYTES: usize = 16_777_216;
 
-/// The cover that the PLA description `bytes` states. Lines after a line `.e` or `.end` are
-/// ignored. The error is the first faulty line with its fault, or `OutOfMemory`. There is no limit
-/// to the number of bytes.
+/// The cover that the PLA description `bytes` states, of any length. Lines after `.e` or `.end` are
+/// ignored.
 pub fn read_bytes(alloc: Global, bytes: &[u8]) -> Result<Cover, PlaError>
     ensures { Answers bytes.now result }
 {
@@ -42,11 +39,9 @@ pub fn read_bytes(alloc: Global, bytes: &[u8]) -> Result<Cover, PlaError>
     progress.finish(alloc, number)
 }
 
-/// Reads `reader` to its end, and returns the cover of the PLA description that was read
-/// (espresso(5), logical types f and fd). The error is `TooLong` for more than 16 MiB, `Device` if
-/// a call of the reader failed, `OutOfMemory`, or the first faulty line with its fault.
-///
-/// All bytes are read before a fault is looked for. Time and memory are linear in their number.
+/// Reads `reader` to its end, and returns the cover of its PLA description (espresso(5), logical
+/// types f and fd). All bytes are read before a fault is looked for. Time and memory are linear in
+/// their number.
 pub fn read_cover<R: CountedRead>(alloc: Global, reader: &mut R) -> Result<Cover, PlaError>
     ensures answer { IfSome (R.remaining reader.old) (λ bytes. IsReading bytes result) }
     ensures formed { IfOk result IsCover }

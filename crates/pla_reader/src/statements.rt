@@ -1,5 +1,3 @@
-//! Statements: what a line of a description states.
-
 ghost use Rattle.std.specs.Prelude.{◌≡◌, ◌==◌, slice_index};
 ghost use Rattle.pla_reader.specs.Text.{words};
 ghost use Rattle.definitions.specs.Texts.{same};
@@ -8,40 +6,30 @@ ghost use Rattle.pla_reader.specs.Statements.{line_of};
 
 use crate::lines::{content, next_word};
 
-/// What a line states. Directives with arguments have the text after their first word, without the
-/// line's comment.
+/// What a line states. Directives with arguments have the text after their first word.
 #[derive(Drop)]
 pub(crate) enum Statement<'a> {
-    /// The line has no word.
     Empty,
-    /// `.i`, the number of inputs.
     Inputs(&'a [u8]),
-    /// `.o`, the number of outputs.
     Outputs(&'a [u8]),
-    /// `.ilb`, the names of the inputs.
     InputNames(&'a [u8]),
-    /// `.ob`, the names of the outputs.
     OutputNames(&'a [u8]),
-    /// `.p`, a number of terms, which is not compared with the terms.
+    /// Its number is not compared with the terms.
     Products(&'a [u8]),
-    /// `.type`, the logical type.
     Type(&'a [u8]),
-    /// `.e` or `.end`, the end of the description.
+    /// `.e` or `.end`.
     End,
-    /// Any other directive.
     Unknown,
-    /// A term. The text is the line without its comment.
+    /// A term: the line without its comment.
     Row(&'a [u8]),
 }
 
-/// Whether two texts are equal.
 pub(crate) fn is_same(a: &[u8], b: &[u8]) -> bool
     ensures { result ≡ same a.now b.now }
 {
     a == b
 }
 
-/// Whether a word begins with `.`, as directives do. False for an empty word.
 fn is_directive(word: &[u8]) -> bool
     ensures { result ≡ (slice_index word.now 0 == 46) }
 {
@@ -51,9 +39,7 @@ fn is_directive(word: &[u8]) -> bool
     }
 }
 
-/// The statement of a line whose first word is `word`, and whose text after it is `given`, which
-/// isn't checked. `Unknown` unless the word is `.i`, `.o`, `.ilb`, `.ob`, `.p`, `.type`, `.e` or
-/// `.end`.
+/// The statement of a line with the first word `word`, and `given` after it, which isn't checked.
 #[tactic(auto, unfolding(crate::specs::Lines::directive))]
 fn directive<'a>(word: &[u8], given: &'a [u8]) -> Statement<'a>
     ensures { line_of result ≡ directive_of word.now (words given.now) }
@@ -77,8 +63,7 @@ fn directive<'a>(word: &[u8], given: &'a [u8]) -> Statement<'a>
     }
 }
 
-/// What `line` states before its comment: what its directive states if its first word begins with
-/// `.`, nothing (`Empty`) if it has no word, and else a term. Only the first word is checked.
+/// What `line` states before its comment. Only the first word is checked.
 #[tactic(auto, unfolding(crate::specs::Lines::line_said, crate::specs::Lines::meaning))]
 pub(crate) fn statement_of(line: &[u8]) -> Statement<'_>
     ensures { line_of result ≡ line_said line.now }
@@ -95,7 +80,6 @@ pub(crate) fn statement_of(line: &[u8]) -> Statement<'_>
 }
 
 impl Statement<'_> {
-    /// Whether the statement is the end of the description: `.e` or `.end`.
     pub(crate) fn is_end(&self) -> bool
         ensures { result ≡ ends (line_of self.now) }
     {

@@ -1,5 +1,3 @@
-//! Product terms, read from lines of a description.
-
 ghost use Rattle.std.specs.Prelude.{◌≡◌, ◌≤◌, ◌<◌, ◌+◌, None, Some, MatchResult, IfOk, IfErr};
 ghost use Rattle.std.specs.Int.{bit_at};
 ghost use Rattle.pla_reader.specs.Text.{positions};
@@ -20,10 +18,7 @@ pub(crate) struct Masks {
     outs: Mask,
 }
 
-/// Reads byte `b` at the position of input `at` of a term. Returns `masks`, those of the term so
-/// far, with the input's complemented literal for `0`, with its plain literal for `1`, and
-/// unchanged for `-` or `2`. Err is `BadInputChar` for any other byte. Requires `at` to be below
-/// 16, and `masks` to have no literal of this input.
+/// `masks` with the literal of input `at` that byte `b` states. The error is `BadInputChar`.
 fn with_input(masks: Masks, at: u8, b: u8) -> Result<Masks, LineFault>
     requires small { at < 16 }
     requires fresh { bit_at masks.value at ≡ 0 }
@@ -45,10 +40,8 @@ fn with_input(masks: Masks, at: u8, b: u8) -> Result<Masks, LineFault>
     Ok(new)
 }
 
-/// Reads byte `b` at the position of output `at` of a term. Returns `masks`, those of the term so
-/// far, with this output for `1`, and unchanged for `0`, `~`, `-` or `2`. Err is `DontCare` for `-`
-/// or `2` unless `takes_dont_cares` is true, and `BadOutputChar` for any other byte. Requires `at`
-/// to be below 16, and `masks` not to have this output.
+/// `masks` with output `at` if byte `b` is `1`. The error is `DontCare` for `-` or `2` unless
+/// `takes_dont_cares` is true, and `BadOutputChar` for any other byte.
 fn with_output(masks: Masks, at: u8, b: u8, takes_dont_cares: bool) -> Result<Masks, LineFault>
     requires small { at < 16 }
     requires none { bit_at masks.outs at ≡ 0 }
@@ -70,12 +63,8 @@ fn with_output(masks: Masks, at: u8, b: u8, takes_dont_cares: bool) -> Result<Ma
     Ok(new)
 }
 
-/// The term of n inputs and m outputs that `line`, a line without its comment, states. Spaces,
-/// tabs, carriage returns and `|` are skipped; the other bytes are n input positions and then m
-/// output positions. Err is the first fault from the left: `BadInputChar` or `BadOutputChar` for a
-/// byte that isn't allowed there, `DontCare` for `-` or `2` as an output unless `takes_dont_cares`
-/// is true, `LongTerm` for a byte after the last position, or `ShortTerm` if the line ends before
-/// it. Requires n and m to be at most 16.
+/// The term of n inputs and m outputs that `line` states. Spaces, tabs, carriage returns and `|`
+/// are skipped. The error is the first fault from the left.
 pub(crate) fn row(n: u8, m: u8, takes_dont_cares: bool, line: &[u8]) -> Result<Term, LineFault>
     requires inputs { n ≤ 16 }
     requires outputs { m ≤ 16 }

@@ -19,10 +19,10 @@ use std::alloc::{AllocError, Global};
 /// Memory in which diagrams are made: each uses again what earlier ones took.
 #[derive(Drop)]
 pub struct DiagramMemory {
-    /// The nodes of the last diagram that was made, lower levels first.
+    /// The nodes of the last diagram, lower levels first.
     pub nodes: Vec<NumberedNode>,
-    /// The number of each output's root in that diagram, numbered as the children of its nodes are.
-    /// While a diagram is made, the values of the functions at all points.
+    /// The number of each output's root, as children are numbered. While a diagram is made, the
+    /// values of the functions at all points.
     pub roots: Vec<u32>,
     /// Working memory: the points of all assignments.
     points: Vec<u32>,
@@ -42,9 +42,8 @@ impl DiagramMemory {
     }
 }
 
-/// Turns the values of some functions under `order`, which `memory.roots` has, into their reduced
-/// diagram under it: writes its nodes, lower levels first, and its roots to `memory`. If memory is
-/// refused, `memory` has no meaning. Requires at most 2^20 values.
+/// Turns the values that `memory.roots` has into the reduced diagram under `order`. If memory is
+/// refused, `memory` has no meaning.
 fn add_levels(order: &[VarIx], memory: &mut DiagramMemory) -> Result<(), AllocError>
     requires { length memory.old.roots.items ≤ 2 ^ 20 }
     ensures diagram { OnOk result ((t : TruthTables) →
@@ -65,11 +64,9 @@ fn add_levels(order: &[VarIx], memory: &mut DiagramMemory) -> Result<(), AllocEr
     Ok(())
 }
 
-/// Makes the reduced diagram of m functions of n variables under `order`: writes its nodes, lower
-/// levels first, and its roots to `memory`, whatever this has before. `words` has their truth
-/// tables, packed in words of 64 points, one function after the other. If memory is refused,
-/// `memory` has no meaning. Takes time in proportion to the number of outputs times that of points.
-/// Requires n and m to be from 1 to 16, and `order` to have each variable once.
+/// Makes the reduced diagram of m functions of n variables under `order`, in `memory`. `words` has
+/// their packed truth tables. If memory is refused, `memory` has no meaning. Takes time in
+/// proportion to the number of outputs times that of points.
 pub fn make_diagram(
     n: u8,
     m: u8,
@@ -89,8 +86,7 @@ pub fn make_diagram(
     Ok(())
 }
 
-/// Makes the reduced diagram of the functions of `tables` under `order`, as `make_diagram` does.
-/// Requires `order` to have each variable of the tables once.
+/// Makes the reduced diagram of the functions of `tables`, as `make_diagram` does.
 fn draw_tables(
     tables: &Tables,
     order: &[VarIx],
@@ -107,8 +103,6 @@ fn draw_tables(
     Ok(())
 }
 
-/// The refs that `numbers` stand for, in their order: 0 is the terminal 0, 1 the terminal 1, and
-/// k + 2 node k of the diagram's list of nodes.
 fn refs_of(alloc: Global, numbers: &[u32]) -> Result<Vec<Ref>, AllocError>
     ensures { IfOk result (λ v. v.items ≡ map ref_named numbers.now) }
 {
@@ -119,7 +113,6 @@ fn refs_of(alloc: Global, numbers: &[u32]) -> Result<Vec<Ref>, AllocError>
     Ok(refs)
 }
 
-/// The nodes that `numbered` stand for, in their order. Requires each variable to be below 2^8.
 fn nodes_of(alloc: Global, numbered: &[NumberedNode]) -> Result<Vec<Node>, AllocError>
     requires { All (λ (node : NumberedNode). node.variable < 2 ^ 8) numbered.now }
     ensures { IfOk result (λ v. v.items ≡ map node_named numbered.now) }
@@ -140,9 +133,8 @@ fn nodes_of(alloc: Global, numbered: &[NumberedNode]) -> Result<Vec<Node>, Alloc
     Ok(nodes)
 }
 
-/// The reduced diagram of the functions of `tables` under `order`. Its list of nodes has lower
-/// levels first. Takes time in proportion to the number of outputs times that of points. Requires
-/// `order` to have all variables of the tables.
+/// The reduced diagram of the functions of `tables` under `order`, lower levels first. Takes time
+/// in proportion to the number of outputs times that of points.
 pub fn reduced_diagram(alloc: Global, tables: &Tables, order: &Order) -> Result<Diagram, AllocError>
     requires { length order.now ≡ tables.now.inputs }
     ensures diagram { IfOk result

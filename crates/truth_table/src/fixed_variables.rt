@@ -1,5 +1,3 @@
-//! Variables fixed in packed truth tables.
-
 ghost use Rattle.std.specs.Prelude.{◌≡◌, ◌+◌, ◌-◌, ◌<◌, ◌≤◌, ℕ, length, slice_index};
 ghost use Rattle.std.specs.Int.{bit_at};
 ghost use Rattle.definitions.specs.Functions.{from_table, restrict, table};
@@ -9,9 +7,7 @@ ghost use Rattle.truth_table.specs.Fixing.{fixed_bit};
 use order_model::VarIx;
 use order_model::packed::lower_half;
 
-/// A word of a packed truth table after variable x is fixed to 1 if `upper`, else to 0. Bit b of
-/// the result is the bit of `word` whose number is b with bit x replaced by this value. Requires x
-/// to be below 6.
+/// A word of a packed truth table after variable x is fixed to 1 if `upper`, else to 0.
 fn fixed_word(word: u64, x: VarIx, upper: bool) -> u64
     requires { x < 6 }
     ensures { (k : ℕ) → k < 64 → bit_at result k ≡ bit_at word (fixed_bit x upper k) }
@@ -21,8 +17,7 @@ fn fixed_word(word: u64, x: VarIx, upper: bool) -> u64
     half | (half << step)
 }
 
-/// Fixes variable x in each word of the packed truth table `words`, to 1 if `upper`, else to 0.
-/// Requires x to be below 6.
+/// Fixes variable x in each word.
 fn fix_halves(words: &mut [u64], x: VarIx, upper: bool)
     requires { x < 6 }
     ensures { (i k : ℕ) → i < length words.new → k < 64 →
@@ -34,8 +29,7 @@ fn fix_halves(words: &mut [u64], x: VarIx, upper: bool)
     }
 }
 
-/// The index `i` with its bit r set to 1 if `upper`, else to 0. Requires `i` to be below 1024, and
-/// r below 10.
+/// The index `i` with its bit r set to 1 if `upper`, else to 0.
 fn fixed_place(i: usize, r: u8, upper: bool) -> usize
     requires place { i < 1024 }
     requires small { r < 10 }
@@ -49,9 +43,7 @@ fn fixed_place(i: usize, r: u8, upper: bool) -> usize
     }
 }
 
-/// Fixes variable r + 6 in the packed truth table `words`, to 1 if `upper`, else to 0. Word i
-/// becomes the old word whose index is i with bit r replaced by this value. Requires r to be below
-/// 10, at most 1024 words, and this index to be below their number for each i.
+/// Fixes variable r + 6: word i becomes the old word at `fixed_place(i, r, upper)`.
 fn fix_rows(words: &mut [u64], r: u8, upper: bool)
     requires few { length words.old ≤ 1024 }
     requires small { r < 10 }
@@ -64,9 +56,8 @@ fn fix_rows(words: &mut [u64], r: u8, upper: bool)
     }
 }
 
-/// Fixes variable x, to 1 if `upper`, else to 0, in the packed truth table `words` of a function of
-/// n variables. Requires n to be at most 16, x below n, 2^n / 64 words, or one if n is below 6, and
-/// the bits past the last point to be 0. These stay 0.
+/// Fixes variable x, to 1 if `upper`, else to 0, in the packed truth table of a function of n
+/// variables. The bits past the last point stay 0.
 pub(crate) fn fix_variable(n: u8, words: &mut [u64], x: VarIx, upper: bool)
     requires few { n ≤ 16 }
     requires variable { x < n }

@@ -1,10 +1,8 @@
-//! Copies of truth tables in which some bits of each word are cleared.
-
 ghost use Rattle.std.specs.Prelude.{◌≡◌, ◌<◌, ℕ, bit_and, length, slice_index, IfOk};
 
 use std::alloc::{AllocError, Global};
 
-/// A copy of `words` with each word replaced by `word & mask`.
+/// A copy of `words` with `mask` applied to each word.
 pub(crate) fn kept_points(alloc: Global, words: &[u64], mask: u64) -> Result<Vec<u64>, AllocError>
     ensures long { IfOk result (λ v. length v.items ≡ length words.now) }
     ensures words { IfOk result

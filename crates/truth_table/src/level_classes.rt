@@ -11,7 +11,7 @@ use order_model::VarIx;
 use order_model::packed::bit_of;
 use std::alloc::{AllocError, Global};
 
-/// Numbers of pairs of class numbers. Two pairs have the same number if and only if they are equal.
+/// Numbers of pairs of class numbers: equal for equal pairs, and else different.
 #[derive(Debug, Drop)]
 pub(crate) struct Merged {
     /// Entry j is the number of pair j.
@@ -20,10 +20,8 @@ pub(crate) struct Merged {
     pub(crate) unequal: u32,
 }
 
-/// Numbers pairs of class numbers by first occurrence. Pair j is the entries 2j and 2j + 1 of
-/// `classes`, the classes of the low and the high cofactor of a subfunction. Returns the number of
-/// each pair, and how many distinct pairs have two unequal entries. Requires fewer than 2^32
-/// entries. The last one is ignored if their number is odd.
+/// Numbers the pairs (`classes[2j]`, `classes[2j + 1]`), the classes of the cofactors of a
+/// subfunction, by first occurrence. An odd last entry is ignored.
 pub(crate) fn merge(alloc: Global, classes: &[u32]) -> Result<Merged, AllocError>
     requires few { length classes.now < 2 ^ 32 }
     ensures numbers { IfOk result (λ r. IsNumbering (pairs_of classes.now) r.numbers.items) }
@@ -45,8 +43,7 @@ pub(crate) fn merge(alloc: Global, classes: &[u32]) -> Result<Merged, AllocError
     Ok(Merged { numbers, unequal })
 }
 
-/// Appends to `points` a copy of each of its points, with bit x set to 1, in the same order.
-/// Requires x to be below 16. If memory is refused, some copies may be appended.
+/// Appends a copy of each of `points` with bit x set. If memory is refused, some may be appended.
 fn push_upper(points: &mut Vec<u32>, x: VarIx) -> Result<(), AllocError>
     requires { x < 16 }
     ensures { OnOk result
@@ -59,10 +56,8 @@ fn push_upper(points: &mut Vec<u32>, x: VarIx) -> Result<(), AllocError>
     Ok(())
 }
 
-/// Overwrites `points` with the points of all assignments to `variables`. Along the list the last
-/// variable changes fastest, and the first slowest, from 0 to 1. Bit x of a point is the value of
-/// variable x, or 0 if x is not among them. If memory is refused, `points` has no meaning. Requires
-/// at most 16 variables, each below 16.
+/// Overwrites `points` with the points of all assignments to `variables`, the last of which changes
+/// fastest. If memory is refused, `points` has no meaning.
 pub(crate) fn write_points(points: &mut Vec<u32>, variables: &[VarIx]) -> Result<(), AllocError>
     requires small { All (λ x. x < 16) variables.now }
     requires few { length variables.now ≤ 16 }
@@ -77,9 +72,8 @@ pub(crate) fn write_points(points: &mut Vec<u32>, variables: &[VarIx]) -> Result
     Ok(())
 }
 
-/// Appends to `values` the value, 0 or 1, of the packed truth table `words` at each of `points`.
-/// Bit x of a point is the value of variable x. Requires `words` to have a bit for each point. If
-/// memory is refused, some of the values may be appended.
+/// Appends the values, 0 or 1, of the packed truth table `words` at `points`. If memory is refused,
+/// some may be appended.
 pub(crate) fn push_values(
     values: &mut Vec<u32>,
     words: &[u64],

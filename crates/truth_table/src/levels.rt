@@ -9,13 +9,11 @@ use indexmap::IndexSet;
 use order_model::Ref;
 use std::alloc::AllocError;
 
-/// A level over at most so many pairs of children looks for a node among its nodes one by one,
-/// which is faster there than hashing.
+/// Up to so many pairs of children, comparing one node after the other is faster than hashing.
 const MOST_COMPARED: usize = 64;
 
-/// A node with the numbers of its children, where its variable is 0 (`low`) and where it is 1
-/// (`high`). 0 and 1 are the terminals, and k + 2 is node k, from 0, of the diagram's list of
-/// nodes.
+/// A node and the numbers of its children: 0 and 1 are the terminals, and k + 2 is node k of the
+/// diagram's list of nodes.
 #[repr(C)]
 #[derive(Clone, Copy, Debug)]
 pub struct NumberedNode {
@@ -24,8 +22,7 @@ pub struct NumberedNode {
     pub high: u32,
 }
 
-/// The ref that a number stands for: 0 is the terminal 0, 1 the terminal 1, and k + 2 node k of the
-/// diagram's list of nodes.
+/// The ref that a child's number stands for.
 pub(crate) fn ref_of(number: u32) -> Ref
     ensures { result ≡ ref_named number }
 {
@@ -36,8 +33,7 @@ pub(crate) fn ref_of(number: u32) -> Ref
     }
 }
 
-/// The index of the first of the nodes from `nodes[base]` on that has these children, or the number
-/// of all nodes if none of these has.
+/// The index of the first node from `nodes[base]` on with these children, or the number of nodes.
 #[inline(always)]
 fn place_of(nodes: &[NumberedNode], base: usize, children: (u32, u32)) -> usize
     requires { base ≤ length nodes.now }
@@ -55,9 +51,8 @@ fn place_of(nodes: &[NumberedNode], base: usize, children: (u32, u32)) -> usize
     nodes.len()
 }
 
-/// The number of the node of variable x with these children, which are unequal. The nodes of x
-/// begin at `nodes[base]`. If none of them has the children, a node with them is appended. Looks at
-/// one node after the other.
+/// The number of the node of x with these children, appended if it isn't there. The nodes of x
+/// begin at `nodes[base]`. Looks at one node after the other.
 #[inline(always)]
 fn compared_number(
     nodes: &mut Vec<NumberedNode>,
@@ -81,10 +76,8 @@ fn compared_number(
     Ok(place as u32 + 2)
 }
 
-/// The number of the node of variable x with these children, which are unequal. The nodes of x
-/// begin at `nodes[base]`, and `pairs` has the children of each, in the same order. If none of them
-/// has the children, a node with them is appended, and they to `pairs`; if memory is refused,
-/// perhaps only they.
+/// The number of the node of x with these children, appended if it isn't there. `pairs` has the
+/// children of each node of x, in their order. If memory is refused, they may be in `pairs` alone.
 fn hashed_number(
     nodes: &mut Vec<NumberedNode>,
     pairs: &mut IndexSet<(u32, u32)>,
@@ -110,10 +103,8 @@ fn hashed_number(
     Ok((base + place) as u32 + 2)
 }
 
-/// The number of the node of variable x with these children, or of the child if both are equal. The
-/// nodes of x begin at `nodes[base]`; if none of them has the children, a node with them is
-/// appended. If `hashes`, `pairs` has the children of each of these nodes, in the same order,
-/// before and after. If memory is refused, neither has a meaning.
+/// The number of the node of x with these children, or of the child if both are equal. `pairs` is
+/// used if `hashes` is true. If memory is refused, neither list has a meaning.
 #[inline(always)]
 fn number_over(
     nodes: &mut Vec<NumberedNode>,
@@ -139,12 +130,10 @@ fn number_over(
     compared_number(nodes, base, x, children)
 }
 
-/// Makes the nodes of variable x over the nodes and terminals whose numbers `numbers` lists, and
-/// appends each once to `nodes`. Numbers 0 and 1 are the terminals, and k + 2 is `nodes[k]`. Entry
-/// j of `numbers` becomes the number of the node with the entries 2j and 2j + 1 as its low and high
-/// child, or of the child if both are equal, and `numbers` half as long; an odd last entry is
-/// ignored. What `pairs`, working memory, has before doesn't matter. If memory is refused, none of
-/// the three has a meaning. Requires fewer than 2^31 entries in `nodes` and `numbers` together.
+/// Appends the nodes of variable x over the children whose numbers `numbers` lists. The node with
+/// the children `numbers[2j]` and `numbers[2j + 1]`, or the child if they are equal, becomes entry
+/// j; an odd last entry is ignored. `pairs` is working memory. If memory is refused, none of the
+/// three has a meaning.
 pub(crate) fn add_level(
     nodes: &mut Vec<NumberedNode>,
     pairs: &mut IndexSet<(u32, u32)>,

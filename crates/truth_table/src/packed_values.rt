@@ -1,5 +1,3 @@
-//! The values of functions whose truth tables a caller has as words.
-
 ghost use Rattle.std.specs.Prelude.{◌≤◌, ◌^◌, length, OnOk};
 ghost use Rattle.definitions.specs.Orders.{IsOrder};
 ghost use Rattle.definitions.specs.Problems.{packed_tables};
@@ -11,12 +9,9 @@ use order_model::VarIx;
 use order_model::packed::{block, words_per_table};
 use std::alloc::AllocError;
 
-/// Overwrites `values` with the values of m functions of n variables at all points, as 0 and 1:
-/// first those of function 0, then those of function 1, and so on. Within a function, the top
-/// variable of `order` changes slowest and the bottom one fastest, from 0 to 1. `words` has the
-/// functions' truth tables, packed in words of 64 points, one function after the other. What
-/// `points`, working memory, has before doesn't matter. If memory is refused, neither has a
-/// meaning. Requires n and m to be from 1 to 16, and `order` to have each variable once.
+/// Overwrites `values` with the values of m functions of n variables at all points: first those of
+/// function 0, with the top variable of `order` changing slowest. `points` is working memory. If
+/// memory is refused, neither has a meaning.
 pub(crate) fn write_packed_values(
     n: u8,
     m: u8,

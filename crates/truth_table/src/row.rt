@@ -1,5 +1,3 @@
-//! The truth table of one function.
-
 ghost use Rattle.std.specs.Prelude.{◌≡◌, ◌<◌, ◌≤◌};
 ghost use Rattle.definitions.specs.Functions.{depends, from_table};
 ghost use Rattle.truth_table.specs.Rows.{IsRow, row_table};
@@ -26,9 +24,7 @@ impl Model for Row {
 }
 
 impl Row {
-    /// The truth table of a function of `inputs` variables, packed in `words`. Requires 1 to 16
-    /// variables, 2^inputs / 64 words, or one for fewer than 6 variables, and the bits past the
-    /// last point to be 0.
+    /// The truth table of a function of `inputs` variables, packed in `words`.
     pub(crate) fn new(inputs: u8, words: Vec<u64>) -> Row
         requires { IsRow inputs words.items }
         ensures { result ≡ row_table inputs words.items }
@@ -45,7 +41,7 @@ impl Row {
         self.inputs
     }
 
-    /// Whether the function depends on variable x. Requires x to be below the number of variables.
+    /// Whether the function depends on variable x.
     pub fn depends(&self, x: VarIx) -> bool
         requires { x < self.now.inputs }
         ensures { result ≡ depends self.now.inputs (from_table self.now.table) x }

@@ -1,5 +1,3 @@
-//! The truth tables of the outputs of a cover.
-
 ghost use Rattle.std.specs.Prelude.{◌≡◌, ◌*◌, ◌<◌, ◌≤◌, ◌^◌, length, map, IfOk, OnOk};
 ghost use Rattle.definitions.specs.Functions.{from_table, table};
 ghost use Rattle.definitions.specs.Levels.{level_counts};
@@ -56,8 +54,7 @@ impl Tables {
     }
 
     /// The truth tables of m functions of n variables, packed one after the other in `words`. Bits
-    /// past a table's last point are ignored. Requires n and m to be from 1 to 16, and 2^n / 64
-    /// words for each table, or one if n is below 6.
+    /// past a table's last point are ignored.
     pub fn of_words(alloc: Global, n: u8, m: u8, words: &[u64]) -> Result<Tables, AllocError>
         requires some_inputs { 1 ≤ n }
         requires few_inputs { n ≤ 16 }
@@ -72,16 +69,14 @@ impl Tables {
         })
     }
 
-    /// These truth tables, as a value of type `Problem`.
+    /// These truth tables as a `Problem`.
     pub fn problem(&self) -> &Problem
         ensures { result.now ≡ self.now }
     {
         &self.problem
     }
 
-    /// The value of output `output`, counted from 0, at `point`, whose bit x is the value of
-    /// variable x. Requires the output to be among those of the tables, and the point to be below
-    /// 2^n, for n variables.
+    /// The value of output `output`, counted from 0, at `point`.
     pub fn value(&self, output: u8, point: u32) -> bool
         requires output { output < outputs_of self.now }
         requires point { point < 2 ^ self.now.inputs }
@@ -90,10 +85,8 @@ impl Tables {
         self.problem.value(output, point)
     }
 
-    /// The truth table of a cofactor of output `output`, counted from 0, as a function of all
-    /// variables of the tables: each of these, x, that is in the set `care` is fixed to bit x of
-    /// `value`. Takes a step for each variable in the set and each word. Requires the output to be
-    /// among those of the tables.
+    /// The cofactor of output `output` in which each variable x of `care` is fixed to bit x of
+    /// `value`, as a function of all variables. Takes a step for each variable fixed and each word.
     pub fn cofactor(
         &self,
         alloc: Global,
@@ -118,11 +111,9 @@ impl Tables {
         Ok(Row::new(n, words))
     }
 
-    /// Overwrites `values` with the values of all outputs at all points, as 0 and 1: first those of
-    /// output 0, then those of output 1, and so on. Within an output, the top variable of `order`
-    /// changes slowest and the bottom one fastest, from 0 to 1. What `points`, working memory, has
-    /// before doesn't matter. If memory is refused, neither has a meaning. Requires `order` to have
-    /// each variable of the tables once.
+    /// Overwrites `values` with the values of all outputs at all points: first those of output 0,
+    /// with the top variable of `order` changing slowest. `points` is working memory. If memory is
+    /// refused, neither has a meaning.
     pub(crate) fn write_values(
         &self,
         order: &[VarIx],
@@ -144,9 +135,7 @@ impl Tables {
         Ok(())
     }
 
-    /// The level counts of the tables' functions under `order`: entry i is the number of nodes on
-    /// level i, from the top, of their reduced diagram. They are counted in the truth tables,
-    /// without making the diagram. Requires `order` to have all variables of the tables.
+    /// The level counts under `order`, counted in the truth tables, without making the diagram.
     pub fn widths_of(&self, alloc: Global, order: &Order) -> Result<Vec<u32>, AllocError>
         requires { length order.now ≡ self.now.inputs }
         ensures { IfOk result

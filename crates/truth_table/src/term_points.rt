@@ -1,5 +1,4 @@
-//! Packed truth tables from product terms. Bit b of word w of a table is the value at point 64 w +
-//! b. A group is 32 consecutive words of each table.
+//! Packed truth tables from product terms. A group is 32 consecutive words of each table.
 
 ghost use Rattle.std.specs.Prelude.{◌≡◌, ◌+◌, ◌*◌, ◌^◌, ◌<◌, ◌≤◌, ◌==◌, ℕ, false, length, map, nat_lt, IfOk, IsFalse, if◌then◌else◌, bit_and, bit_or, get_or, slice_index, ◌/◌, ◌%◌, []};
 ghost use Rattle.std.specs.Int.{bit_at};
@@ -18,16 +17,12 @@ use rayon::prelude::*;
 use std::alloc::{AllocError, Global};
 use std::thread::Threads;
 
-/// How many consecutive words of each table form a group.
 const GROUP_WORDS: usize = 32;
 
-/// The words of a group: entry [place][o] is word `place` of the group, counted from 0, in the
-/// table of output o.
+/// Entry [p][o] is word p of the group in the table of output o.
 type GroupWords = [[u64; 16]; 32];
 
-/// The points of a word of a packed truth table at which the term's literal of variable x holds:
-/// bit b of the result is 1 if it holds at point b. All 64 bits are 1 if the term has no literal of
-/// x. Requires x to be below 6.
+/// The points of a word at which the term's literal of variable x holds.
 fn literal_points(term: Term, x: VarIx) -> u64
     requires { x < 6 }
     ensures { (b : ℕ) → b < 64 → (bit_at result b == 1) ≡ literal_at term b x }
@@ -43,8 +38,7 @@ fn literal_points(term: Term, x: VarIx) -> u64
     }
 }
 
-/// The points of a word of a packed truth table at which the term's literals of the variables 0 to
-/// 5 hold: bit b of the result is 1 if they hold at point b. The result is the same for all words.
+/// The points of a word at which the literals of variables 0 to 5 hold: the same for all words.
 fn pattern(term: Term) -> u64
     ensures { (b : ℕ) → b < 64 → (bit_at result b == 1) ≡ literals_at term b 0 6 }
 {
@@ -55,9 +49,7 @@ fn pattern(term: Term) -> u64
     points
 }
 
-/// Whether the term's literals of the variables 6 to 15 hold in word `place` of a packed truth
-/// table, counted from 0. All 64 points of a word have the same values of these variables. Requires
-/// `place` to be below 1024.
+/// Whether the literals of variables 6 to 15 hold in word `place`, at all of its points.
 fn holds_above(term: &Term, place: usize) -> bool
     requires { place < 1024 }
     ensures { result ≡ literals_at term.now (64 * place) 6 10 }
@@ -65,8 +57,7 @@ fn holds_above(term: &Term, place: usize) -> bool
     place & (term.care >> 6) as usize == (term.value >> 6) as usize
 }
 
-/// Sets to 1 the bits that are 1 in `points`, in `words[o]` for each output o of the set with the
-/// mask `outs`. All other bits stay.
+/// Sets the bits `points` in `words[o]` for each output o of the set `outs`.
 #[inline(always)]
 fn add_points(words: &mut [u64; 16], outs: u16, points: u64)
     ensures { (o : ℕ) → o < 16 →
@@ -80,9 +71,7 @@ fn add_points(words: &mut [u64; 16], outs: u16, points: u64)
     }
 }
 
-/// Whether the term's literals of the variables 11 to 15 hold in group `group`, the 32 words from
-/// word 32 * group on of a packed truth table. All points of a group have the same values of these
-/// variables. If false, the term is 0 in the whole group. Requires `group` to be below 32.
+/// Whether the literals of variables 11 to 15 hold in group `group`. If not, the term is 0 there.
 fn may_hold(term: &Term, group: usize) -> bool
     requires { group < 32 }
     ensures { IsFalse result → (place : ℕ) → place < 32 →
@@ -91,10 +80,7 @@ fn may_hold(term: &Term, group: usize) -> bool
     group & (term.care >> 11) as usize == (term.value >> 11) as usize
 }
 
-/// Sets to 1 the bits of the points at which the term is 1, in the tables of the term's outputs,
-/// for group `group`: the 32 words from word 32 * group on of each packed table. All other bits
-/// stay. Entry [p][o] of `words` is word p of the group in the table of output o. Requires `group`
-/// to be below 32.
+/// Sets the bits of the points of group `group` at which the term is 1, in its outputs' tables.
 fn add_term(words: &mut GroupWords, term: &Term, group: usize)
     requires { group < 32 }
     ensures { (place : ℕ) → place < 32 →
@@ -109,9 +95,7 @@ fn add_term(words: &mut GroupWords, term: &Term, group: usize)
     }
 }
 
-/// Makes group `group` of the packed tables of 16 outputs from `terms`, the terms of all of them.
-/// The group is the 32 words from word 32 * group on of each table. Entry [p][o] of the result is
-/// word p of the group in the table of output o. Requires `group` to be below 32.
+/// Makes group `group` of the packed tables of 16 outputs.
 fn group_words(terms: &[Term], group: usize) -> GroupWords
     requires { group < 32 }
     ensures { AreGroupWords terms.now group result }
@@ -125,8 +109,7 @@ fn group_words(terms: &[Term], group: usize) -> GroupWords
     words
 }
 
-/// A mask of the bits of a word that stand for points of n variables: the lowest 2^n bits, or all
-/// 64 if n is 6 or more. Requires n to be at most 16.
+/// The bits of a word that stand for points of n variables: all 64 if n is 6 or more.
 pub(crate) fn points_mask(n: u8) -> u64
     requires { n ≤ 16 }
     ensures { (b : ℕ) → b < 64 → (bit_at result b == 1) ≡ nat_lt b (2 ^ n) }
@@ -138,10 +121,8 @@ pub(crate) fn points_mask(n: u8) -> u64
     }
 }
 
-/// The packed tables of m outputs, one after the other, each of `size` words. Entry [g][p][o] of
-/// `groups` is word 32 * g + p in the table of output o. Of each word only the bits of `mask` are
-/// kept. Requires m to be at most 16, `size` to be from 1 to 1024, and `groups` to have all these
-/// words.
+/// The packed tables of m outputs, each of `size` words. Entry [g][p][o] of `groups` is word 32 * g
+/// + p in the table of output o. Of each word only the bits of `mask` are kept.
 fn lay_out(
     alloc: Global,
     m: u8,
@@ -166,8 +147,7 @@ fn lay_out(
     Ok(words)
 }
 
-/// How many groups of 32 words a table of `size` words, at most 1024, has. The last one may have
-/// fewer words.
+/// How many groups a table of `size` words has. The last one may have fewer words.
 fn groups_of(size: usize) -> usize
     requires { size ≤ 1024 }
     ensures { result ≡ (size + 31) / 32 }
@@ -178,17 +158,12 @@ fn groups_of(size: usize) -> usize
 /// How many terms, summed over its groups, a thread has to evaluate to be worth its start.
 const TERMS_WORTH_A_THREAD: usize = 8_192;
 
-/// The least number of groups of 32 words that a thread takes, if `terms` terms are evaluated for
-/// each group: `TERMS_WORTH_A_THREAD`, which is 8,192, divided by `terms`, rounded down. For no
-/// term it is 8,192.
 fn least_groups(terms: usize) -> usize {
     TERMS_WORTH_A_THREAD / terms.max(1)
 }
 
-/// The packed truth tables of m outputs over n inputs, one after the other. An output is the
-/// disjunction of those of `terms` that belong to it. The threads of `rt` share the work. Requires
-/// n and m to be from 1 to 16, and terms that have literals of these inputs only and belong to
-/// these outputs only.
+/// The packed truth tables of m outputs over n inputs, one after the other. The threads of `rt`
+/// share the work.
 pub(crate) fn packed_words<R: Threads + Sync>(
     rt: &R,
     alloc: Global,
@@ -221,9 +196,7 @@ pub(crate) fn packed_words<R: Threads + Sync>(
     Ok(words)
 }
 
-/// Makes the groups 0 to `count` - 1 of the packed tables of 16 outputs from `terms`, the terms of
-/// all of them, by the calling thread. Entry [g][p][o] of the result is word 32 * g + p in the
-/// table of output o. Requires `count` to be at most 32.
+/// The first `count` groups of the packed tables of 16 outputs, made by the calling thread.
 fn groups_alone(alloc: Global, terms: &[Term], count: usize) -> Result<Vec<GroupWords>, AllocError>
     requires { count ≤ 32 }
     ensures long { IfOk result (λ v. length v.items ≡ count) }
