@@ -24,10 +24,7 @@ use std::thread::Threads;
 use truth_table::Tables;
 use unique_table::{CloseFault, Pieces, Session, Store};
 
-/// The reduced diagram of the store's functions. Makes the outputs from their published parts,
-/// publishes them, and closes the store. Requires a store whose parts are made from `source` (truth
-/// tables or terms), and `session`, one of its sessions, to have seen all parts published. The
-/// error is `StoreFull` with the session if the store has no place for a node, or `OutOfMemory`.
+/// Makes the outputs from their published parts, publishes them, and closes the store.
 fn finish(
     alloc: Global,
     store: Store,
@@ -53,12 +50,9 @@ fn finish(
     }
 }
 
-/// Builds all parts of the outputs from `source`, truth tables or terms, and publishes them, by
-/// `count` workers, at least 1. Each has a thread of its own, started by `crew`, and a session
-/// split off `session`, and calls the gate of `crew` before it publishes a part. Entry i of the
-/// result is the session with which worker i + 1 ended: as `Err` if the worker met a full store,
-/// and so left parts unbuilt. Requires `session` to be a session of `store`, whose parts are made
-/// from `source`.
+/// Builds and publishes all parts by `count` workers, each with a thread of its own and a session
+/// split off `session`. Entry i is the session with which worker i + 1 ended: `Err` if it met a
+/// full store, and so left parts unbuilt.
 fn ends_of_workers<R: Threads + Sync, G: Gate>(
     crew: &Crew<'_, R, G>,
     alloc: Global,
@@ -92,11 +86,8 @@ fn ends_of_workers<R: Threads + Sync, G: Gate>(
     Ok(ended)
 }
 
-/// Builds all parts of the outputs from `source`, truth tables or terms, and publishes them. Each
-/// worker of `crew` has a thread of its own and a session split off `session`. Returns the session
-/// that joins theirs, which has seen all parts. The error is `StoreFull` with the joined session if
-/// a worker met a full store, or `OutOfMemory`. Requires `session` to be a session of `store`,
-/// whose parts are made from `source`.
+/// Builds and publishes all parts by the workers of `crew`, and returns the session that joins
+/// theirs.
 fn parts_by_workers<R: Threads + Sync, G: Gate>(
     crew: &Crew<'_, R, G>,
     alloc: Global,
@@ -125,10 +116,8 @@ fn parts_by_workers<R: Threads + Sync, G: Gate>(
     }
 }
 
-/// Builds the reduced diagram of the store's functions. The workers of `crew` build the parts of
-/// the outputs from `source`, truth tables or terms, and the calling thread makes the outputs from
-/// the parts. Requires `session` to be a session of `store`, whose parts are made from `source`.
-/// The error is `StoreFull` with a session if the store has no place for a node, or `OutOfMemory`.
+/// Builds the reduced diagram of the store's functions: the parts of the outputs by the workers of
+/// `crew`, the outputs by the calling thread.
 fn build_in<R: Threads + Sync, G: Gate>(
     crew: &Crew<'_, R, G>,
     alloc: Global,
@@ -146,12 +135,9 @@ fn build_in<R: Threads + Sync, G: Gate>(
     finish(alloc, store, session, source)
 }
 
-/// Builds the reduced diagram of the store's functions from `tables`, their truth tables. The
-/// parts, outputs with the top two variables (or the only one) fixed, are counted from 0 over all
-/// outputs; worker i, from 1 on, builds each part q with `q % workers = i - 1`, and calls `gate`
-/// before publishing it. Requires `session` to be a session of `store`, which has such parts. The
-/// error is `OutOfMemory`, or `StoreFull` if the store has no place for a node, which can't be if
-/// `session` is the store's only one and has made no node.
+/// Builds the reduced diagram of the store's functions from `tables`. The parts are counted from 0
+/// over all outputs; worker i, from 1 on, builds each part q with `q % workers = i - 1`, and calls
+/// `gate` before publishing it.
 pub fn from_tables<R: Threads + Sync, G: Gate>(
     rt: &R,
     alloc: Global,
@@ -171,11 +157,8 @@ pub fn from_tables<R: Threads + Sync, G: Gate>(
     build_in(&crew, alloc, store, session, Source::Tables(tables))
 }
 
-/// Builds the reduced diagram of the store's functions from the terms of `cover`. The parts, 64
-/// disjunctions of terms for each output, are counted from 0 over all outputs; worker i, from 1 on,
-/// builds each part q with `q % workers = i - 1`, and calls `gate` before publishing it. Requires
-/// `session` to be a session of `store`, which was made for this cover, with such parts. The error
-/// is `StoreFull` with a session if the store has no place for a node, or `OutOfMemory`.
+/// Builds the reduced diagram of the store's functions from the terms of `cover`. Parts are built
+/// as by `from_tables`.
 pub fn from_cover<R: Threads + Sync, G: Gate>(
     rt: &R,
     alloc: Global,
@@ -194,9 +177,8 @@ pub fn from_cover<R: Threads + Sync, G: Gate>(
     build_in(&crew, alloc, store, session, Source::Terms(cover.terms()))
 }
 
-/// An empty store for the functions of `tables` under `order`, and the store's first session. The
-/// parts of its outputs are the outputs with the top two variables, or the only one, fixed.
-/// Requires `order` to have all variables of the tables.
+/// An empty store for the functions of `tables` under `order`, and its first session. The parts of
+/// its outputs are the outputs with the top two variables, or the only one, fixed.
 pub fn tables_store(
     alloc: Global,
     tables: &Tables,
@@ -216,10 +198,8 @@ pub fn tables_store(
     )
 }
 
-/// An empty store for the functions of a cover under `order`, and the store's first session. Each
-/// output has 64 parts: part k is the disjunction of those of its terms whose index in the cover
-/// leaves the remainder k when divided by 64. Requires `tables` to be the cover's truth tables, and
-/// `order` to have all inputs of the cover.
+/// An empty store for the functions of a cover under `order`, and its first session. Part k of an
+/// output has those of its terms whose index in the cover is k modulo 64.
 pub fn cover_store(
     alloc: Global,
     cover: &Cover,
@@ -237,9 +217,7 @@ pub fn cover_store(
     Store::new(alloc, order.try_clone(alloc)?, tables.problem(), pieces)
 }
 
-/// Builds the reduced diagram of the functions of `tables` under `order`, from the tables, in a new
-/// store. Each worker calls `gate` before it publishes a part of an output. Requires `order` to
-/// have all variables of the tables.
+/// Builds the reduced diagram of the functions of `tables` under `order`, in a new store.
 pub fn build_tables<R: Threads + Sync, G: Gate>(
     rt: &R,
     alloc: Global,
@@ -260,11 +238,8 @@ pub fn build_tables<R: Threads + Sync, G: Gate>(
     }
 }
 
-/// Builds the reduced diagram of a cover's functions under `order` by the workers of `crew`: from
-/// the cover's terms in the store `begun.0`, or, if this store gets full, from `tables` in a new
-/// store. Requires `tables` to be the cover's truth tables, the store to be made for the cover and
-/// `order`, with disjunctions of the cover's terms as parts of outputs, and `begun.1` to be a
-/// session of it.
+/// Builds the reduced diagram of a cover's functions from its terms in the store `begun.0`, or, if
+/// this gets full, from `tables` in a new store.
 pub fn build_from<R: Threads + Sync, G: Gate>(
     crew: &Crew<'_, R, G>,
     alloc: Global,
@@ -293,16 +268,13 @@ pub fn build_from<R: Threads + Sync, G: Gate>(
     }
 }
 
-/// Whether the cover has more than 2^n / 64 terms, for n inputs. The diagram of such a cover is
-/// built from its truth tables and not from its terms.
+/// Whether the diagram is built from the truth tables: with more than 2^n / 64 terms, for n inputs.
 fn has_many_terms(cover: &Cover) -> bool {
     cover.terms().len() > (1usize << cover.inputs()) / 64
 }
 
-/// Builds the reduced diagram of a cover's functions under `order`. If the cover has more than
-/// 2^n / 64 terms, for n inputs, it is built from `tables`, else from the terms, or from `tables`
-/// after all if they fill a store. Each worker calls `gate` before it publishes a part of an
-/// output. Requires `tables` to be the cover's truth tables, and `order` to have all inputs.
+/// Builds the reduced diagram of a cover's functions under `order`: from `tables` if the cover has
+/// more than 2^n / 64 terms, for n inputs, or if its terms fill a store, else from the terms.
 pub fn build<R: Threads + Sync, G: Gate>(
     rt: &R,
     alloc: Global,

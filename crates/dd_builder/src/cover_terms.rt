@@ -15,10 +15,7 @@ use order_model::{Term, contains};
 use unique_table::{NodeId, Operation, Session, Store, StoreFull, TERM_SHARES};
 
 /// The id of the conjunction of the function of `id` and the term's literal of the variable on
-/// level `level` of the store's order, or `id` itself if the term has no such literal. Makes the
-/// node if it isn't in the store. Requires `id` to be a terminal or a node below this level, and
-/// `session`, one of `store`'s, to have seen it; the session then knows the nodes that it made or
-/// saw. `StoreFull` if the store has no place for a node.
+/// level `level`, or `id` itself if there is none.
 fn literal_and(
     store: &Store,
     session: &mut Session,
@@ -44,9 +41,7 @@ fn literal_and(
     }
 }
 
-/// Returns the id of the conjunction of a term's literals of the store's variables; nodes that the
-/// store lacks are made. Requires `session` to be one of `store`'s; it then knows the nodes that it
-/// made or saw. `StoreFull` if the store has no place for a node.
+/// The id of the conjunction of a term's literals.
 fn term_id(store: &Store, session: &mut Session, term: Term) -> Result<NodeId, StoreFull>
     requires session { session.old.store ≡ store.now }
     ensures { Makes session.old session.new result (matches (product_in store.now.plan term)) }
@@ -60,10 +55,8 @@ fn term_id(store: &Store, session: &mut Session, term: Term) -> Result<NodeId, S
     Ok(id)
 }
 
-/// The id of the disjunction of the function of `id` and the term if the term belongs to output
-/// `output`, else `id` itself. Requires `output` to be one of the store's, and `session`, one of
-/// `store`'s, to have seen `id`; the session then knows the nodes that it made or saw. `StoreFull`
-/// if the store has no place for a node.
+/// The id of the disjunction of the function of `id` and the term if this belongs to output
+/// `output`, else `id`.
 fn or_term(
     store: &Store,
     session: &mut Session,
@@ -85,10 +78,8 @@ fn or_term(
     apply(store, session, Operation::Or, id, cube)
 }
 
-/// The id of the disjunction of those terms of output `output`, one of the store's, whose index in
-/// `terms` leaves the remainder `share`, below 64, when divided by `TERM_SHARES`, which is 64.
-/// `terms` has the terms of all outputs. Requires `session` to be one of `store`'s; it then knows
-/// the nodes that it made or saw. `StoreFull` if the store has no place for a node.
+/// The id of the disjunction of those terms of `output` whose index is `share` modulo
+/// `TERM_SHARES`.
 fn output_share(
     store: &Store,
     session: &mut Session,
@@ -113,11 +104,8 @@ fn output_share(
     Ok(id)
 }
 
-/// Makes the nodes of part `piece` of the outputs, and returns its id. The part is the disjunction
-/// of those terms of output `piece / 64` whose index in `terms` leaves the remainder `piece % 64`
-/// when divided by 64. Requires a store whose parts are made so from `terms`, and `piece` to be
-/// below their number. Requires `session` to be one of `store`'s; it then knows the nodes that it
-/// made or saw. `StoreFull` if the store has no place for a node.
+/// Makes part `piece`, a disjunction of some of the terms of output `piece / 64`, and returns its
+/// id.
 pub(crate) fn terms_share(
     store: &Store,
     session: &mut Session,

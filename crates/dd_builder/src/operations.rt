@@ -10,7 +10,7 @@ ghost use Rattle.dd_builder.specs.Operating.{AreOperands, IsFrom, IsSettled, IsC
 use op_cache::{recall, remember};
 use unique_table::{NodeId, Operation, Session, Store, StoreFull};
 
-/// `second` if `first` is `neutral`, else `first` if `second` is, else None.
+/// `second` if `first` is `neutral`, or `first` if `second` is.
 fn beside_neutral(neutral: NodeId, first: NodeId, second: NodeId) -> Option<NodeId>
     ensures { result ≡ (if first == neutral then Some second
         else if second == neutral then Some first else None) }
@@ -24,8 +24,7 @@ fn beside_neutral(neutral: NodeId, first: NodeId, second: NodeId) -> Option<Node
     }
 }
 
-/// The id of the conjunction of the functions of two ids, if one of these is a terminal or both are
-/// equal. Else None.
+/// The id of the conjunction, if one of the ids is a terminal or both are equal.
 fn terminal_case_of_and(first: NodeId, second: NodeId) -> Option<NodeId>
     ensures { IsSettled Operation.And first second result }
 {
@@ -38,8 +37,7 @@ fn terminal_case_of_and(first: NodeId, second: NodeId) -> Option<NodeId>
     }
 }
 
-/// The id of the disjunction of the functions of two ids, if one of these is a terminal or both are
-/// equal. Else None.
+/// The id of the disjunction, if one of the ids is a terminal or both are equal.
 fn terminal_case_of_or(first: NodeId, second: NodeId) -> Option<NodeId>
     ensures { IsSettled Operation.Or first second result }
 {
@@ -52,8 +50,7 @@ fn terminal_case_of_or(first: NodeId, second: NodeId) -> Option<NodeId>
     }
 }
 
-/// The id of the exclusive disjunction of the functions of two ids, if one of these is the terminal
-/// 0 or both are equal. Else None.
+/// The id of the exclusive disjunction, if one of the ids is the terminal 0 or both are equal.
 fn terminal_case_of_xor(first: NodeId, second: NodeId) -> Option<NodeId>
     ensures { IsSettled Operation.Xor first second result }
 {
@@ -64,8 +61,7 @@ fn terminal_case_of_xor(first: NodeId, second: NodeId) -> Option<NodeId>
     }
 }
 
-/// The id of `operation` applied to the functions of two ids, if both ids are equal or one is a
-/// terminal; for xor only the terminal 0 counts. Else None.
+/// The id of the result, if the ids settle it.
 fn terminal_case(operation: Operation, first: NodeId, second: NodeId) -> Option<NodeId>
     ensures { IsSettled operation first second result }
 {
@@ -76,9 +72,7 @@ fn terminal_case(operation: Operation, first: NodeId, second: NodeId) -> Option<
     }
 }
 
-/// The level of the node with id `id`, counted from 0 at the top, or the number of levels for a
-/// terminal. Requires `session`, one of `store`'s, to have seen `id`; the session adds the node's
-/// children to what it has seen.
+/// The level of a node, counted from 0 at the top. Terminals lie below all levels.
 fn level_of(store: &Store, session: &mut Session, id: NodeId) -> u8
     requires session { session.old.store ≡ store.now }
     requires known { Knows session.old id }
@@ -94,9 +88,7 @@ fn level_of(store: &Store, session: &mut Session, id: NodeId) -> u8
     }
 }
 
-/// The level, counted from 0 at the top, of the higher one of two nodes or terminals, given by
-/// their ids. Requires one of them not to be a terminal, and `session`, one of `store`'s, to have
-/// seen both ids; the session adds their children to what it has seen.
+/// The higher of the levels of two nodes.
 fn top_level(store: &Store, session: &mut Session, first: NodeId, second: NodeId) -> u8
     requires session { session.old.store ≡ store.now }
     requires operands { AreOperands session.old first second }
@@ -110,10 +102,7 @@ fn top_level(store: &Store, session: &mut Session, first: NodeId, second: NodeId
     one.min(two)
 }
 
-/// The low and the high child of the node with id `id` if it is on level `level`. If it lies below,
-/// or is a terminal, both are `id` itself. Requires it not to lie above, `level` to be one of the
-/// store's levels, and `session`, one of `store`'s, to have seen `id`; the session adds the
-/// children to what it has seen.
+/// The children of a node that is on level `level`, or twice the node itself if it lies below.
 fn children(store: &Store, session: &mut Session, id: NodeId, level: u8) -> (NodeId, NodeId)
     requires session { session.old.store ≡ store.now }
     requires known { Knows session.old id }
@@ -128,22 +117,15 @@ fn children(store: &Store, session: &mut Session, id: NodeId, level: u8) -> (Nod
     }
 }
 
-/// Two ids, seen as nodes of the higher one of their levels. If an id lies below this level, both
-/// its children are the id itself.
+/// Two nodes, seen from the higher of their levels: the children of a node below it are the node.
 #[derive(Clone, Copy)]
 struct Cut {
-    /// The higher level.
     level: u8,
-    /// The low and the high child of the first id.
     first: (NodeId, NodeId),
-    /// The low and the high child of the second id.
     second: (NodeId, NodeId),
 }
 
-/// The level of the higher one of two nodes or terminals, given by their ids, and the low and the
-/// high child of each. If one of them lies below this level, or is a terminal, both its children
-/// are its own id. Requires one not to be a terminal, and `session`, one of `store`'s, to have seen
-/// both ids; the session adds their children to what it has seen.
+/// The higher level of two nodes, and the children of each, as seen from there.
 fn take_apart(store: &Store, session: &mut Session, first: NodeId, second: NodeId) -> Cut
     requires session { session.old.store ≡ store.now }
     requires operands { AreOperands session.old first second }
@@ -165,11 +147,7 @@ fn take_apart(store: &Store, session: &mut Session, first: NodeId, second: NodeI
     }
 }
 
-/// Applies `operation` to the functions of two ids, neither of which lies above level `from`, and
-/// returns the id of the result, which doesn't either. Terminals lie below all levels. Requires
-/// `from` to be at most the number of levels, and `session`, one of `store`'s, to have seen both
-/// ids; the session then knows the nodes that it made or saw. `StoreFull` if the store has no place
-/// for a node.
+/// Applies `operation` to the functions of two ids, neither of which lies above level `from`.
 fn apply_from(
     store: &Store,
     session: &mut Session,
@@ -203,10 +181,7 @@ fn apply_from(
 }
 
 /// Applies `operation` to the functions of two ids (Bryant's apply), and returns the id of the
-/// result. The result lies on no level above the higher of the two. Allocates no memory; results
-/// are remembered in the store's operation cache. Requires `session`, one of `store`'s, to have
-/// seen both ids; the session then knows the nodes that it made or saw. `StoreFull` if the store
-/// has no place for a node.
+/// result. Allocates no memory; results are remembered in the store's operation cache.
 pub fn apply(
     store: &Store,
     session: &mut Session,

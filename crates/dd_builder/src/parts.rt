@@ -1,5 +1,3 @@
-//! The parts of outputs, made from truth tables or terms.
-
 ghost use Rattle.std.specs.Prelude.{◌≡◌, ◌<◌, ◌≤◌, IfOk, OnErr};
 ghost use Rattle.unique_table.specs.Plans.{piece_function};
 ghost use Rattle.unique_table.specs.Sessions.{Means, Follows, depth_in};
@@ -15,16 +13,11 @@ use unique_table::{NodeId, Session, Store, StoreFull};
 /// What the parts of a store's outputs are made from.
 #[derive(Clone, Copy)]
 pub(crate) enum Source<'a> {
-    /// The truth tables of all functions.
     Tables(&'a Tables),
-    /// The terms of a cover.
     Terms(&'a [Term]),
 }
 
-/// Makes the nodes of part `piece` from `source`, truth tables or terms, and returns its id. Parts
-/// are counted from 0 over all outputs. Requires `session` to be a session of `store`, whose parts
-/// are made from `source`, and `piece` to be below their number; the session then knows the nodes
-/// that it made or saw. `StoreFull` if the store has no place for a node.
+/// Makes the nodes of part `piece`, counted over all outputs, and returns its id.
 pub(crate) fn part(
     store: &Store,
     session: &mut Session,

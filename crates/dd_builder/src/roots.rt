@@ -1,5 +1,3 @@
-//! The outputs, made from their published parts.
-
 ghost use Rattle.std.specs.Prelude.{◌≡◌, ◌+◌, ◌^◌, ◌<◌, ◌≤◌, length, take, IfOk, OnOk, OnErr};
 ghost use Rattle.definitions.specs.Problems.{outputs_of};
 ghost use Rattle.unique_table.specs.Plans.{order_of, output_at, piece_function, fixed, top_variables as top_variables_of};
@@ -16,9 +14,7 @@ use crate::parts::Source;
 use crate::tables::top_variables;
 use unique_table::{NodeId, Operation, Session, Store, StoreFull, TERM_SHARES};
 
-/// The published id of part `piece`, counted from 0 over the parts of all outputs. Requires `piece`
-/// to be below their number, and `session`, one of `store`'s, to have seen all parts published; the
-/// session makes no node, and then knows the nodes that it saw.
+/// The published id of part `piece`. No node is made.
 fn part_id(store: &Store, session: &mut Session, piece: usize) -> NodeId
     requires session { KnowsParts store.now session.old }
     requires piece { piece < store.now.plan.roots }
@@ -35,11 +31,7 @@ fn part_id(store: &Store, session: &mut Session, piece: usize) -> NodeId
 }
 
 /// The id of output `output` with the variables of the levels 0 to `level - 1` fixed, that of level
-/// i to bit i of `path`. It is made from the output's published parts. Requires a store in whose
-/// parts the top k variables are fixed, where k is 2, or 1 for an order of one variable; `level` to
-/// be at most k, and `path` below 2^level; and `session`, one of `store`'s, to have seen all parts
-/// published. The session then knows the nodes that it made or saw. `StoreFull` if the store has no
-/// place for a node.
+/// i to bit i of `path`, made from its published parts.
 fn of_restrictions(
     store: &Store,
     session: &mut Session,
@@ -70,11 +62,7 @@ fn of_restrictions(
     store.make(session, level, low, high)
 }
 
-/// The id of the disjunction of `count` published parts, at least 1, of output `output`, from its
-/// part `first` on. Requires a store in which each output has 64 parts, numbered from 0, that are
-/// disjunctions of its terms, and `session`, one of its sessions, to have seen all parts published;
-/// the session then knows the nodes that it made or saw. `StoreFull` if the store has no place for
-/// a node.
+/// The id of the disjunction of `count` published parts of `output`, from its part `first` on.
 fn of_shares(
     store: &Store,
     session: &mut Session,
@@ -101,10 +89,7 @@ fn of_shares(
     apply(store, session, Operation::Or, lower, upper)
 }
 
-/// The id of output `output`, made as the disjunction of all its published parts. Requires a store
-/// whose parts are disjunctions of terms, and `session`, one of its sessions, to have seen all
-/// parts published; the session then knows the nodes that it made or saw. `StoreFull` if the store
-/// has no place for a node.
+/// The id of the disjunction of all published parts of `output`.
 fn of_all_shares(store: &Store, session: &mut Session, output: u8) -> Result<NodeId, StoreFull>
     requires session { KnowsParts store.now session.old }
     requires kind { AreOfTerms store.now.plan.kind }
@@ -115,10 +100,7 @@ fn of_all_shares(store: &Store, session: &mut Session, output: u8) -> Result<Nod
     of_shares(store, session, output, 0, TERM_SHARES)
 }
 
-/// The id of output `output`, made from its published parts. Requires a store whose parts are made
-/// from `source`, truth tables or terms, and `session`, one of its sessions, to have seen all parts
-/// published; the session then knows the nodes that it made or saw. `StoreFull` if the store has no
-/// place for a node.
+/// The id of output `output`, made from its published parts.
 fn root(
     store: &Store,
     session: &mut Session,
@@ -138,10 +120,8 @@ fn root(
     }
 }
 
-/// Makes all outputs from their published parts, and publishes the outputs. Requires a store whose
-/// parts are made from `source`, truth tables or terms, and `session`, one of its sessions, to have
-/// seen all parts published; the session then knows the nodes that it made or saw. `StoreFull` if
-/// the store has no place for a node; some outputs may then be published.
+/// Makes all outputs from their published parts, and publishes them. After an error some may be
+/// published.
 pub(crate) fn publish_roots(
     store: &Store,
     session: &mut Session,

@@ -1,5 +1,3 @@
-//! Nodes of functions that are given by truth tables.
-
 ghost use Rattle.std.specs.Prelude.{◌≡◌, ◌^◌, ◌<◌, ◌≤◌, length, take, IfOk, OnErr};
 ghost use Rattle.definitions.specs.Orders.{IsOrder};
 ghost use Rattle.definitions.specs.Problems.{outputs_of};
@@ -14,9 +12,7 @@ use order_model::VarIx;
 use truth_table::Tables;
 use unique_table::{NodeId, Session, Store, StoreFull};
 
-/// The point at which the variable of each level i of `order` has the value of bit i of `path`. Bit
-/// x of the point is the value of variable x. Requires `order` to have each variable below its
-/// length once, and a length of at most 16.
+/// The point at which the variable of each level i has the value of bit i of `path`.
 fn point_of(order: &[VarIx], path: u32) -> u32
     requires order { IsOrder (length order.now) order.now }
     requires few { length order.now ≤ 16 }
@@ -32,20 +28,14 @@ fn point_of(order: &[VarIx], path: u32) -> u32
 /// Values for the variables above a level.
 #[derive(Clone, Copy, Debug)]
 struct Path {
-    /// The level: the variables of the levels 0 to `level - 1` have a value.
     level: u8,
-    /// The values: bit i is the value of the variable of level i. Bits from `level` on are 0.
+    /// Bit i is the value of the variable of level i. Bits from `level` on are 0.
     bits: u32,
-    /// The point with these values, and 0 for the variables below. Bit x is the value of variable
-    /// x.
+    /// The point with these values, and 0 for the variables below.
     point: u32,
 }
 
-/// Makes the nodes of a function, and returns its id: output `output` with the variables above some
-/// level fixed. `path` has the level, and the value of each variable above it in the store's order.
-/// Requires `tables` to be the truth tables of the store's functions. Requires `session` to be one
-/// of `store`'s; it then knows the nodes that it made or saw. `StoreFull` if the store has no place
-/// for a node.
+/// Makes the nodes of output `output` with the variables fixed as `path` says, and returns the id.
 fn output_below(
     store: &Store,
     session: &mut Session,
@@ -83,8 +73,7 @@ fn output_below(
     store.make(session, level, low, high)
 }
 
-/// How many variables on top of `order` are fixed in parts that are made from truth tables: two, or
-/// one if there is only one. Requires `order` not to be empty.
+/// How many variables on top of `order` are fixed in parts that are made from truth tables.
 pub(crate) fn top_variables(order: &[VarIx]) -> u8
     requires { 1 ≤ length order.now }
     ensures value { result ≡ length (top_variables order.now) }
@@ -93,11 +82,7 @@ pub(crate) fn top_variables(order: &[VarIx]) -> u8
     if order.len() == 1 { 1 } else { 2 }
 }
 
-/// Makes part `piece` of the outputs from their truth tables, and returns its id. The part is
-/// output `piece / a` with the variable of each top level i fixed to bit i of `piece % a`. Here a
-/// is 4, or 2 if the order has only one variable. Requires a store whose parts are made so from
-/// `tables`, and `piece` to be below their number. Requires `session` to be one of `store`'s; it
-/// then knows the nodes that it made or saw. `StoreFull` if the store has no place for a node.
+/// Makes part `piece`, an output with its top variables fixed, and returns its id.
 pub(crate) fn restriction(
     store: &Store,
     session: &mut Session,

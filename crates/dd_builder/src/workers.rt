@@ -1,5 +1,3 @@
-//! Workers that share the work of building the parts of a store's outputs.
-
 ghost use Rattle.std.specs.Prelude.{◌≡◌, ◌-◌, ◌<◌, ◌≤◌, IfOk, vec_len};
 ghost use Rattle.unique_table.specs.Sessions.{Knowledge};
 ghost use Rattle.dd_builder.specs.declared.parts.Source.{Source};
@@ -10,20 +8,16 @@ use order_model::Gate;
 use std::alloc::{AllocError, Global};
 use unique_table::{Session, Store};
 
-/// The job of one worker that builds parts.
 #[derive(Drop)]
 pub(crate) struct BuildJob {
     /// The worker's number, counted from 1.
     pub(crate) worker: u8,
-    /// The worker's session.
     pub(crate) session: Session,
 }
 
-/// Does the work of worker number `worker`, counted from 1, of `workers` workers. Of the parts,
-/// counted from 0 over all outputs, it builds from `source`, truth tables or terms, each part q
-/// with `q % workers == worker - 1`, calls the gate, and publishes the part. Returns the session at
-/// the end; as `Err` if it met a full store, which ends the work. Requires `worker` to be at most
-/// `workers`, and `session` to be a session of `store`, whose parts are made from `source`.
+/// Builds, from `source`, each part q with `q % workers == worker - 1`, calls the gate, and
+/// publishes the part. Returns the session at the end: `Err` if it met a full store, which ends the
+/// work.
 pub(crate) fn build_parts<G: Gate>(
     store: &Store,
     mut session: Session,
@@ -51,8 +45,7 @@ pub(crate) fn build_parts<G: Gate>(
     Ok(session)
 }
 
-/// Splits `session`, one of `store`'s, among `workers` workers, at least 1. Entry i of the result
-/// is the job of worker i + 1: this number and the worker's session.
+/// Splits `session` among `workers` workers.
 pub(crate) fn jobs(
     alloc: Global,
     store: &Store,
@@ -81,8 +74,7 @@ pub(crate) fn jobs(
     Ok(jobs)
 }
 
-/// The session in `end`, with which a worker has ended, and true if it is an `Err`: the worker met
-/// a full store.
+/// The session in `end`, and whether its worker met a full store.
 fn session_at_end(end: Result<Session, Session>) -> (Session, bool)
     ensures { IsOpened end result.0 result.1 }
 {
@@ -92,10 +84,7 @@ fn session_at_end(end: Result<Session, Session>) -> (Session, bool)
     }
 }
 
-/// Joins the sessions with which all workers ended to one that has seen what any of them has seen.
-/// Returns it as `Err` if a worker met a full store. Entry i of `ended` is the session of worker
-/// i + 1, as `Err` if that worker met a full store, else after it published its parts. Requires
-/// `workers` entries, at least 1, with sessions of `store`.
+/// Joins the sessions with which the workers ended. Returns it as `Err` if one met a full store.
 pub(crate) fn join_all(
     store: &Store,
     workers: u8,

@@ -1,5 +1,4 @@
-//! Packing and unpacking the words of nodes and of cache entries, and the search for a node's
-//! place.
+//! The words of nodes and of cache entries, and the search for a node's place.
 
 ghost use Rattle.std.specs.Prelude.{◌≡◌, ℕ, ◌+◌, ◌-◌, ◌*◌, ◌^◌, ◌<◌};
 ghost use Rattle.node_words.specs.Nodes.{node_word, home, probe, level_of, low_of, high_of};
@@ -7,8 +6,8 @@ ghost use Rattle.node_words.specs.Entries.{code_of};
 
 use crate::operation::Operation;
 
-/// A node: its level, counted from 0 at the top, and the ids of its low and its high child. Ids 0
-/// and 1 are the terminals, and the node at place p of the store has the id p + 2.
+/// A node: its level, from 0 at the top, and the ids of its children. Ids 0 and 1 are the
+/// terminals, and the node at place p of the store has the id p + 2.
 #[derive(Clone, Copy, Debug, PartialEq, Eq)]
 pub struct NodeParts {
     pub level: u8,
@@ -16,9 +15,8 @@ pub struct NodeParts {
     pub high: u32,
 }
 
-/// The word of a node: 1 in bit 44, the level in bits 40 to 43, the id of the low child in bits 20
-/// to 39, and that of the high child in bits 0 to 19. Requires `level` to be below 16, and both ids
-/// to be below 2^20.
+/// The word of a node: 1 in bit 44, the level from bit 40 on, the low child's id from bit 20 on,
+/// the high child's in the lowest 20 bits.
 pub fn node_word(level: u8, low: u32, high: u32) -> u64
     requires level { level < 16 }
     requires low { low < 2 ^ 20 }
@@ -28,9 +26,7 @@ pub fn node_word(level: u8, low: u32, high: u32) -> u64
     (1 << 44) + (u64::from(level) << 40) + (u64::from(low) << 20) + u64::from(high)
 }
 
-/// Unpacks the word of a node: the level from bits 40 to 43, the id of the low child from bits 20
-/// to 39, and that of the high child from bits 0 to 19. Any word is allowed; its other bits are
-/// ignored.
+/// Unpacks the word of a node. Other bits of any word are ignored.
 pub fn node_parts(word: u64) -> NodeParts
     ensures level { result.level ≡ level_of word }
     ensures low { result.low ≡ low_of word }
@@ -43,8 +39,7 @@ pub fn node_parts(word: u64) -> NodeParts
     }
 }
 
-/// The place, counted from 0, at which the search for the node word `word` starts in a store of
-/// `places` places: a hash of the word. Requires `places` to be at least 1 and below 2^32.
+/// The place at which the search for the node word `word` starts: a hash of the word.
 pub fn start(places: usize, word: u64) -> usize
     requires some { 0 < places }
     requires few { places < 2 ^ 32 }
@@ -56,9 +51,7 @@ pub fn start(places: usize, word: u64) -> usize
     (((second >> 32) * places as u64) >> 32) as usize
 }
 
-/// The place that a search comes to after it passed `passed` places from place `start` on, in a
-/// store of `places` places: `(start + passed) % places`. Requires `start` and `passed` to be below
-/// `places`.
+/// The place that a search comes to after `passed` places from place `start` on.
 pub fn probe(start: usize, passed: usize, places: usize) -> usize
     requires start { start < places }
     requires passed { passed < places }
@@ -72,9 +65,9 @@ pub fn probe(start: usize, passed: usize, places: usize) -> usize
     }
 }
 
-/// The key of a cache entry: the code of the operation (1 for And, 2 for Or, 3 for Xor) from bit 40
-/// on, the id `first` in bits 20 to 39, and the id `second` in bits 0 to 19. The word of the entry
-/// is `key << 20` plus the id of the operation's result. Requires both ids to be below 2^20.
+/// The key of a cache entry: the operation's code (1 for And, 2 for Or, 3 for Xor) from bit 40 on,
+/// `first` from bit 20 on, `second` below. The entry's word is `key << 20` plus the id of the
+/// result.
 pub fn entry_key(operation: Operation, first: u32, second: u32) -> u64
     requires first { first < 2 ^ 20 }
     requires second { second < 2 ^ 20 }

@@ -1,14 +1,10 @@
-//! Recalling and remembering the results of operations.
-
 ghost use Rattle.std.specs.Prelude.{◌≡◌, ◌^◌, ◌<◌, IfSome};
 ghost use Rattle.unique_table.specs.Sessions.{Knows, Means, MakesStep, LiesNoHigher, combined_in};
 
 use node_words::start;
 use unique_table::{NodeId, Operation, Session, Store};
 
-/// The place, counted from 0, in a cache of `places` places for the result of `operation` on the
-/// ids `first` and `second`: a hash of the three. Requires `places` to be at least 1 and below
-/// 2^32.
+/// The place of a result in a cache of `places` places: a hash of the operation and the two ids.
 fn place_of(places: usize, operation: Operation, first: NodeId, second: NodeId) -> usize
     requires some { 0 < places }
     requires few { places < 2 ^ 32 }
@@ -25,9 +21,8 @@ fn place_of(places: usize, operation: Operation, first: NodeId, second: NodeId) 
     )
 }
 
-/// Looks up the result of `operation` on the functions of `first` and `second` in the store's
-/// cache, and returns its id, which `session` then knows. None if the cache doesn't hold it.
-/// Requires `session`, one of the store's, to know `first` and `second`. Makes one atomic step.
+/// The id of the result of `operation`, or None if the cache doesn't hold it. Makes one atomic
+/// step.
 pub fn recall(
     store: &Store,
     session: &mut Session,
@@ -46,9 +41,7 @@ pub fn recall(
     store.entry(session, place, operation, first, second)
 }
 
-/// Stores `id` in the store's cache as the result of `operation` on the functions of `first` and
-/// `second`, in place of the entry that was there. Requires `session`, one of the store's, to know
-/// the three ids, and `id` to denote this result. Makes one atomic step.
+/// Stores `id` as the result of `operation`, in place of what was there. Makes one atomic step.
 pub fn remember(
     store: &Store,
     session: &mut Session,

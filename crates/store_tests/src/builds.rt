@@ -64,7 +64,6 @@ fn read_input<R: Abort + Threads + Sync>(rt: &R, alloc: Global, text: &[u8]) -> 
     }
 }
 
-/// A fresh store for the terms of a cover.
 fn store_of(rt: &impl Abort, alloc: Global, input: &Input) -> (Store, Session)
     ensures cover { IsForCover result.0.plan input.now.cover }
     ensures order { order_of result.0.plan ≡ input.now.order }
@@ -73,7 +72,6 @@ fn store_of(rt: &impl Abort, alloc: Global, input: &Input) -> (Store, Session)
     cover_store(alloc, &input.cover, &input.tables, &input.order).expect(rt, "memory")
 }
 
-/// How many nodes `from_cover` gives in a fresh store.
 fn cover_size<R: Abort + Threads + Sync, G: Gate>(
     rt: &R,
     alloc: Global,
@@ -86,7 +84,6 @@ fn cover_size<R: Abort + Threads + Sync, G: Gate>(
     built.ok().expect(rt, "a diagram").size()
 }
 
-/// How many nodes `from_tables` gives in a fresh store.
 fn tables_size<R: Abort + Threads + Sync, G: Gate>(
     rt: &R,
     alloc: Global,
@@ -225,7 +222,6 @@ impl Meeting {
     }
 }
 
-/// Whether two workers that meet build sixteen nodes, and saw each of the items once.
 fn meet_over_terms<R: Abort + Threads + Sync>(
     rt: &R,
     alloc: Global,
@@ -236,8 +232,6 @@ fn meet_over_terms<R: Abort + Threads + Sync>(
     cover_size(rt, alloc, input, workers, &gate) == 16 && gate.saw_each(u64::MAX)
 }
 
-/// Whether two workers that meet build sixteen nodes from truth tables, and saw each of the four
-/// parts once.
 fn meet_over_restrictions<R: Abort + Threads + Sync>(
     rt: &R,
     alloc: Global,
@@ -303,8 +297,6 @@ fn size_from_full_store<R: Abort + Threads + Sync>(
     built.expect(rt, "memory").size()
 }
 
-// Two workers that meet build the sixteen nodes of a cover from its terms and from its truth
-// tables, and both build them all the same if the terms meet a full store.
 #[test]
 fn two_workers_build_at_once_and_past_a_full_store(rt: HostRuntime) {
     let input = read_input(&rt, rt.alloc(), SIXTEEN_ONES);

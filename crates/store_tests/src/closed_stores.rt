@@ -1,5 +1,3 @@
-//! A store of the conjunction and the disjunction of two variables.
-
 ghost use Rattle.std.specs.Prelude.{◌≡◌, ◌∷◌, [], ◌<◌};
 ghost use Rattle.definitions.specs.Problems.{outputs_of};
 ghost use Rattle.unique_table.specs.Plans.{order_of, output_at};

@@ -1,5 +1,3 @@
-//! Fresh stores.
-
 ghost use Rattle.std.specs.Prelude.{◌≡◌};
 ghost use Rattle.definitions.specs.Orders.{variables as all_variables};
 ghost use Rattle.unique_table.specs.Plans.{order_of};
@@ -9,8 +7,7 @@ use std::alloc::Global;
 use std::process::Abort;
 use unique_table::{Pieces, Session, Store};
 
-/// A store of the file order for a problem, whose parts are outputs with the top variables fixed,
-/// and its first session.
+/// A store of the file order whose parts are outputs with the top variables fixed.
 pub(crate) fn fresh_store(rt: &impl Abort, alloc: Global, problem: &Problem) -> (Store, Session)
     ensures session { result.1.store ≡ result.0 }
     ensures order { order_of result.0.plan ≡ all_variables problem.now.inputs }

@@ -13,8 +13,7 @@ use std::process::Abort;
 use std::thread::{Threads, join};
 use unique_table::{NodeId, Session, Store, StoreFull};
 
-/// Makes a node of the level, unless the children are equal, and adds its id. Says whether the
-/// store wasn't full.
+/// Makes a node, and adds its id. Returns whether the store wasn't full.
 fn make_one(
     rt: &impl Abort,
     store: &Store,
@@ -42,8 +41,7 @@ fn make_one(
     true
 }
 
-/// Makes a node of the level for each pair of unequal ids, until there are enough or the store is
-/// full, and adds their ids.
+/// Makes a node for each pair of unequal ids, until there are enough or the store is full.
 pub(crate) fn make_all(
     rt: &impl Abort,
     store: &Store,
@@ -103,7 +101,6 @@ pub(crate) fn lowest(
     ids
 }
 
-/// A fresh store of sixteen levels.
 fn sixteen(rt: &impl Abort, alloc: Global) -> (Store, Session)
     ensures session { result.1.store ≡ result.0 }
     ensures levels { levels_of result.0.plan ≡ 16 }
@@ -132,7 +129,6 @@ fn ask(
     assert!(rt; further == Err(StoreFull) && one == Ok(first) && two == Ok(second));
 }
 
-/// One session fills a store, and asks it then.
 fn fill(rt: &impl Abort, alloc: Global, store: &Store, session: &mut Session)
     requires session { session.old.store ≡ store.now }
     requires levels { levels_of store.now.plan ≡ 16 }
@@ -158,8 +154,8 @@ struct Filled {
     ids: Vec<NodeId>,
 }
 
-/// The lowest four levels, and nodes of level 11 by one thread: those whose low child stands at
-/// place `from` or after it.
+/// The lowest four levels, and nodes of level 11 whose low child stands at place `from` or after
+/// it.
 fn fill_part(rt: &impl Abort, alloc: Global, store: &Store, session: Session, from: usize) -> Filled
     requires session { session.store ≡ store.now }
     requires levels { levels_of store.now.plan ≡ 16 }
@@ -205,8 +201,7 @@ fn ask_both(rt: &impl Abort, store: &Store, one: Filled, two: Filled)
     ask(rt, store, &mut both, &one.below, one.ids[0], two.ids[0]);
 }
 
-/// Two threads fill a store, the one from the first place on and the other one from the third, and
-/// ask it then.
+/// Two threads fill a store, from different places on.
 fn fill_by_two<R: Abort + Threads + Sync>(rt: &R, alloc: Global, store: &Store, session: Session)
     requires session { session.store ≡ store.now }
     requires levels { levels_of store.now.plan ≡ 16 }

@@ -1,5 +1,3 @@
-//! Remembering and recalling.
-
 ghost use Rattle.std.specs.Prelude.{◌≡◌};
 ghost use Rattle.unique_table.specs.Sessions.{Knows};
 
@@ -18,7 +16,6 @@ fn keep(store: &Store, session: &mut Session, id: NodeId) -> Option<NodeId>
     recall(store, session, Operation::And, id, 1)
 }
 
-/// Whether a fresh store recalls what it is to remember, and nothing else.
 fn recalls(store: &Store, session: &mut Session) -> bool
     requires { session.old.store ≡ store.now }
 {

@@ -6,10 +6,9 @@ use crate::plan::Plan;
 use crate::session::View;
 use atomic_table::{Join, Play, Split, TableRule};
 
-/// The invariant of a store's words, which every step of every session keeps: no two nodes are
-/// equal, and each node's children are in the store and lie below it; each filled cache entry has
-/// the right result, and each published id denotes its piece's function; what a session saw still
-/// stands.
+/// The invariant of a store's words: no two nodes are equal; each node's children are in the store,
+/// below it; each filled cache entry has the right result, and each published id denotes its
+/// piece's function; what a session saw still stands.
 pub struct Words;
 
 impl TableRule<(), View, Plan> for Words {
@@ -60,8 +59,7 @@ impl Play<(), View> for Remembers {
     ghost then = { remembers };
 }
 
-/// How the view of a seat is split in two, each with half of its stake, and how the views of two
-/// seats are joined into one, with the sum of their stakes.
+/// How the view of a seat is split into halves of its stake, and how two views are joined.
 pub(crate) struct Both;
 
 impl Split<View> for Both {

@@ -1,5 +1,3 @@
-//! Closing a store, and the diagram of a closed store.
-
 ghost use Rattle.std.specs.Prelude.{◌≡◌, ◌^◌, ◌<◌, ◌≤◌, length, slice_index, IfOk, IfErr, OnOk, map};
 ghost use Rattle.std.specs.Slots.{slots_len};
 ghost use Rattle.std.specs.List.{range_with_len};
@@ -19,26 +17,22 @@ use std::snapshot::Snapshot;
 /// Why a store gives no diagram.
 #[derive(Clone, Copy, Debug, PartialEq, Eq)]
 pub enum CloseFault {
-    /// The root of this output wasn't published. It is the least such output.
+    /// The root of this output, the least such one, wasn't published.
     MissingRoot(u8),
     /// An allocation was refused.
     OutOfMemory,
 }
 
-/// A store that was closed: the words that it ended with. No session writes to them any more.
+/// A closed store: its last words, which no session changes any more.
 pub struct ClosedStore {
-    /// The words that the store ended with.
     pub(crate) closed: Closed<(), Global>,
-    /// How many places for nodes the store has. Their words are the first ones.
+    /// How many words are node places: the first ones.
     pub(crate) places: usize,
-    /// The index, among all words, of the word of the root of output 0. The words of the other
-    /// roots follow, by rising output.
+    /// The index of the word of output 0's root. Those of the other outputs follow.
     pub(crate) first: usize,
-    /// How many outputs, and so roots, there are.
     pub(crate) roots: u8,
-    /// The order of the variables.
     pub(crate) order: Order,
-    /// The store that was closed, which only contracts see.
+    /// The store that was closed, for contracts.
     pub(crate) store: Snapshot<Store>,
 }
 
@@ -55,7 +49,6 @@ impl Model for ClosedStore {
 }
 
 impl Drop for ClosedStore {
-    /// Frees the memory of the closed store's words.
     fn drop(self) {
         let (closed, _) = self.take_apart();
         closed.free();
@@ -63,10 +56,8 @@ impl Drop for ClosedStore {
 }
 
 impl ClosedStore {
-    /// Makes the reduced diagram of the store's functions, under the store's order: the nodes that
-    /// the published roots of the outputs reach. Err gives the closed store back unchanged, with
-    /// the reason: `MissingRoot` with the least output whose root was not published, or
-    /// `OutOfMemory`.
+    /// Makes the reduced diagram of the store's functions. Err gives the closed store back, with
+    /// the reason.
     pub fn diagram(self, alloc: Global) -> Result<Diagram, (ClosedStore, CloseFault)>
         ensures roots { OnOk result (HasAllRoots self) }
         ensures order { IfOk result (λ d. d.order ≡ order_of self.plan) }
@@ -91,8 +82,7 @@ impl ClosedStore {
         Ok(Diagram::new(order, reached.nodes, reached.roots))
     }
 
-    /// Takes the closed store apart and returns its words, which are not freed, and the order of
-    /// its variables.
+    /// Takes out the words, which are not freed, and the order.
     fn take_apart(self) -> (Closed<(), Global>, Order)
         ensures slots { slots_len result.0.slots ≡ 0 }
         ensures order { result.1 ≡ order_of self.plan }
@@ -108,8 +98,7 @@ impl ClosedStore {
         (closed, order)
     }
 
-    /// The ids of the roots of the outputs, by rising output. Err is `MissingRoot` with the least
-    /// output whose root was not published, or `OutOfMemory`.
+    /// The ids of the outputs' roots, or why there are none.
     fn root_ids(&self, alloc: Global) -> Result<Vec<u32>, CloseFault>
         ensures roots { OnOk result (HasAllRoots self.now) }
         ensures ids { IfOk result
@@ -131,8 +120,7 @@ impl ClosedStore {
         Ok(ids)
     }
 
-    /// The word of the root of output `output`: 0 if the root was not published, else the root's id
-    /// plus 1. Requires `output` to be below the number of outputs.
+    /// The word of output `output`'s root: its id plus 1, or 0 if it was not published.
     fn root_word(&self, output: u8) -> u64
         requires { output < roots_count self.now.plan }
         ensures is { result ≡ root_word self.now output }

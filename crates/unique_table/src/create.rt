@@ -1,5 +1,3 @@
-//! How many words a store has, and what its parts of outputs are.
-
 ghost use Rattle.std.specs.Prelude.{◌≡◌, ◌*◌, ◌<◌, ◌≤◌, length, replicate, IfOk};
 ghost use Rattle.unique_table.specs.Plans.{IsKind, parts_count, top_assignments};
 ghost use Rattle.definitions.specs.Problems.{outputs_of, TruthTables};
@@ -9,34 +7,29 @@ use order_model::Order;
 use std::alloc::{AllocError, Global};
 use std::snapshot::Snapshot;
 
-/// How many places for nodes a store has.
 const NODE_PLACES: usize = 262_144;
 
-/// How many places for results of operations a store has.
 const CACHE_PLACES: usize = 65_536;
 
-/// The number of words of the largest store, which has 1,024 parts of outputs and 16 outputs.
+/// The words of the largest store, which has 1,024 parts of outputs and 16 outputs.
 const MOST_WORDS: usize = NODE_PLACES + CACHE_PLACES + 1_024 + 16;
 
-/// The words of an empty store, all 0. No page of memory is made for them while they are only read.
+/// No page of memory is made for these words while they are only read.
 static BLANK: [u64; MOST_WORDS] = [0; MOST_WORDS];
 
-/// The number of places for nodes of each store: 262,144.
 pub(crate) fn node_places() -> usize
     ensures { result ≡ 262144 }
 {
     NODE_PLACES
 }
 
-/// The number of places for results of operations of each store: 65,536.
 pub(crate) fn cache_places() -> usize
     ensures { result ≡ 65536 }
 {
     CACHE_PLACES
 }
 
-/// The first `count` words of an empty store, all 0. Requires `count` to be at most 328,720, the
-/// number of words of the largest store.
+/// The first `count` words of an empty store, all 0.
 pub(crate) fn blank_words(count: usize) -> &'static [u64]
     requires { count ≤ 328720 }
     ensures { result.now ≡ replicate count 0 }
@@ -44,9 +37,7 @@ pub(crate) fn blank_words(count: usize) -> &'static [u64]
     &BLANK[..count]
 }
 
-/// How the outputs of a store are split into parts. For `Pieces::Tables` each part is an output
-/// with its top two variables fixed (or the only one). For `Pieces::Terms` each
-/// part is a disjunction of some of an output's terms; the result has a copy of the list of terms.
+/// How the outputs of a store are split into parts, with a copy of the terms.
 pub(crate) fn kind_of(alloc: Global, pieces: Pieces<'_>) -> Result<PieceKind, AllocError>
     ensures { IfOk result (λ kind. IsKind kind pieces.entry) }
 {
@@ -61,8 +52,7 @@ pub(crate) fn kind_of(alloc: Global, pieces: Pieces<'_>) -> Result<PieceKind, Al
     }
 }
 
-/// The number of assignments to the top two variables of `order`: 4, or 2 if it has only one
-/// variable.
+/// The number of assignments to the top two variables of `order`, or to its only one.
 fn top_assignments(order: &Order) -> usize
     ensures is { result ≡ top_assignments order.now }
     ensures few { result ≤ 4 }
@@ -70,10 +60,7 @@ fn top_assignments(order: &Order) -> usize
     if order.len() < 2 { 2 } else { 4 }
 }
 
-/// The number of parts that `outputs` outputs have together. For `PieceKind::Restrictions` each
-/// output has 4 parts, one for each assignment to the top two variables of `order`, or 2 parts if
-/// `order` has one variable. For `PieceKind::Products` each output has 64 parts, disjunctions of
-/// its terms. Requires `outputs` to be at most 16.
+/// The number of parts of all outputs together.
 pub(crate) fn parts_count(kind: &PieceKind, order: &Order, outputs: u8) -> usize
     requires { outputs ≤ 16 }
     ensures is { (t : TruthTables) → outputs ≡ outputs_of t →

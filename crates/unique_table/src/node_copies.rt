@@ -1,5 +1,3 @@
-//! Copies of the nodes that an id reaches, children first.
-
 ghost use Rattle.std.specs.Prelude.{◌≡◌, ◌^◌, ◌<◌, ◌≤◌, ◌+◌, ◌++◌, ◌∷◌, [], IfOk, OnOk, vec_len, length, slice_index, slice_set};
 ghost use Rattle.std.specs.Slots.{slots_len, IsFull};
 ghost use Rattle.node_words.specs.Nodes.{IsKnown};
@@ -11,9 +9,7 @@ use node_words::node_parts;
 use order_model::{Node, Ref, VarIx};
 use std::alloc::{AllocError, Global};
 
-/// The word of node place `place` of a closed table: its node's word, or 0 if the place is empty.
-/// The table's first `places` words are those of its node places, and `place` is below `places`.
-/// Requires that no word was taken out of the table.
+/// The word of node place `place` of a closed table: 0 if the place is empty.
 fn word_at(closed: &Closed<(), Global>, places: usize, place: usize) -> u64
     requires full { IsFull closed.now.words }
     requires places { places ≤ slots_len closed.now.words }
@@ -23,10 +19,8 @@ fn word_at(closed: &Closed<(), Global>, places: usize, place: usize) -> u64
     closed.word(place)
 }
 
-/// Appends `node`, the copy of the store's node at place `place`, to `nodes`, and sets the number
-/// of `place` in `numbers` to the copy's index in `nodes` plus 1. Returns the ref to the copy.
-/// Requires `numbers` to have the place, and `nodes` fewer than 2^20 nodes. After an error `nodes`
-/// may have the copy, without a number.
+/// Appends `node`, the copy of the store's node at `place`, and notes its index plus 1 in
+/// `numbers`. After an error `nodes` may have the copy, without a number.
 fn add(
     numbers: &mut Numbers,
     nodes: &mut Vec<Node>,
@@ -47,12 +41,9 @@ fn add(
     Ok(Ref::Place(copied))
 }
 
-/// Copies the node with the id `id` and all nodes that it reaches to the end of `nodes`, children
-/// first, and returns the ref to its copy, or to the terminal for ids 0 and 1. `numbers` has for
-/// each of the `places` node places 0, or 1 plus the index in `nodes` of its copy, which isn't made
-/// again; it gains the new copies. `closed` begins with the words of these places, and `order[l]`
-/// is the variable of level l. Requires `id` to be 0, 1, or 2 plus a filled place. After an error a
-/// part of the copies may have been made.
+/// Copies the nodes that `id` reaches to the end of `nodes`, children first, and returns the ref to
+/// the copy of `id`. `numbers` has for each place the index of its copy plus 1, or 0; no node is
+/// copied twice. After an error some copies may have been made.
 pub(crate) fn copy(
     closed: &Closed<(), Global>,
     places: usize,

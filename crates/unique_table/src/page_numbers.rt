@@ -6,20 +6,16 @@ ghost use Rattle.unique_table.specs.Pages.{number_at, ArePages};
 use std::alloc::{AllocError, Global};
 use std::marker::Model;
 
-/// How many places a page has.
 const PAGE: usize = 64;
 
-/// A number for each place, counted from 0. All numbers are 0 at first. Places stand on pages of
-/// 64. Pages on which a number was set have memory of their own, and all others share one page of
-/// zeros.
+/// A number for each place, at first 0. Pages of 64 places on which a number was set have memory of
+/// their own; all others share a page of zeros.
 #[derive(Drop)]
 pub(crate) struct Numbers {
-    /// How many places there are.
     places: usize,
-    /// Entry k: which page of `numbers` has the places from 64 * k to 64 * k + 63. Page 0 is the
-    /// shared page of zeros.
+    /// Entry k: the page of the places from 64 * k on. Page 0 is the shared page of zeros.
     pages: Vec<usize>,
-    /// The numbers of all pages, 64 for each, page by page.
+    /// The numbers of all pages, page by page.
     numbers: Vec<u32>,
 }
 
@@ -35,11 +31,8 @@ impl Model for Numbers {
         × (n.places ≤ length n.pages.items * 64) };
 }
 
-/// Gives the places from 64 * `part` to 64 * `part` + 63 a page of their own if they have none, and
-/// returns its number. Page p is the 64 entries of `numbers` from 64 * p on. `pages[part]` is the
-/// page of these places, at first 0, which is a page of zeros that places share. A new page is
-/// appended, with zeros, so that no place's number changes, even if memory is refused. Requires
-/// `part` to be an index of `pages`.
+/// Gives the places from 64 * `part` on a page of their own if they have none, and returns its
+/// number. No place's number changes, even if memory is refused.
 fn open_page(
     pages: &mut Vec<usize>,
     numbers: &mut Vec<u32>,
@@ -75,8 +68,7 @@ impl Numbers {
         })
     }
 
-    /// The number of place `place`, 0 if none was set. Requires `place` to be below the number of
-    /// places.
+    /// The number of place `place`, 0 if none was set.
     pub fn get(&self, place: usize) -> u32
         requires { place < length self.now }
         ensures { result ≡ slice_index self.now place }
@@ -84,8 +76,7 @@ impl Numbers {
         self.numbers[self.pages[place / PAGE] * PAGE + place % PAGE]
     }
 
-    /// Sets the number of place `place` to `number`; after an error all numbers are as before.
-    /// Requires `place` to be below the number of places.
+    /// Sets the number of place `place`. After an error all numbers are as before.
     pub fn set(&mut self, place: usize, number: u32) -> Result<(), AllocError>
         requires { place < length self.old }
         ensures many { length self.new ≡ length self.old }

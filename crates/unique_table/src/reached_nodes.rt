@@ -1,5 +1,3 @@
-//! The diagram of the nodes that some roots reach.
-
 ghost use Rattle.std.specs.Prelude.{IfOk, length, map};
 ghost use Rattle.std.specs.List.{All};
 ghost use Rattle.definitions.specs.Orders.{IsOrder};
@@ -13,18 +11,15 @@ use atomic_table::Closed;
 use order_model::{Node, Ref, VarIx};
 use std::alloc::{AllocError, Global};
 
-/// Nodes, each after its children, and a ref for each id that was given, in the order of the ids.
+/// Nodes, each after its children, and a root for each id that was given.
 #[derive(Drop)]
 pub(crate) struct Reached {
     pub nodes: Vec<Node>,
     pub roots: Vec<Ref>,
 }
 
-/// Makes the reduced diagram, under `order`, of the functions that `ids` denote: its nodes, each
-/// after its children, and one root per id, in the order of the ids. The first `places` words of
-/// `closed`, fewer than 2^20, are those of the node places: the word of a node under `order`, or 0
-/// if the place is empty. Requires that no two places have equal nodes, and that each id is 0 or 1,
-/// a terminal, or 2 plus a place that isn't empty.
+/// Makes the reduced diagram, under `order`, of the functions that `ids` denote. The first `places`
+/// words of `closed` are those of the node places.
 pub(crate) fn reached_nodes(
     alloc: Global,
     closed: &Closed<(), Global>,

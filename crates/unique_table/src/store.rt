@@ -1,5 +1,3 @@
-//! The store and what its sessions do.
-
 ghost use Rattle.std.specs.Prelude.{◌≡◌, ◌*◌, ◌<◌, ◌≤◌, [], ◌++◌, length, IfOk, ◌+◌, ◌==◌, ◌↔◌, OnErr, IfSome, IfNone, IsNone, ℕ, slice_index, ◌-◌, IfErr};
 ghost use Rattle.unique_table.specs.Plans.{AreGivenBy, IsPlanFor, IsPlan, order_of, levels_of, piece_function};
 ghost use Rattle.definitions.specs.Problems.{functions};
@@ -27,17 +25,11 @@ use std::snapshot::Snapshot;
 /// session of its own.
 #[derive(Drop)]
 pub struct Store {
-    /// The words that all sessions share: those of nodes, of the operation cache and of pieces.
     pub(crate) table: Table<(), View, Plan, Words, Global>,
-    /// How many places for nodes there are.
     pub(crate) places: usize,
-    /// How many places the operation cache has.
     pub(crate) entries: usize,
-    /// How many pieces are parts of outputs.
     pub(crate) roots: usize,
-    /// How many pieces there are: parts of outputs, and then the outputs.
     pub(crate) pieces: usize,
-    /// The order of the variables.
     pub(crate) order: Order,
 }
 
@@ -53,15 +45,13 @@ impl Model for Store {
     ghost invariant = { IsStore };
 }
 
-/// Why a node wasn't made: each place of the store is taken by another node.
+/// Why a node wasn't made: all node places are taken.
 #[derive(Clone, Copy, Debug, PartialEq, Eq)]
 pub struct StoreFull;
 
 impl Store {
     /// Makes an empty store for the functions of `problem` under `order`, and its first session.
-    /// `pieces` says how outputs are split into parts: by fixing the top two variables (or the only
-    /// one), or into disjunctions of terms. Requires `order` to have the variables of
-    /// `problem`, and terms, if `pieces` has them, to give its functions.
+    /// `pieces` says how outputs are split into parts.
     pub fn new(
         alloc: Global,
         order: Order,
@@ -111,7 +101,7 @@ impl Store {
         &self.order
     }
 
-    /// The number of the store's pieces, which are the parts of all outputs and then the outputs.
+    /// The number of pieces: the parts of all outputs, then the outputs.
     pub fn pieces(&self) -> usize
         ensures value { result ≡ self.now.plan.pieces }
         ensures plan { IsPlan self.now.plan }
@@ -119,8 +109,7 @@ impl Store {
         self.pieces
     }
 
-    /// The number of pieces that are parts of outputs. The outputs are the pieces after these, so
-    /// this is also the number of the piece that is output 0.
+    /// The number of parts of outputs, which is also the number of the piece that is output 0.
     pub fn roots(&self) -> usize
         ensures value { result ≡ self.now.plan.roots }
         ensures plan { IsPlan self.now.plan }
@@ -136,11 +125,9 @@ impl Store {
         self.entries
     }
 
-    /// Law: no two node words that `session` knows are equal, so ids that it knows are equal if
-    /// they denote the same function. The level of each of these ids is at most the number of
-    /// levels, which is the level of the terminals. If the session is the store's only one, each
-    /// node that it knows was made by it or by a session that it was split or joined from. Requires
-    /// `session` to be one of this store's. The call does nothing.
+    /// Law: ids that `session` knows are equal if they denote the same function. If it is the
+    /// store's only session, each node that it knows was made by it or by one that it was split or
+    /// joined from. The call does nothing.
     pub fn canonical_ids(&self, session: &Session)
         requires { session.now.store ≡ self.now }
         ensures unique { HasUniqueIds session.now }
@@ -154,12 +141,9 @@ impl Store {
         let _seat = &session.seat;
     }
 
-    /// Returns the id of the node of `level`, counted from 0 at the top, with the children `low`
-    /// and `high`; puts the node into the store if it isn't there, and `session` then knows it. If
-    /// both children are equal, returns the child itself. Requires `level` to be below the number
-    /// of variables, and `session`, one of this store's, to know both children, which lie below
-    /// `level`. Err, and nothing is written, if each node place is taken by another node. Makes at
-    /// most two atomic steps per node place.
+    /// The id of the node of `level` with these children, which is put into the store if it isn't
+    /// there, or of the child if they are equal. Makes at most two atomic steps per node place.
+    /// After an error nothing is written.
     pub fn make(
         &self,
         session: &mut Session,
@@ -188,9 +172,8 @@ impl Store {
         Ok(place as u32 + 2)
     }
 
-    /// Looks up the level and the children of the node with the id `id`, which `session`, one of
-    /// this store's, must know; it knows the children from then on. None for a terminal. Makes at
-    /// most one atomic step.
+    /// The level and the children of the node with the id `id`. None for a terminal. Makes at most
+    /// one atomic step.
     pub fn node(&self, session: &mut Session, id: NodeId) -> Option<NodeParts>
         requires session { session.old.store ≡ self.now }
         requires known { Knows session.old id }
@@ -210,10 +193,8 @@ impl Store {
         Some(node_parts(word))
     }
 
-    /// Looks in place `place` of the operation cache for the result of `operation` on the functions
-    /// of `first` and `second`, and returns its id, which `session` then knows. None if the place
-    /// is empty or has another result. Requires `place` to be below `cache_places()`, and
-    /// `session`, one of this store's, to know `first` and `second`. Makes one atomic step.
+    /// The id of the result of `operation`, if place `place` of the operation cache has it. Makes
+    /// one atomic step.
     pub fn entry(
         &self,
         session: &mut Session,
@@ -241,9 +222,7 @@ impl Store {
     }
 
     /// Stores `id` in place `place` of the operation cache, over what is there, as the result of
-    /// `operation` on the functions of `first` and `second`. Requires `place` to be below
-    /// `cache_places()`, `session`, one of this store's, to know the three ids, and `id` to denote
-    /// this result. Makes one atomic step.
+    /// `operation`. Makes one atomic step.
     pub fn set_entry(
         &self,
         session: &mut Session,
@@ -266,9 +245,7 @@ impl Store {
         words::remember(&self.table.shared, seat, at, place, word);
     }
 
-    /// Publishes `id` to all sessions as the id of piece `piece`. If the piece was published
-    /// before, its id was the same. Requires `piece` to be below `pieces()`, `session`, one of this
-    /// store's, to know `id`, and `id` to denote the piece's function. Makes one atomic step.
+    /// Publishes `id` to all sessions as the id of piece `piece`. Makes one atomic step.
     pub fn publish(&self, session: &mut Session, piece: usize, id: NodeId)
         requires session { session.old.store ≡ self.now }
         requires piece { piece < self.now.plan.pieces }
@@ -280,9 +257,7 @@ impl Store {
         words::publish(&self.table.shared, &mut session.seat, place, piece, id);
     }
 
-    /// Reads the published id of piece `piece`, which denotes the piece's function; `session` then
-    /// knows it. None if `session` sees no published id. Requires `piece` to be below `pieces()`,
-    /// and `session` to be one of this store's. Makes one atomic step.
+    /// The published id of piece `piece`, or None if `session` sees none. Makes one atomic step.
     pub fn collect(&self, session: &mut Session, piece: usize) -> Option<NodeId>
         requires session { session.old.store ≡ self.now }
         requires piece { piece < self.now.plan.pieces }
@@ -300,9 +275,9 @@ impl Store {
         Some((word - 1) as u32)
     }
 
-    /// Splits `session`, one of this store's, in two. Each one knows what `session` knew, and has
-    /// half of its stake, which is its share of the store. Makes one atomic step. The first one
-    /// keeps the counts of steps and writes, with this step; those of the second one begin at 0.
+    /// Splits `session` in two, which know what it knew and have half of its stake each. Makes one
+    /// atomic step. The first one keeps the counts of steps and writes; those of the second begin
+    /// at 0.
     pub fn split(&self, session: Session) -> (Session, Session)
         requires { session.store ≡ self.now }
         ensures first { result.0 ≡
@@ -315,9 +290,8 @@ impl Store {
         (Session { seat }, Session { seat: other })
     }
 
-    /// Joins two sessions of this store into one, which knows what both knew. Its stake, which is
-    /// its share of the store, is the sum of theirs, and so are its counts of steps and writes.
-    /// Makes two atomic steps, which are counted too.
+    /// Joins two sessions into one, with the sum of their stakes and of their counts. Makes two
+    /// atomic steps.
     pub fn join(&self, one: Session, two: Session) -> Session
         requires one { one.store ≡ self.now }
         requires two { two.store ≡ self.now }
@@ -336,8 +310,8 @@ impl Store {
         Session { seat }
     }
 
-    /// Closes the store, so that no word changes any more, and uses up `session`, one of its
-    /// sessions. Other sessions may have published roots that `session` doesn't know of.
+    /// Closes the store, so that no word changes any more. Other sessions may have published roots
+    /// that `session` doesn't know of.
     pub fn into_closed(self, session: Session) -> ClosedStore
         requires { session.store ≡ self }
         ensures plan { result.plan ≡ self.plan }
@@ -359,11 +333,8 @@ impl Store {
         }
     }
 
-    /// Closes the store by `session`, one of its sessions, and makes the reduced diagram of its
-    /// functions: the nodes that the published roots of the outputs reach. Roots count that other
-    /// sessions published, even if `session` doesn't know of them. Err gives the closed store and
-    /// the reason: `MissingRoot` with the least output whose root was not published, or
-    /// `OutOfMemory`.
+    /// Closes the store and makes the reduced diagram of its functions. Roots count that other
+    /// sessions published, even if `session` doesn't know of them.
     pub fn close(
         self,
         alloc: Global,

@@ -1,5 +1,4 @@
-//! The atomic steps on the words of a store: what each reads or writes, and what the seat's view
-//! gains.
+//! The atomic steps on the words of a store.
 
 ghost use Rattle.std.specs.Prelude.{◌≡◌, ◌≢◌, ◌+◌, ◌-◌, ◌*◌, ◌^◌, ◌<◌, ◌≤◌, slice_index, MatchBool, IfSome, IfNone};
 ghost use Rattle.node_words.specs.Nodes.{IsTaken, IsFullFor};
@@ -16,12 +15,9 @@ use crate::session::View;
 use atomic_table::{Seat, Shared};
 use node_words::{probe, start};
 
-/// The words of a store as its sessions share them.
 type SharedWords = Shared<(), View, Plan, Words>;
 
-/// Loads the word of node place `place`: its node's word, or 0 if the place is empty. The seat
-/// knows this word from then on. Requires `seat` to be a seat of `shared`, and `place` to be below
-/// the number of node places.
+/// Loads the word of node place `place`, which the seat knows from then on: 0 if it is empty.
 pub(crate) fn look(shared: &SharedWords, seat: &mut Seat<(), View>, place: usize) -> u64
     requires seat { IsSeatOf shared.now seat.old }
     requires place { IsNodePlace shared.now place }
@@ -31,10 +27,8 @@ pub(crate) fn look(shared: &SharedWords, seat: &mut Seat<(), View>, place: usize
     shared.load::<Looks>(seat, place)
 }
 
-/// Stores the node word `word` at node place `place` if that is empty, and returns the word that
-/// was there before, 0 if empty. The seat then knows the place's word. Requires `seat`, a seat of
-/// `shared`, to know the children of the node. Requires `place` to be one that the search for
-/// `word` comes to, and the seat to have seen other nodes at all places before it in the search.
+/// Stores the node word `word` at node place `place` if that is empty. Returns the word before, 0
+/// if it was. All places before this one in the search for `word` must have other nodes.
 fn put(shared: &SharedWords, seat: &mut Seat<(), View>, place: usize, word: u64) -> u64
     requires { MayPut shared.now seat.old word place }
     ensures seat { IsSeatOf shared.now seat.new }
@@ -47,10 +41,7 @@ fn put(shared: &SharedWords, seat: &mut Seat<(), View>, place: usize, word: u64)
     shared.compare_exchange::<Puts>(seat, place, 0, word)
 }
 
-/// Stores the node word `word` at node place `place` if that is empty. Returns whether the place
-/// then has `word`; the seat knows the place's word from then on. Requires `seat`, a seat of
-/// `shared`, to know the children of the node. Requires `place` to be one that the search for
-/// `word` comes to, and the seat to have seen other nodes at all places before it in the search.
+/// Puts `word` at node place `place` if that is empty. Returns whether the place then has `word`.
 pub(crate) fn take(shared: &SharedWords, seat: &mut Seat<(), View>, place: usize, word: u64) -> bool
     requires { MayPut shared.now seat.old word place }
     ensures searches { Searches shared.now seat.old seat.new word 2 }
@@ -66,10 +57,7 @@ pub(crate) fn take(shared: &SharedWords, seat: &mut Seat<(), View>, place: usize
     found == 0 || found == word
 }
 
-/// Stores `id` plus 1 as the word of piece `piece`; the seat then knows it. Requires `piece` to be
-/// below the number of pieces, and `place` to be this word's index among the store's words: `piece`
-/// plus the numbers of node places and of cache entries. Requires `seat`, a seat of `shared`, to
-/// know `id`, and `id` to denote the piece's function.
+/// Stores `id` plus 1 as the word of piece `piece`, whose index among all words is `place`.
 pub(crate) fn publish(
     shared: &SharedWords,
     seat: &mut Seat<(), View>,
@@ -88,10 +76,7 @@ pub(crate) fn publish(
     shared.store::<Publishes>(seat, place, u64::from(id) + 1);
 }
 
-/// Loads the word of piece `piece`, which the seat then knows: 0 if it sees no published id, else
-/// the id of the piece's function plus 1. Requires `seat` to be a seat of `shared`, `piece` to be
-/// below the number of pieces, and `place` to be this word's index among the store's words: `piece`
-/// plus the numbers of node places and of cache entries.
+/// Loads the word of piece `piece`: 0 if the seat sees no published id, else the id plus 1.
 pub(crate) fn collect(
     shared: &SharedWords,
     seat: &mut Seat<(), View>,
@@ -106,10 +91,7 @@ pub(crate) fn collect(
     shared.load::<Collects>(seat, place)
 }
 
-/// Loads the word of entry `entry` of the operation cache: 0 if the entry is empty, else an
-/// operation, its two operands, and the id of its result, all of which the seat then knows.
-/// Requires `seat` to be a seat of `shared`, `entry` to be below the number of entries, and `place`
-/// to be this word's index among the store's words: `entry` plus the number of node places.
+/// Loads the word of entry `entry` of the operation cache: 0 if it is empty.
 pub(crate) fn recall(
     shared: &SharedWords,
     seat: &mut Seat<(), View>,
@@ -124,10 +106,7 @@ pub(crate) fn recall(
     shared.load::<Recalls>(seat, place)
 }
 
-/// Stores `word` in entry `entry` of the operation cache. The seat makes one atomic step and learns
-/// nothing. Requires `entry` to be below the number of entries, and `place` to be the entry's index
-/// among the store's words: `entry` plus the number of node places. Requires `word` to have an
-/// operation, its two operands, and the id of its result, all known to `seat`, a seat of `shared`.
+/// Stores `word` in entry `entry` of the operation cache.
 pub(crate) fn remember(
     shared: &SharedWords,
     seat: &mut Seat<(), View>,
@@ -143,11 +122,8 @@ pub(crate) fn remember(
     shared.store::<Remembers>(seat, place, word);
 }
 
-/// Searches the node places for the node word `word`, and stores it at the first empty place that
-/// the search comes to if it isn't found before. Returns the place that then has the word, which
-/// the seat then knows. None, and nothing is written, if each place has another word. Requires
-/// `places` to be the store's number of node places, from 1 to 2^32 - 1, and `seat`, a seat of
-/// `shared`, to know the children of the node.
+/// Searches the node places for `word`, and stores it at the first empty place if it isn't there.
+/// Returns its place. None, and nothing is written, if each place has another word.
 pub(crate) fn find_or_put(
     shared: &SharedWords,
     seat: &mut Seat<(), View>,
