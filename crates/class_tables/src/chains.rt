@@ -1,6 +1,6 @@
-//! For each pair the first one that is equal to it, found without hashing and allocating. A pair
-//! has a lower class, where the variable is 0, and an upper class, where it is 1. The pairs with
-//! one lower class form a chain, in which equal pairs are found by a mark for each upper class.
+//! For each pair the first one that is equal to it, found without hashing and allocating. The pairs
+//! with one lower class, the class where the variable is 0, form a chain, in which equal pairs are
+//! found by a mark for each upper class.
 
 ghost use Rattle.std.specs.Prelude.{◌≡◌, ℕ, ◌+◌, ◌*◌, ◌/◌, ◌^◌, ◌<◌, ◌≤◌, length, slice_index};
 ghost use Rattle.class_tables.specs.Chains.{AreHeads, AreLinks, AreFirsts, AreFirstsOf, AreRowsFor, KeepsOthers};
@@ -8,9 +8,8 @@ ghost use Rattle.subfunction_classes.specs.PairTables.{AllBelow, IsPaired, IsPai
 
 use pair_numbering::EntryPairs;
 
-/// Pairs of entries, in a chain for each lower class: `heads[c]` is the first pair with the lower
-/// class c, and `next[j]` the pair after pair j in its chain. The number of pairs stands for the
-/// end of a chain.
+/// Pairs of entries in chains: `heads[c]` is the first pair with the lower class c, and `next[j]`
+/// the pair after pair j in its chain, or the number of pairs at its end.
 #[derive(Drop)]
 struct Chains<'e, 'r> {
     entries: &'e EntryPairs<'e>,
@@ -22,10 +21,7 @@ struct Chains<'e, 'r> {
 }
 
 impl<'e, 'r> Chains<'e, 'r> {
-    /// Puts together the chains of the pairs of `entries`, one for each lower class. Requires that
-    /// `chain` has written them: `heads[c]`, for each of fewer than 2^31 classes c, is the first
-    /// pair with the lower class c, and `next[j]`, for each pair j, the pair after it with the same
-    /// lower class. Where there is none it is the number of pairs.
+    /// The chains that `chain` has written.
     #[inline(always)]
     fn of(entries: &'e EntryPairs<'e>, heads: &'r [u32], next: &'r [u32]) -> Chains<'e, 'r>
         requires few { length heads.now < 2 ^ 31 }
@@ -42,10 +38,7 @@ impl<'e, 'r> Chains<'e, 'r> {
     }
 }
 
-/// Chains the pairs by their lower class. Writes to `heads[c]` the first pair with the lower class
-/// c, and to `next[j]` the next pair after pair j with the same lower class; where there is none,
-/// the number of pairs. Requires an entry of `heads` for each class, which is the number of pairs
-/// before, and an entry of `next` for each pair.
+/// Chains the pairs by their lower class. The number of pairs stands for the end of a chain.
 fn chain(entries: &EntryPairs<'_>, heads: &mut [u32], next: &mut [u32])
     requires paired { IsPaired entries.now.numbers entries.now.rank }
     requires classes { AllBelow entries.now.numbers (length heads.old) }
@@ -64,10 +57,8 @@ fn chain(entries: &EntryPairs<'_>, heads: &mut [u32], next: &mut [u32])
     }
 }
 
-/// For each pair j with the lower class `lower`, writes to `first[j]` the least i for which pair i
-/// is equal to pair j. `first` has an entry for each pair; those of other pairs stay. `stamps` and
-/// `marks` are working memory, with an entry for each class. Each of `stamps` has to be at most
-/// `lower` before, and is at most `lower` + 1 afterwards; what `marks` holds before doesn't matter.
+/// Writes to `first[j]`, for each pair j with the lower class `lower`, the least i for which pair i
+/// is equal to pair j. `stamps` and `marks` are working memory, with an entry for each class.
 #[inline(always)]
 fn walk_chain(
     chains: &Chains<'_, '_>,
@@ -101,9 +92,7 @@ fn walk_chain(
     }
 }
 
-/// For each pair j, writes to `first[j]` the least i for which pair i is equal to pair j; `first`
-/// has an entry for each pair. `stamps` and `marks` are working memory, with an entry for each
-/// class; requires all `stamps` to be 0 before. What `marks` holds before doesn't matter.
+/// Writes to `first[j]`, for each pair j, the least i for which pair i is equal to pair j.
 #[inline(always)]
 fn first_occurrences(
     chains: &Chains<'_, '_>,
@@ -121,10 +110,8 @@ fn first_occurrences(
     }
 }
 
-/// For each pair j, writes to `first[j]` the least i for which pair i is equal to pair j. `heads`,
-/// `next`, `stamps` and `marks` are working memory; what they hold before doesn't matter. Requires
-/// `heads`, `stamps` and `marks` to be of one length, above each class number and below 2^31, and
-/// `next` and `first` to have an entry for each pair.
+/// Writes to `first[j]`, for each pair j, the least i for which pair i is equal to pair j. The
+/// other slices are working memory.
 pub(crate) fn first_pairs(
     entries: &EntryPairs<'_>,
     heads: &mut [u32],

@@ -1,5 +1,3 @@
-//! Class tables of single sets, and the widths over them.
-
 ghost use Rattle.std.specs.Prelude.{◌≡◌, ◌==◌, ℕ, ◌+◌, ◌*◌, ◌^◌, ◌<◌, ◌≤◌, if◌then◌else◌, length, slice_index, IfOk, OnOk, OnErr, IsFalse, IsTrue};
 ghost use Rattle.std.specs.Int.{bit_at};
 ghost use Rattle.std.specs.List.{filter};
@@ -25,7 +23,7 @@ pub struct Classes<'a> {
     /// The class number of each subfunction, by first occurrence: function by function, assignments
     /// of the variables outside the set rising, the lowest variable in the lowest bit.
     numbers: Vec<u32>,
-    /// For each class number, the mask of the variables that its subfunctions depend on.
+    /// For each class, the variables that its subfunctions depend on.
     masks: Vec<Mask>,
 }
 
@@ -57,8 +55,7 @@ impl<'a> Classes<'a> {
         })
     }
 
-    /// The class table of the set `mask`, for the functions of `problem`. Requires that all members
-    /// of the set are variables of the problem.
+    /// The class table of the set `mask`, for the functions of `problem`.
     pub fn of_set(
         alloc: Global,
         problem: &'a Problem,
@@ -76,8 +73,7 @@ impl<'a> Classes<'a> {
         Ok(classes)
     }
 
-    /// Whether `x` is a variable of the problem that is not in the set, so that it may be added to
-    /// the set.
+    /// Whether `x` is a variable of the problem that may be added to the set.
     pub fn lacks(&self, x: VarIx) -> bool
         ensures inside { IsTrue result → x < self.now.problem.inputs }
         ensures new { IsTrue result → IsFalse (has (set_of self.now) x) }
@@ -87,9 +83,8 @@ impl<'a> Classes<'a> {
         x < self.problem.inputs() && !contains(self.set, x)
     }
 
-    /// The class number of each subfunction over the set: function by function, by rising
-    /// assignments of the variables outside the set, of which the lowest is the lowest bit. Classes
-    /// are numbered by first occurrence.
+    /// The class number of each subfunction, by first occurrence: function by function, assignments
+    /// of the variables outside the set rising, the lowest variable in the lowest bit.
     pub fn numbers(&self) -> &[u32]
         ensures { result.now ≡ class_numbers self.now.problem.inputs (functions_of self.now)
             (set_of self.now) }
@@ -97,8 +92,7 @@ impl<'a> Classes<'a> {
         self.numbers.as_slice()
     }
 
-    /// The width of `x` over the set. `tally` rises by one, unless memory is refused. Requires that
-    /// `x` is a variable of the problem and not in the set, and `tally` below 2^32.
+    /// The width of `x` over the set.
     pub fn width(&self, alloc: Global, x: VarIx, tally: &mut Tally) -> Result<u32, AllocError>
         requires inside { x < self.now.problem.inputs }
         requires new { IsFalse (has (set_of self.now) x) }
@@ -115,10 +109,7 @@ impl<'a> Classes<'a> {
         Ok(width)
     }
 
-    /// The width of `x` over the set. `tally` rises by one. `scratch` is working memory, which
-    /// keeps its length; what it holds before doesn't matter. Requires that `x` is a variable of
-    /// the problem and not in the set, that `scratch` is long enough for all class tables of the
-    /// problem, and that `tally` is below 2^32.
+    /// The width of `x` over the set. `scratch` is working memory.
     pub fn width_in(&self, x: VarIx, scratch: &mut Scratch, tally: &mut Tally) -> u32
         requires inside { x < self.now.problem.inputs }
         requires new { IsFalse (has (set_of self.now) x) }
@@ -140,7 +131,7 @@ impl<'a> Classes<'a> {
         width
     }
 
-    /// The width of `x` over the set without `x`. Requires that `x` is a member of the set.
+    /// The width of the member `x` over the other members.
     fn width_into(&self, x: VarIx) -> u32
         requires { IsTrue (has (set_of self.now) x) }
         ensures { result ≡ width_over self.now.problem.inputs (functions_of self.now)
@@ -156,8 +147,7 @@ impl<'a> Classes<'a> {
         self.set
     }
 
-    /// The class table of the set with `x` added. Requires that `x` is a variable of the problem
-    /// and not in the set.
+    /// The class table of the set with `x` added.
     pub fn compact(&self, alloc: Global, x: VarIx) -> Result<Classes<'a>, AllocError>
         requires inside { x < self.now.problem.inputs }
         requires new { IsFalse (has (set_of self.now) x) }
@@ -166,9 +156,7 @@ impl<'a> Classes<'a> {
         self.compact_by(alloc, x, false)
     }
 
-    /// The class table of the set with `x` added. Requires that `x` is a variable of the problem
-    /// and not in the set. Pairs of class numbers are numbered in an `IndexSet`: slower than
-    /// `compact`, for comparison in tests.
+    /// `compact` by an `IndexSet`: slower, for comparison in tests.
     pub fn compact_indexed(&self, alloc: Global, x: VarIx) -> Result<Classes<'a>, AllocError>
         requires inside { x < self.now.problem.inputs }
         requires new { IsFalse (has (set_of self.now) x) }
@@ -177,9 +165,8 @@ impl<'a> Classes<'a> {
         self.compact_by(alloc, x, true)
     }
 
-    /// The class table of the set with `x` added. Requires that `x` is a variable of the problem
-    /// and not in the set. An `IndexSet` numbers the pairs of class numbers if `indexed` is true,
-    /// else `number_with_masks` does; the result is the same.
+    /// The class table of the set with `x` added. If `indexed` is true, an `IndexSet` numbers the
+    /// pairs of classes.
     fn compact_by(&self, alloc: Global, x: VarIx, indexed: bool) -> Result<Classes<'a>, AllocError>
         requires inside { x < self.now.problem.inputs }
         requires new { IsFalse (has (set_of self.now) x) }

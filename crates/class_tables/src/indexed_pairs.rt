@@ -9,9 +9,7 @@ use pair_numbering::{
 };
 use std::alloc::{AllocError, Global};
 
-/// The number, by first occurrence, of each pair of class numbers in `pairs`, and for each number
-/// the mask of the function whose cofactors by `pairs.x` are the pair. An `IndexSet` finds the
-/// numbers.
+/// The number of each pair of classes, and the mask of each number, found by an `IndexSet`.
 fn number_pairs_by_index(
     alloc: Global,
     pairs: &MaskedPairs<'_>,
@@ -29,9 +27,8 @@ fn number_pairs_by_index(
     Ok(MaskedNumbers { numbers, masks })
 }
 
-/// The number, by first occurrence, of each pair of class numbers in `pairs`, and for each number
-/// the mask of the function whose cofactors by `pairs.x` are the pair. An `IndexSet` finds the
-/// numbers if `indexed` is true, else `number_with_masks` does; the result is the same.
+/// The number of each pair of classes, and the mask of each number, found by an `IndexSet` or by
+/// `number_with_masks`, with the same result.
 pub(crate) fn number_by(
     alloc: Global,
     pairs: &MaskedPairs<'_>,

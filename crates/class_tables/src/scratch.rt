@@ -13,21 +13,18 @@ use std::marker::Model;
 use subfunction_classes::join_mask;
 
 /// Working memory to count the pairs of entries in a problem's class tables: five words for each
-/// entry of the largest table, that of the empty set. Pair j is two entries that differ in one
-/// variable. Its lower class is the class number where this variable is 0, and its upper class that
-/// where it is 1.
+/// entry of the largest table. The lower class of a pair is that where the variable is 0.
 #[derive(Drop)]
 pub struct Scratch {
-    /// Entry c: the first pair with the lower class c. The number of pairs if there is none.
+    /// The first pair with each lower class, or the number of pairs.
     heads: Vec<u32>,
-    /// Entry j: the next pair after pair j with the same lower class. The number of pairs if there
-    /// is none.
+    /// The next pair after each with the same lower class, or the number of pairs.
     next: Vec<u32>,
-    /// Entry c: one more than the lower class with which the upper class c was met last, or 0.
+    /// One more than the lower class with which each upper class was met last, or 0.
     stamps: Vec<u32>,
-    /// Entry c: the first pair with the upper class c and the lower class that stamp c stands for.
+    /// The first pair with each upper class and the lower class that the stamp stands for.
     marks: Vec<u32>,
-    /// Entry j: the first pair that is equal to pair j.
+    /// The first pair that is equal to each.
     first: Vec<u32>,
 }
 
@@ -58,11 +55,8 @@ impl Scratch {
         })
     }
 
-    /// The width of `pairs.x`: how many distinct pairs of class numbers in `pairs` are the
-    /// cofactors, by `pairs.x`, of a function that depends on `pairs.x`. The working memory keeps
-    /// its length; what it holds before doesn't matter. Requires that the class table whose pairs
-    /// these are has no more entries than this memory has room for, and no more classes than
-    /// entries.
+    /// The width of `pairs.x`: how many distinct pairs of classes are the cofactors of a function
+    /// that depends on it.
     pub fn count_joined(&mut self, pairs: &MaskedPairs<'_>) -> u32
         requires few { length pairs.now.masks.now ≤ length pairs.now.entries.numbers }
         requires long { length pairs.now.entries.numbers ≤ self.old }
@@ -81,11 +75,8 @@ impl Scratch {
     }
 }
 
-/// Counts the distinct pairs of class numbers in `pairs` that are the cofactors, by `pairs.x`, of a
-/// function that depends on `pairs.x`. The five slices are working memory: what they hold before
-/// doesn't matter, and what they hold after has no meaning. They must be equally long, with at
-/// least a word for each entry of the class table whose pairs these are. Requires that this table
-/// has no more classes than entries.
+/// The width of `pairs.x`, in five slices of working memory, each with a word for each entry of the
+/// table.
 fn count_in(
     pairs: &MaskedPairs<'_>,
     heads: &mut [u32],
@@ -112,9 +103,7 @@ fn count_in(
     count_firsts(pairs, first)
 }
 
-/// Counts the distinct pairs of class numbers in `pairs` that are the cofactors, by `pairs.x`, of a
-/// function that depends on `pairs.x`. Requires that `first[j]`, for each pair j, is the index of
-/// the first pair equal to it.
+/// The width of `pairs.x`, where `first[j]` is the first pair equal to pair j.
 fn count_firsts(pairs: &MaskedPairs<'_>, first: &[u32]) -> u32
     requires first { AreFirsts pairs.now.entries first.now }
     ensures { CountsMasks pairs.now.masks.now pairs.now.x

@@ -6,7 +6,6 @@ use pair_numbering::{
 use std::alloc::Global;
 use std::process::Abort;
 
-/// Whether pairs are numbered by first occurrence, alike in both ways.
 fn numbers_pairs(rt: &impl Abort, alloc: Global) -> bool {
     let numbers = [2, 0, 1, 2, 0, 0, 1, 2, 2, 0, 1, 1];
     let entries = EntryPairs::of_table(&numbers, 1);
@@ -19,12 +18,10 @@ fn numbers_pairs(rt: &impl Abort, alloc: Global) -> bool {
         && memory.pairs.as_slice() == [(2, 1), (0, 2), (0, 1)].as_slice()
 }
 
-/// Whether pairs have these keys and masks.
 fn have_keys(keys: PairKeys, numbers: &[u32], masks: &[u16]) -> bool {
     keys.numbers.as_slice() == numbers && keys.masks.as_slice() == masks
 }
 
-/// Whether pairs of strips have their keys and masks.
 fn labels_strip_pairs(rt: &impl Abort, alloc: Global) -> bool {
     let names = [(0, 1), (1, 1)];
     let mut memory = PairMemory::new(alloc);
@@ -49,7 +46,6 @@ fn labels_strip_pairs(rt: &impl Abort, alloc: Global) -> bool {
     is_four && is_two
 }
 
-/// Whether the pairs of the entries 0 to 3 have the numbers 0 and 1, and their masks.
 fn numbers_distinct_entries(rt: &impl Abort, alloc: Global) -> bool {
     let pairs = MaskedPairs {
         entries: EntryPairs::of_table(&[0, 1, 2, 3], 1),
@@ -74,7 +70,6 @@ fn crowded_pairs() -> [u32; 320] {
     numbers
 }
 
-/// Whether numbers count up from 0 to 79, again and again.
 fn count_up_to_eighty(numbers: &[u32]) -> bool {
     for (j, number) in numbers.iter().enumerate() {
         if *number as usize != j % 80 {
@@ -84,7 +79,6 @@ fn count_up_to_eighty(numbers: &[u32]) -> bool {
     true
 }
 
-/// Whether the crowded pairs are numbered by first occurrence.
 fn numbers_crowded_pairs(rt: &impl Abort, alloc: Global) -> bool {
     let numbers = crowded_pairs();
     assert!(rt; numbers.iter().all(|number| *number < 1 << 17));

@@ -21,13 +21,11 @@ pub(crate) static PROBLEMS: [Tables; 7] = [
     MULTIPLEXER,
 ];
 
-/// Sets a value. The problem is to have the output and the point.
 pub(crate) fn set_one(rt: &impl Abort, problem: &mut Problem, output: usize, point: u32) {
     assert!(rt; output < problem.outputs() as usize && point < 1 << problem.inputs());
     problem.set(output as u8, point);
 }
 
-/// Sets the values of truth tables.
 fn set_tables(rt: &impl Abort, problem: &mut Problem, tables: &[u64]) {
     for (output, table) in tables.iter().enumerate() {
         for point in 0..64u32 {
@@ -46,7 +44,6 @@ pub(crate) fn problem_of(rt: &impl Abort, alloc: Global, tables: Tables) -> Prob
     problem
 }
 
-/// Sets the value of a function where a number is odd.
 fn set_odd(rt: &impl Abort, problem: &mut Problem, output: usize, point: u32, number: u32) {
     if number % 2 == 1 {
         set_one(rt, problem, output, point);

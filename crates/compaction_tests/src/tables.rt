@@ -10,7 +10,6 @@ use std::alloc::Global;
 use std::process::Abort;
 use subfunction_classes::count_with;
 
-/// Whether two tables are of one set, with the same numbers.
 fn are_same(one: &Classes<'_>, other: &Classes<'_>) -> bool {
     one.set() == other.set() && one.numbers() == other.numbers()
 }
@@ -24,7 +23,6 @@ fn with<'a>(rt: &impl Abort, alloc: Global, classes: &Classes<'a>, x: VarIx) -> 
     next
 }
 
-/// The width of a variable that isn't in the set.
 fn width_of(
     rt: &impl Abort,
     alloc: Global,
@@ -63,7 +61,6 @@ fn are_of_first_variable(
         && one.numbers() == [0, 0, 1, 2].as_slice()
 }
 
-/// Whether a table with one more variable has two numbers.
 fn has_two_with(rt: &impl Abort, alloc: Global, one: &Classes<'_>, x: VarIx) -> bool {
     with(rt, alloc, one, x).numbers() == [0, 1].as_slice()
 }
@@ -87,7 +84,6 @@ fn the_multiplexer_has_its_classes(rt: HostRuntime) {
     assert!(rt; is_found_at_once(&rt, rt.alloc(), &problem, &one) && tally.count() == 3);
 }
 
-/// Adds each variable that isn't in the set, in both ways.
 fn compact_by_each(rt: &impl Abort, alloc: Global, problem: &Problem, classes: &Classes<'_>) {
     for x in 0..problem.inputs() {
         if classes.lacks(x) {
@@ -113,8 +109,7 @@ fn both_numberings_agree(rt: HostRuntime) {
     }
 }
 
-/// The width of a variable that isn't in the set, found alike in both ways, each of which counts
-/// it.
+/// The width of a variable, found alike in both ways, each of which counts it.
 fn width_in_both_ways(
     rt: &impl Abort,
     alloc: Global,
@@ -133,7 +128,6 @@ fn width_in_both_ways(
     width
 }
 
-/// The width of a variable over a set without it.
 pub(crate) fn width_alone(
     rt: &impl Abort,
     alloc: Global,

@@ -44,9 +44,8 @@ fn row_found(rt: &impl Abort, alloc: Global, renaming: &Renaming<'_>, block: &Bl
     rows[0]
 }
 
-/// The row of the set of the two lowest variables, alone in a block of the sets of two: by itself,
-/// from a row that is found, and from one of the problem in which such variables are the lowest
-/// ones. They are to be the same.
+/// The row of the set of the two lowest variables: by itself, from a row that is found, and from
+/// one of the problem in which such variables are the lowest. They are to be the same.
 fn row_at(
     rt: &impl Abort,
     alloc: Global,

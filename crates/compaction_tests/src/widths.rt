@@ -22,7 +22,6 @@ fn row_alone(rt: &impl Abort, alloc: Global, problem: &Problem, mask: Mask) -> W
     row
 }
 
-/// The sum of a row.
 fn sum_of(row: &WidthRow) -> u64 {
     let mut sum = 0u64;
     for width in row {

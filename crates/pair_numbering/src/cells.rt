@@ -1,5 +1,5 @@
-//! Numbers of pairs by first occurrence, with a cell of 16 bits for each possible pair of classes.
-//! These cells are entries of an array; the cells of sets are something else.
+//! Numbers of pairs by first occurrence, with a cell of 16 bits for each possible pair of classes:
+//! an entry of an array, not the cell of a set.
 
 ghost use Rattle.std.specs.Prelude.{◌≡◌, ℕ, ◌+◌, ◌*◌, ◌/◌, ◌^◌, ◌<◌, ◌≤◌, length, slice_index, take, IfOk, IfSome, IsTrue};
 ghost use Rattle.pair_numbering.specs.Cells.{AreCelled};
@@ -12,19 +12,17 @@ use definitions::Mask;
 use std::alloc::AllocError;
 use subfunction_classes::join_mask;
 
-/// The most numbers that cells can hold: a cell of 16 bits is 0 or one more than a number.
+/// A cell is 0 or one more than a number.
 const MOST_NUMBERS: usize = 65_535;
 
 /// If more than one in this many pairs was new so far, a branch on whether a pair is new would
 /// often be mispredicted.
 const MANY_NEW: usize = 4;
 
-/// Numbers the 2^rank pairs of block `block`, counted from 0, after those of the blocks before it,
-/// by first occurrence. `from` is how many numbers there were before; returns how many there are
-/// then. `out` and `joined` have an entry for each pair of all blocks. Of pair j, counted over all
-/// blocks, `out[j]` becomes the number, and if it is a new number k, `joined[k]` the mask of the
-/// function with these cofactors. `cells[c * n + d]`, for n classes, is 0 or one more than the
-/// number of pair (c, d). Requires `from` + 2^rank to be below 2^16. `EVENLY` affects speed only.
+/// Numbers the pairs of block `block` after those of the blocks before it, which have `from`
+/// numbers, and returns how many there are then. If pair j, counted over all blocks, gets a new
+/// number k, `joined[k]` is its mask. `cells[c * n + d]`, for n classes, is 0 or one more than the
+/// number of pair (c, d). `EVENLY` affects speed only.
 #[inline(always)]
 fn number_block<const EVENLY: bool>(
     pairs: &MaskedPairs<'_>,
@@ -66,12 +64,9 @@ fn number_block<const EVENLY: bool>(
 }
 
 // The loops of `number_blocks` need all registers, so it isn't inlined.
-/// Numbers the pairs of classes in `pairs` by first occurrence. Writes to `out[j]` the number of
-/// pair j, and to `joined[k]`, for each number k, the mask of the function whose cofactors are the
-/// pair. Both have an entry for each pair. Returns how many numbers there are, or None if these and
-/// the pairs of one more block could exceed `MOST_NUMBERS`: then `out` and `joined` are unfinished.
-/// `cells` is working memory with n * n entries for n classes. Requires all to be 0 before; they
-/// aren't cleared after.
+/// Numbers the pairs by first occurrence: `out[j]` of pair j, with the mask `joined[k]` for number
+/// k. None if the numbers could exceed `MOST_NUMBERS`: `out` and `joined` are then unfinished.
+/// `cells` is not cleared after.
 #[inline(never)]
 fn number_blocks(
     pairs: &MaskedPairs<'_>,
@@ -101,10 +96,9 @@ fn number_blocks(
     Some(count)
 }
 
-/// Numbers the pairs by first occurrence: overwrites `to` with the number of each pair, and with
-/// the mask of the function whose cofactors are the pair of each number. `cells` becomes working
-/// memory of n * n entries for n classes. False if there may be more than `MOST_NUMBERS` numbers:
-/// then, and if memory is refused, `to` has no meaning.
+/// Overwrites `to` with the number of each pair and the mask of each number. `cells` becomes
+/// working memory of n * n entries for n classes. False if there may be more than `MOST_NUMBERS`
+/// numbers: then, and if memory is refused, `to` has no meaning.
 pub(crate) fn number_pairs_by_cells(
     pairs: &MaskedPairs<'_>,
     cells: &mut Vec<u16>,

@@ -1,6 +1,6 @@
-//! Pairs of a table's entries, wherever they stand: in a row, or in pairs of strips. Pairs come in
-//! blocks of 2^rank: the entries of a block at which the variable is 0 stand one behind the other,
-//! and so do those at which it is 1. The blocks of a layer are something else.
+//! Pairs of a table's entries, which stand in a row or in strips. Pairs come in blocks of 2^rank,
+//! in which the entries with the variable at 0 are contiguous, and so are those with it at 1. These
+//! aren't the blocks of a layer.
 
 ghost use Rattle.std.specs.Prelude.{◌≡◌, ℕ, ◌+◌, ◌*◌, ◌/◌, ◌^◌, ◌<◌, ◌≤◌, length, slice_index, get_or, IsTrue};
 ghost use Rattle.subfunction_classes.specs.Places as places;
@@ -10,14 +10,12 @@ ghost use Rattle.subfunction_classes.specs.Strips.{AreNamed, names_of, unrolled}
 use crate::numbers::are_in_order;
 use std::marker::Model;
 
-/// The pairs of a class table's entries that differ in one variable alone. The table's entries
-/// stand in a row, or in strips, some of which may be equal and are stored once.
+/// The pairs of a class table's entries that differ in one variable alone.
 #[derive(Drop)]
 pub struct EntryPairs<'a> {
-    /// The class numbers of the entries, or those in the stored strips, one strip after the other.
+    /// The class numbers of the entries, or those of the stored strips, one after the other.
     numbers: &'a [u32],
-    /// With strips, the numbers of two strips for each block of pairs: the strip where the variable
-    /// is 0, and the one where it is 1. None without strips.
+    /// For each block of pairs, the strip where the variable is 0 and the one where it is 1.
     names: Option<&'a [(u32, u32)]>,
     /// A block has 2^rank pairs.
     rank: u32,
@@ -41,16 +39,15 @@ impl<'a> Model for EntryPairs<'a> {
         × (e.step ≡ 2 ^ e.rank) };
 }
 
-/// The entries of a block of pairs: those at which the variable is 0, and those at which it is 1.
-/// A loop over the block ends at `low.len()`, not at `1 << rank` (see `EntryPairs::step`).
+/// The entries of a block where the variable is 0, and those where it is 1. A loop over it ends at
+/// `low.len()`, not at `1 << rank` (see `EntryPairs::step`).
 #[derive(Clone, Copy, Debug)]
 pub(crate) struct BlockHalves<'a> {
     pub(crate) low: &'a [u32],
     pub(crate) high: &'a [u32],
 }
 
-/// Strip number `name`, counted from 0, of `numbers`, in which strips of `step` entries stand one
-/// behind the other. Requires `numbers` to have this strip.
+/// Strip number `name` of `numbers`, which has strips of `step` entries.
 #[inline(always)]
 fn strip_at(numbers: &[u32], step: usize, name: usize) -> &[u32]
     requires inside { name * step + step ≤ length numbers.now }
@@ -63,9 +60,9 @@ fn strip_at(numbers: &[u32], step: usize, name: usize) -> &[u32]
 }
 
 impl<'a> EntryPairs<'a> {
-    /// The pairs of entries of the class table `numbers` that differ in one variable alone. `rank`
-    /// is how many variables outside the table's set are below that one: entry i, if bit `rank` of
-    /// i is 0, is paired with entry i + 2^rank.
+    /// The pairs of entries of the class table `numbers`. `rank` is how many variables outside the
+    /// table's set are below the one that differs: entry i, if bit `rank` of i is 0, is paired with
+    /// entry i + 2^rank.
     #[inline(always)]
     pub fn of_table(numbers: &'a [u32], rank: u32) -> EntryPairs<'a>
         requires { IsPaired numbers.now rank }
@@ -80,11 +77,8 @@ impl<'a> EntryPairs<'a> {
         }
     }
 
-    /// The pairs of entries of a class table that differ in one variable alone. The table's entries
-    /// stand in `numbers`, in strips of 2^bits entries. `names[k]` has the numbers of two strips,
-    /// whose entries are paired: where the variable is 0, and where it is 1. Requires `numbers` to
-    /// have these strips, `bits` to be below 16, and at most 2^20 entries in `numbers` and in the
-    /// table.
+    /// The pairs of entries of a class table in strips of 2^bits entries. `names[k]` has two strips
+    /// whose entries are paired: where the variable is 0, and where it is 1.
     #[inline(always)]
     pub fn of_strips(names: &'a [(u32, u32)], numbers: &'a [u32], bits: u32) -> EntryPairs<'a>
         requires named { AreNamed (names_of names.now) numbers.now (2 ^ bits) }
@@ -102,8 +96,7 @@ impl<'a> EntryPairs<'a> {
         }
     }
 
-    /// The rank r. Each 2^r pairs are a block: their entries where the variable is 0 stand one
-    /// behind the other, and so do those where it is 1.
+    /// The rank r: 2^r pairs are a block.
     #[inline(always)]
     pub fn rank(&self) -> u32
         ensures rank { result ≡ self.now.rank }
@@ -124,8 +117,7 @@ impl<'a> EntryPairs<'a> {
         }
     }
 
-    /// Whether the table stands in a row and its entries are 0, 1, 2 and so on, so that each is its
-    /// place. False for a table in strips.
+    /// Whether the table stands in a row and each entry is its place. False for a table in strips.
     #[inline(always)]
     pub(crate) fn are_places(&self) -> bool
         ensures { IsTrue result → AreOwn self.now.numbers }
@@ -136,8 +128,6 @@ impl<'a> EntryPairs<'a> {
         }
     }
 
-    /// The entries of the 2^rank pairs of block `block`, counted from 0: those where the variable
-    /// is 0, and those where it is 1. Requires `block` to be below the number of blocks.
     #[inline(always)]
     pub(crate) fn block(&self, block: usize) -> BlockHalves<'a>
         requires { block < length self.now.numbers / 2 / 2 ^ self.now.rank }
@@ -161,8 +151,7 @@ impl<'a> EntryPairs<'a> {
         }
     }
 
-    /// Pair `j`, counted from 0: the entry where the variable is 0, and the entry where it is 1.
-    /// Requires `j` to be below the number of pairs.
+    /// Pair `j`: the entry where the variable is 0, and the entry where it is 1.
     #[inline(always)]
     pub fn pair(&self, j: usize) -> (u32, u32)
         requires { j < length self.now.numbers / 2 }

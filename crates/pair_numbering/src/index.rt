@@ -8,8 +8,7 @@ use crate::numbers::NumberedPairs;
 use indexmap::IndexSet;
 use std::alloc::{AllocError, Global};
 
-/// Numbers the pairs by first occurrence, in an `IndexSet`: the number of each pair, and the pair
-/// of each number.
+/// Numbers the pairs by first occurrence, in an `IndexSet`.
 pub fn index_entries(alloc: Global, entries: &EntryPairs<'_>) -> Result<NumberedPairs, AllocError>
     ensures { IfOk result
         (λ v. ArePairsNumbered entries.now.numbers entries.now.rank v.numbers.items

@@ -1,6 +1,5 @@
 //! Numbers of pairs, equal for equal pairs and no others, in any order. The joined number of a
-//! pair, low + base * high, costs less than a number by first occurrence. Pairs get joined numbers
-//! if there are few of these.
+//! pair, low + base * high, costs less than a number by first occurrence.
 
 ghost use Rattle.std.specs.Prelude.{◌≡◌, ◌*◌, ◌^◌, ◌<◌, ◌≤◌, map, length, IfOk, IsTrue};
 ghost use Rattle.std.specs.List.{range_with_len};
@@ -16,14 +15,11 @@ use definitions::{Mask, VarIx};
 use std::alloc::{AllocError, Global};
 use subfunction_classes::join_mask;
 
-/// The most classes whose pairs get joined numbers. Pairs of more classes are numbered by first
-/// occurrence.
+/// The most classes whose pairs get joined numbers.
 const MOST_JOINED: usize = 16;
 
-/// Numbers of a class table's entries, or of pairs of entries: equal for equal ones and no others.
-/// `masks[k]` is the mask of number k: the variables that its functions depend on. If `all_used` is
-/// true, each entry of `masks` is that of a number that occurs; if false, some may be of numbers
-/// that don't occur.
+/// Numbers of entries, or of pairs of them: equal for equal ones and no others. `masks[k]` is the
+/// mask of number k. Unless `all_used` is true, some masks may be of numbers that don't occur.
 #[derive(Drop)]
 pub struct PairKeys {
     pub numbers: Vec<u32>,
@@ -32,9 +28,6 @@ pub struct PairKeys {
     ghost used: { IsTrue all_used → AreUsed numbers.items masks.items },
 }
 
-/// The joined number of each pair j, low + base * high, at entry j: low is the pair's entry where
-/// the variable is 0, and high that where it is 1. Requires all entries to be below `base`, and
-/// `base` to be at most 256.
 fn join_keys(alloc: Global, entries: &EntryPairs<'_>, base: u32) -> Result<Vec<u32>, AllocError>
     requires below { AllBelow entries.now.numbers base }
     requires base { base ≤ 256 }
@@ -54,9 +47,8 @@ fn join_keys(alloc: Global, entries: &EntryPairs<'_>, base: u32) -> Result<Vec<u
     Ok(joined)
 }
 
-/// The mask for each joined number low + base * high, by rising number: that of the function with
-/// the cofactors low by x = 0 and high by x = 1. `masks[c]` has the variables on which class c
-/// depends, and base is the number of classes, at most 256.
+/// The mask for each joined number, by rising number. `masks[c]` has the variables on which class c
+/// depends.
 fn join_key_masks(alloc: Global, masks: &[Mask], x: VarIx) -> Result<Vec<Mask>, AllocError>
     requires variable { x < 16 }
     requires few { length masks.now ≤ 256 }
@@ -74,11 +66,9 @@ fn join_key_masks(alloc: Global, masks: &[Mask], x: VarIx) -> Result<Vec<Mask>, 
     Ok(joined)
 }
 
-/// Numbers the pairs, equal ones alike and others differently, and finds for each number the mask
-/// of the function whose cofactors are the pair. If there are at most `MOST_JOINED` classes, and no
-/// more pairs of classes than table entries, the number is low + classes * high: low is the class
-/// where the variable is 0, and high that where it is 1. Else pairs are numbered by first
-/// occurrence. What `memory` has before doesn't matter.
+/// Numbers the pairs and finds the mask of each number: joined numbers if there are at most
+/// `MOST_JOINED` classes and no more pairs of classes than table entries, else by first occurrence.
+/// `memory` is working memory.
 pub fn label_pairs(memory: &mut PairMemory, pairs: &MaskedPairs<'_>) -> Result<PairKeys, AllocError>
     ensures { IfOk result
         (λ v. TellsPairs pairs.now.masks.now pairs.now.x

@@ -1,6 +1,6 @@
-//! Numbers of the pairs of a class table's entries that differ in one variable: equal pairs, and no
-//! others, have one number. With them comes the mask of each number: the variables that the
-//! functions of its pair depend on.
+//! Numbers of the pairs of a class table's entries that differ in one variable: equal for equal
+//! pairs and no others. With them come the masks of numbers: the variables that their functions
+//! depend on.
 #![tactic(auto)]
 
 mod cells;

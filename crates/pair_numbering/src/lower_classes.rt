@@ -8,20 +8,17 @@ ghost use Rattle.pair_numbering.specs.LowerClasses.{AreLone};
 
 use crate::entries::EntryPairs;
 
-/// Pairs of a table's entries, and how many of them have each class as their lower class.
 #[derive(Drop)]
 pub(crate) struct CountedPairs<'e> {
     pub(crate) entries: &'e EntryPairs<'e>,
-    /// `counts[c]` is how many pairs have the lower class c: 0, 1, or 2 for two or more. All are 0
-    /// if the pairs weren't counted.
+    /// How many pairs have the lower class c: 0, 1, or 2 for more. All are 0 if they weren't
+    /// counted.
     pub(crate) counts: &'e [u8],
     ghost classes: { AllBelow entries.now.numbers (length counts.now) },
     ghost lone: { AreLone (places.pairs entries.now.numbers (2 ^ entries.now.rank)) counts.now },
 }
 
-/// Counts the pairs by lower class: writes to `counts[c]` how many pairs have the lower class c: 0,
-/// 1, or 2 for two or more. If there are no more classes than pairs, nothing is counted and all
-/// entries stay 0. Requires an entry for each class, all of them 0.
+/// Counts the pairs by lower class, unless there are no more classes than pairs.
 pub(crate) fn count_lowers(entries: &EntryPairs<'_>, counts: &mut [u8])
     requires table { IsPairTable entries.now.numbers entries.now.rank (length counts.old) }
     requires none { (c : ℕ) → c < length counts.old → slice_index counts.old c ≡ 0 }

@@ -1,5 +1,3 @@
-//! The masks of classes and of pairs: the variables that their functions depend on.
-
 ghost use Rattle.std.specs.Prelude.{◌≡◌, ◌^◌, ◌<◌, ◌≤◌, map, length, OnOk};
 ghost use Rattle.subfunction_classes.specs.Dependence.{joined_mask};
 ghost use Rattle.subfunction_classes.specs.PairTables.{AllBelow};
@@ -10,9 +8,7 @@ use definitions::{Mask, VarIx};
 use std::alloc::AllocError;
 use subfunction_classes::join_mask;
 
-/// The pairs of a class table's entries that differ in variable `x`, below 16. `masks` has for each
-/// class the variables that it depends on, and all entries are below their number. There are at
-/// most 2^20 entries and 2^20 masks.
+/// The pairs of a class table's entries that differ in variable `x`, with the mask of each class.
 #[derive(Drop)]
 pub struct MaskedPairs<'e> {
     pub entries: EntryPairs<'e>,
@@ -24,9 +20,8 @@ pub struct MaskedPairs<'e> {
     ghost variable: { x < 16 },
 }
 
-/// Overwrites `joined`: entry k becomes the mask of the function whose cofactors by x = 0 and x = 1
-/// are the two classes of pair k. `masks[c]` has, for each class c, the variables on which it
-/// depends. If memory is refused, `joined` has no meaning.
+/// Overwrites `joined` with the mask of each pair's function, where `masks` has those of the
+/// classes. If memory is refused, `joined` has no meaning.
 pub fn join_masks(
     pairs: &[(u32, u32)],
     x: VarIx,

@@ -1,7 +1,6 @@
 //! Numbers of pairs by first occurrence, and their masks. If a table's entries are 0, 1, 2 and so
 //! on, so are the numbers of its pairs. Others are found by cells if there are few classes, else by
-//! slots, in memory that is used again; or by an `IndexSet`, if there are too many pairs for slots
-//! or these are crowded.
+//! slots, or by an `IndexSet` if there are too many pairs for slots or these are crowded.
 
 ghost use Rattle.std.specs.Prelude.{◌≡◌, ℕ, ◌*◌, ◌^◌, ◌<◌, ◌≤◌, length, OnOk};
 ghost use Rattle.subfunction_classes.specs.PairTables.{IsPairTable};
@@ -19,16 +18,14 @@ use std::alloc::{AllocError, Global};
 /// Pairs are numbered by cells if there are at most this many cells for each pair.
 const MOST_CELLS_PER_PAIR: usize = 16;
 
-/// Working memory in which pairs are numbered. What it holds before a numbering doesn't matter.
+/// Working memory in which pairs are numbered.
 #[derive(Drop)]
 pub struct PairMemory {
-    /// The allocator of this memory.
     pub alloc: Global,
     /// After a call of `number`: `pairs[k]` is the pair with the number k.
     pub pairs: Vec<(u32, u32)>,
-    /// Room for a second list of pairs; what it holds has no meaning. A caller that needs `pairs`
-    /// during the next numbering takes the list out, puts this one in its place, and puts it here
-    /// when it is done.
+    /// Room for a second list of pairs. A caller that needs `pairs` during the next numbering takes
+    /// the list out, puts this one in its place, and puts it here when it is done.
     pub spare: Vec<(u32, u32)>,
     /// How many pairs have each class as their lower class (`CountedPairs`).
     pub(crate) counts: Vec<u8>,
@@ -51,9 +48,8 @@ impl PairMemory {
         }
     }
 
-    /// Numbers the pairs by first occurrence: overwrites `numbers` with the number of each pair,
-    /// and `self.pairs` with the pair of each number. Requires at most 2^20 entries, and all
-    /// classes to be below `classes`. If memory is refused, the two have no meaning.
+    /// Overwrites `numbers` with the number of each pair, and `self.pairs` with the pair of each
+    /// number. If memory is refused, the two have no meaning.
     pub fn number(
         &mut self,
         entries: &EntryPairs<'_>,
@@ -74,8 +70,7 @@ impl PairMemory {
         Ok(())
     }
 
-    /// Numbers the pairs by first occurrence: overwrites `to` with the number of each pair, and
-    /// with the mask of the function whose cofactors are the pair of each number. If memory is
+    /// Overwrites `to` with the number of each pair and the mask of each number. If memory is
     /// refused, `to` has no meaning.
     pub fn write_numbers(
         &mut self,

@@ -1,6 +1,3 @@
-//! Numbers of pairs by first occurrence, as lists; and those of a table whose entries are 0, 1, 2
-//! and so on.
-
 ghost use Rattle.std.specs.Prelude.{◌≡◌, ◌<◌, ◌^◌, ◌≤◌, ℕ, length, slice_index, IfOk, IsTrue, OnOk};
 ghost use Rattle.subfunction_classes.specs.PairTables.{AreOwn, IsPairTable};
 ghost use Rattle.pair_numbering.specs.Numbers.{ArePairsNumbered};
@@ -13,9 +10,8 @@ use definitions::Mask;
 use std::alloc::{AllocError, Global};
 use subfunction_classes::join_mask;
 
-/// `numbers[j]` is the number of pair j, and `masks[k]` the mask of number k: the variables that
-/// the functions of its pair depend on. If the pairs are those of a set's class table, these are
-/// the class table of the set with one more variable.
+/// The number of each pair, and the mask of each number. For the pairs of a set's class table these
+/// are the class table of the set with one more variable.
 #[derive(Drop)]
 pub struct MaskedNumbers {
     pub numbers: Vec<u32>,
@@ -32,15 +28,14 @@ impl MaskedNumbers {
     }
 }
 
-/// `numbers[j]` is the number of pair j, and `pairs[k]` the pair with the number k.
+/// The number of each pair, and the pair of each number.
 #[derive(Drop)]
 pub struct NumberedPairs {
     pub numbers: Vec<u32>,
     pub pairs: Vec<(u32, u32)>,
 }
 
-/// Numbers the pairs by first occurrence: the number of each pair, and for each number the mask of
-/// the function whose cofactors are the pair. What `memory` has before doesn't matter.
+/// Numbers the pairs by first occurrence, with their masks. `memory` is working memory.
 pub fn number_with_masks(
     memory: &mut PairMemory,
     pairs: &MaskedPairs<'_>,
@@ -52,10 +47,9 @@ pub fn number_with_masks(
     Ok(to)
 }
 
-/// Overwrites `to` with the numbers of the pairs, which are 0, 1, 2 and so on, and for each pair
-/// the mask of the function whose cofactors are the pair. Requires the table's entries to be 0, 1,
-/// 2 and so on: a pair is then the two places of its entries, so no two pairs are equal, and no
-/// entry is read. If memory is refused, `to` has no meaning.
+/// Overwrites `to` with the numbers 0, 1, 2 and so on and the masks of the pairs of a table whose
+/// entries are 0, 1, 2 and so on: no two of these pairs are equal, and no entry is read. If memory
+/// is refused, `to` has no meaning.
 pub(crate) fn number_distinct_pairs(
     pairs: &MaskedPairs<'_>,
     to: &mut MaskedNumbers,
@@ -70,7 +64,6 @@ pub(crate) fn number_distinct_pairs(
     to.numbers.resize(half, 0)?;
     to.masks.resize(half, 0)?;
     for j in 0..half {
-        // The entry where the variable is 0: j with a bit 0 put in at the variable's place.
         let low = 2 * j - (j & (step - 1));
         let pair = (low as u32, (low + step) as u32);
         to.numbers[j] = j as u32;
@@ -79,8 +72,7 @@ pub(crate) fn number_distinct_pairs(
     Ok(())
 }
 
-/// Whether the numbers are 0, 1, 2 and so on; true if there are none. If they are a class table, no
-/// two of its entries are then equal.
+/// Whether the numbers are 0, 1, 2 and so on. A class table of such numbers has no equal entries.
 pub fn are_in_order(numbers: &[u32]) -> bool
     ensures up { IsTrue result → AreOwn numbers.now }
     ensures all { AreOwn numbers.now → IsTrue result }

@@ -1,5 +1,5 @@
-//! Numbers of pairs by first occurrence, found in hash slots that each have the number of a pair. A
-//! pair whose lower class no other pair has is new, and takes no slot.
+//! Numbers of pairs by first occurrence, found in hash slots. A pair whose lower class no other
+//! pair has is new, and takes no slot.
 
 ghost use Rattle.std.specs.Prelude.{◌≡◌, ℕ, ◌+◌, ◌*◌, ◌/◌, ◌^◌, ◌<◌, ◌≤◌, length, slice_index, take, IfOk, IfSome, IsTrue};
 ghost use Rattle.pair_numbering.specs.Slots.{IsSlot, home_of};
@@ -14,14 +14,13 @@ use std::alloc::AllocError;
 /// The most slots that are tried for a pair.
 const TRIES: usize = 64;
 
-/// How many slots there are for each pair, beside the `TRIES` slots at the end.
+/// Beside the `TRIES` slots at the end.
 const SLOTS_PER_PAIR: usize = 4;
 
 /// The factor of Fibonacci hashing: 2^64 divided by the golden ratio, rounded down.
 const SPREAD: u64 = 0x9E37_79B9_7F4A_7C15;
 
-/// The slot at which the search for a pair begins: a hash of the pair, below `homes`. Requires
-/// `homes` to be from 1 to 2^21.
+/// The slot at which the search for a pair begins.
 #[inline(always)]
 fn home(homes: usize, pair: (u32, u32)) -> usize
     requires some { 0 < homes }
@@ -34,10 +33,9 @@ fn home(homes: usize, pair: (u32, u32)) -> usize
     ((high * homes as u64) >> 32) as usize
 }
 
-/// The index of the first slot, of the `TRIES` from index `home` on, that is free or has the number
-/// of `pair`; None if there is none. `keys[k]` is the pair with the number k, for each k below
-/// `count`, the number of pairs so far. A slot is free if it has `count` or more. Requires
-/// `keys[count]` to be `pair`, and `slots` to have at least `home` + `TRIES` entries.
+/// The first slot, of the `TRIES` from `home` on, that is free or has the number of `pair`.
+/// `keys[k]` is the pair with the number k; a slot with `count`, the number of pairs so far, or
+/// more is free.
 #[inline(always)]
 fn find_slot(
     slots: &[u16],
@@ -59,11 +57,9 @@ fn find_slot(
     None
 }
 
-/// Numbers the pairs by first occurrence: writes the number of pair j to `out[j]`, and the pair of
-/// number k to `keys[k]`. Both have an entry for each of the at most 2^15 pairs. `slots` is working
-/// memory: `SLOTS_PER_PAIR` entries for each pair and `TRIES` more, which all have to be
-/// `out.len()` before. Returns how many numbers there are. None if all `TRIES` slots that are tried
-/// for a pair are taken by others; then `out` and `keys` have no meaning.
+/// Numbers the pairs by first occurrence: the number of pair j in `out[j]`, the pair of number k in
+/// `keys[k]`. Returns how many numbers there are. None if all `TRIES` slots tried for a pair are
+/// taken by others; then `out` and `keys` have no meaning.
 #[inline(always)]
 fn number_blocks(
     pairs: &CountedPairs<'_>,
@@ -104,13 +100,11 @@ fn number_blocks(
     Some(count)
 }
 
-/// The most pairs that are numbered by slots of 16 bits.
 const MOST_PAIRS: usize = 1 << 15;
 
-/// Numbers the pairs by first occurrence, in a hash table: overwrites `numbers` with the number of
-/// each pair, and `memory.pairs` with the pair of each number. False if there are more than
-/// `MOST_PAIRS` pairs, or if other pairs hold all `TRIES` slots that are tried for a pair: then,
-/// and if memory is refused, the two have no meaning. Requires all classes to be below `classes`.
+/// Overwrites `numbers` with the number of each pair, and `memory.pairs` with the pair of each
+/// number. False if there are more than `MOST_PAIRS` pairs, or if other pairs hold all slots that
+/// are tried for one: then, and if memory is refused, the two have no meaning.
 pub(crate) fn number_pairs_by_slots(
     entries: &EntryPairs<'_>,
     classes: usize,

@@ -1,6 +1,6 @@
 //! The levels of a reduced diagram, made from the top. The cut above a level has the distinct refs
-//! that paths from the roots come to when the variables above are fixed. Each ref of the cut is a
-//! node of the level.
+//! that paths from the roots come to when the variables above are fixed: one for each node of the
+//! level.
 
 ghost use Rattle.std.specs.Prelude.{◌≡◌, ◌+◌, ◌*◌, ◌<◌, ◌≤◌, ◌^◌, [], length, map, IfOk, OnOk};
 ghost use Rattle.std.specs.List.{All};
@@ -15,8 +15,7 @@ use indexmap::IndexSet;
 use order_model::{Node, Ref, VarIx};
 use std::alloc::{AllocError, Global};
 
-/// The code of `r`: 0 for the terminal 0, 1 for the terminal 1, and k + 2 for node k of the
-/// diagram's list of nodes. Requires k to be below 2^32.
+/// The code of `r`: 0 and 1 for the terminals, k + 2 for node k of the diagram's list of nodes.
 fn code(r: Ref) -> usize
     requires { IsBefore (2 ^ 32) r }
     ensures { result ≡ code_of r }
@@ -28,8 +27,6 @@ fn code(r: Ref) -> usize
     }
 }
 
-/// The ref with the code `code`: 0 is the terminal 0, 1 the terminal 1, and k + 2 node k of the
-/// diagram's list of nodes.
 fn reference(code: usize) -> Ref
     ensures { result ≡ ref_named code }
 {
@@ -40,8 +37,6 @@ fn reference(code: usize) -> Ref
     }
 }
 
-/// The refs with these codes, in the same order: 0 is the terminal 0, 1 the terminal 1, and k + 2
-/// node k of the diagram's list of nodes.
 fn references(alloc: Global, codes: &[usize]) -> Result<Vec<Ref>, AllocError>
     ensures { IfOk result (λ v. v.items ≡ map ref_named codes.now) }
 {
@@ -52,8 +47,8 @@ fn references(alloc: Global, codes: &[usize]) -> Result<Vec<Ref>, AllocError>
     Ok(refs)
 }
 
-/// The low and the high cofactor by `variable` of `r`, a ref into the diagram's list `nodes`: its
-/// children if it is a node of `variable`, else `r` itself twice.
+/// The low and the high cofactor of `r` by `variable`: twice `r` itself if it is no node of
+/// `variable`.
 fn halves(nodes: &[Node], variable: VarIx, r: Ref) -> (Ref, Ref)
     requires { IsBefore (length nodes.now) r }
     ensures { result ≡ split_ref nodes.now variable r }
@@ -71,11 +66,9 @@ fn halves(nodes: &[Node], variable: VarIx, r: Ref) -> (Ref, Ref)
     }
 }
 
-/// Numbers the cofactors by `variable` of the refs of `cut`. Appends each distinct one to `codes`,
-/// by first occurrence: 0 and 1 for the terminals, k + 2 for `nodes[k]`. Appends to `level`, for
-/// each ref, the indexes in `codes` of its low and its high cofactor. Requires `codes` and `level`
-/// to be empty, and at most 2^31 - 1 refs in `cut`, all into `nodes`: fewer than 2^32 nodes of a
-/// diagram of `n` variables. If memory is refused, `codes` and `level` may have a part.
+/// Numbers the cofactors by `variable` of the refs of `cut`: appends the code of each distinct one
+/// to `codes`, and to `level`, for each ref, the indexes of its cofactors there. If memory is
+/// refused, both may have a part.
 fn number_halves(
     n: u8,
     nodes: &[Node],
@@ -102,11 +95,8 @@ fn number_halves(
     Ok(())
 }
 
-/// Takes the level of `variable` off a diagram with `n` variables and the nodes `nodes`. `cut` has
-/// the distinct refs that paths from the roots come to when the variables above `variable` are
-/// fixed, at most 2^31 - 1. Returns the level's nodes, one for each ref of `cut` and in the same
-/// order, and the cut below: the distinct cofactors by `variable` of these refs. A node is the
-/// indexes of its low and its high cofactor in the cut below.
+/// The nodes of the level of `variable`, one for each ref of `cut`, and the cut below. A node is
+/// the indexes of its cofactors in the cut below.
 fn split(
     alloc: Global,
     n: u8,
@@ -127,10 +117,8 @@ fn split(
     Ok((level, next))
 }
 
-/// Appends a number for each distinct root to `codes`, by first occurrence: 0 and 1 for the
-/// terminals, k + 2 for node k of the diagram's list of nodes. Appends the index in `codes` of each
-/// root's number to `numbers`. Requires both lists to be empty, at most 16 roots, and each k to be
-/// below 2^32. If memory is refused, both lists may have a part.
+/// Appends the code of each distinct root to `codes`, and each root's index there to `numbers`. If
+/// memory is refused, both may have a part.
 fn number_roots(
     roots: &[Ref],
     codes: &mut IndexSet<usize>,
@@ -150,8 +138,7 @@ fn number_roots(
     Ok(())
 }
 
-/// Returns the index of each root in the topmost cut, and this cut: the distinct roots, by first
-/// occurrence. Requires at most 16 roots, each a terminal or one of the `size` nodes of a diagram.
+/// The index of each root in the topmost cut, and this cut: the distinct roots.
 fn first_cut(alloc: Global, size: usize, roots: &[Ref]) -> Result<(Vec<u32>, Vec<Ref>), AllocError>
     requires small { size < 2 ^ 32 }
     requires few { length roots.now ≤ 16 }
@@ -165,8 +152,7 @@ fn first_cut(alloc: Global, size: usize, roots: &[Ref]) -> Result<(Vec<u32>, Vec
     Ok((numbers, cut))
 }
 
-/// For each ref of `cut`, in the same order: true for the terminal 1, false for any other ref.
-/// `cut` is meant to be the cut below the lowest level, which has terminals alone.
+/// The values of the terminals in `cut`, the one below the lowest level.
 fn terminal_values(alloc: Global, cut: &[Ref]) -> Result<Vec<bool>, AllocError>
     ensures { IfOk result (λ v. v.items ≡ map is_true cut.now) }
 {
@@ -177,24 +163,19 @@ fn terminal_values(alloc: Global, cut: &[Ref]) -> Result<Vec<bool>, AllocError>
     Ok(values)
 }
 
-/// A reduced diagram, stored by levels. Nodes whose two children are equal are added, so that each
-/// edge goes to the next level.
+/// A reduced diagram by levels, with nodes of two equal children, so that each edge goes to the
+/// next level.
 #[derive(Drop)]
 pub(crate) struct BuiltLevels {
-    /// Entry j is the index, in the top level's list of nodes, of the node that stands for root j.
+    /// The index on the top level of each root's node.
     pub(crate) roots: Vec<u32>,
     /// The levels, top first.
     pub(crate) levels: Vec<Level>,
-    /// The terminals below the lowest level, each once: `true` is terminal 1. The children of the
-    /// lowest level's nodes are indexes in this list.
+    /// The values of the terminals, to whose places the lowest level's children refer.
     pub(crate) terminals: Vec<bool>,
 }
 
-/// Turns a reduced diagram into levels. The result has three lists: the levels, top first; the
-/// terminals, to which the edges of the lowest level go; and for each root the index of its node on
-/// the top level. Nodes with two equal children are added, so that each edge goes to the next
-/// level. The diagram's order is `order`, top first; `nodes` has each of its nodes after the node's
-/// children, and `roots` its roots, at most 16.
+/// Turns a reduced diagram into levels. `nodes` has each node after its children.
 pub(crate) fn levels_of(
     alloc: Global,
     order: &[VarIx],

@@ -1,5 +1,4 @@
-//! A tight bound for a search: sifting until nothing is gained, from the sifted order and from the
-//! sifted order reversed.
+//! A tight bound for a search: sifting until nothing is gained, from an order and from it reversed.
 
 ghost use Rattle.std.specs.Prelude.{◌≡◌, ◌≤◌, ◌⊎◌, IfOk, IfSome};
 ghost use Rattle.std.specs.Thread.{IsSync};
@@ -12,26 +11,24 @@ use std::alloc::{AllocError, Global};
 use std::thread;
 use std::thread::Threads;
 
-/// The most passes of sifting that `repeat` makes, which are seldom needed.
+/// The most passes that `repeat` makes, which are seldom needed.
 const MOST_PASSES: u32 = 16;
 
-/// The fewest inputs for which sifting is repeated: with fewer, a search takes no longer than
-/// sifting again.
+/// With fewer inputs, a search takes no longer than sifting again.
 const LEAST_INPUTS: usize = 13;
 
-/// Two sizes are near if they differ by at most the second size divided by `NEAR_PART`, rounded
-/// down. The sizes of random functions are near under all orders.
+/// Two sizes are near if they differ by at most a part of so many of the second one. The sizes of
+/// random functions are near under all orders.
 const NEAR_PART: u32 = 64;
 
-/// Whether `size` and `other` differ by at most a sixty-fourth of `other`, rounded down.
+/// Whether `size` and `other` differ by at most a sixty-fourth of `other`.
 fn is_near(size: u32, other: u32) -> bool {
     size.abs_diff(other) <= other / NEAR_PART
 }
 
 impl Manager {
-    /// Reverses the manager's order as far as its pairs allow, and returns the manager. The
-    /// variables are taken from the top of the order at the start; each is moved up until it is at
-    /// the top, or a pair requires the variable above it to stay above.
+    /// Reverses the order as far as its pairs allow: from the top of the old order, each variable
+    /// is moved up as far as it may.
     fn turned_over(self, alloc: Global) -> Result<Manager, AllocError>
         ensures functions { IfOk result (λ m. m.problem ≡ self.problem) }
         ensures pairs { IfOk result (λ m. m.pairs ≡ self.pairs) }
@@ -50,9 +47,7 @@ impl Manager {
 impl Sifted {
     ghost use Rattle.sifting.specs.Managed.{IsNoLarger};
 
-    /// Repeats passes of sifting, the first from this order, until a pass leaves the size as it is,
-    /// but makes at most 16 passes. Returns the result of the last one, which is no larger than
-    /// this order. `sifter` moves the variables.
+    /// Sifts by `sifter` until a pass leaves the size as it is, in at most 16 passes.
     fn repeat<S: Sifter>(self, sifter: &S, alloc: Global) -> Result<Sifted, AllocError>
         ensures { IfOk result (IsNoLarger self) }
     {
@@ -67,9 +62,8 @@ impl Sifted {
         Ok(sifted)
     }
 
-    /// A second start of sifting: a copy of the diagram, with this order reversed as far as the
-    /// pairs allow. None if the sizes under the two orders differ by at most a sixty-fourth of this
-    /// order's size, rounded down.
+    /// A copy of the diagram with this order reversed as far as the pairs allow. None if the two
+    /// sizes are near.
     fn other_start(&self, alloc: Global) -> Result<Option<Manager>, AllocError>
         ensures { IfOk result (λ o. IfSome o (λ m. (m.problem ≡ self.now.problem)
             × (m.pairs ≡ self.now.pairs))) }
@@ -82,7 +76,7 @@ impl Sifted {
         }
     }
 
-    /// Whichever of this order and `other` has the smaller size; this order if the sizes are equal.
+    /// Whichever has the smaller size; this order if the sizes are equal.
     fn or_smaller(self, other: Sifted) -> Sifted
         ensures size { result.size ≤ self.size }
         ensures either { (result ≡ self) ⊎ (result ≡ other) }
@@ -94,11 +88,9 @@ impl Sifted {
         }
     }
 
-    /// Sifts from two starts, this order and this order reversed as far as its pairs allow, each
-    /// until a pass leaves the size as it is, and returns the smaller result. It is no larger than
-    /// this order. Makes at most 16 passes from this order, and 17 from the reversed one. Returns
-    /// this order unchanged if the sizes under the two starts differ by at most a sixty-fourth of
-    /// this order's size, rounded down.
+    /// Sifts from this order and from it reversed as far as its pairs allow, each until a pass
+    /// leaves the size as it is, in at most 17 passes, and returns the smaller result. Returns this
+    /// order unchanged if the two starts differ in size by at most a sixty-fourth.
     pub fn sifted_to_convergence(self, alloc: Global) -> Result<Sifted, AllocError>
         ensures { IfOk result (IsNoLarger self) }
     {
@@ -110,11 +102,8 @@ impl Sifted {
         Ok(here.or_smaller(there))
     }
 
-    /// The order whose size bounds the search. Sifts from two starts, this order and this order
-    /// reversed as far as its pairs allow, each until a pass leaves the size as it is, in at most
-    /// 17 passes, and returns the smaller result. Returns this order unchanged if it has fewer than
-    /// 13 variables, or if the sizes under the two starts differ by at most a sixty-fourth of this
-    /// order's size, rounded down.
+    /// The order whose size bounds the search: this order if it has fewer than 13 variables, else
+    /// the result of `sifted_to_convergence`.
     pub fn search_bound(self, alloc: Global) -> Result<Sifted, AllocError>
         ensures { IfOk result (IsNoLarger self) }
     {
@@ -124,12 +113,9 @@ impl Sifted {
         self.sifted_to_convergence(alloc)
     }
 
-    /// The order whose size bounds the search, the same for any number of workers. Sifts from this
-    /// order and from this order reversed as far as its pairs allow, each in at most 17 passes,
-    /// until one leaves the size as it is, and returns the smaller result. Returns this order
-    /// unchanged if it has fewer than 13 variables, or if the two starts differ in size by at most
-    /// a sixty-fourth of this order's, rounded down. With two or three workers each start has a
-    /// thread, with four or more it has two while its diagram has at least 4,096 nodes.
+    /// `search_bound`, by threads, with the same result for any number of workers. With two or
+    /// three workers each start has a thread, with four or more it has two while its diagram has at
+    /// least 4,096 nodes.
     pub fn search_bound_by_threads<R: Threads + Sync>(
         self,
         rt: &R,

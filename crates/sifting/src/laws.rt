@@ -1,5 +1,5 @@
-//! Laws on the truth tables of a diagram's functions. Each law is the contract of a function that
-//! does nothing.
+//! Laws on the truth tables of a diagram's functions, each the contract of a function that does
+//! nothing.
 
 ghost use Rattle.std.specs.Prelude.{◌≡◌, ℕ, ◌<◌, ◌≤◌, ◌^◌, List, length, map};
 ghost use Rattle.definitions.specs.Functions.{Function, table};
@@ -10,8 +10,7 @@ ghost use Rattle.sifting.specs.Managed.{truth_tables_of};
 
 use order_model::Problem;
 
-/// Law: a diagram that represents a list of functions has one root for each function, in the same
-/// order, and the truth table of each root is that of its function.
+/// Law: a diagram that represents functions has a root for each, with the function's truth table.
 pub fn diagrams_have_their_functions_tables()
     ensures roots { (n : ℕ) (F : List Function) (order : List ℕ) (d : OrderedGraph) →
         Represents n F order d.graph → length d.graph.roots ≡ length F }
@@ -20,8 +19,7 @@ pub fn diagrams_have_their_functions_tables()
         truth_tables_of d ≡ record { inputs = n; tables = map (table n) F } }
 {}
 
-/// Law: a diagram that represents the functions of `problem` has at most 16 roots, and the truth
-/// tables of its roots are those of `problem`.
+/// Law: a diagram of a problem's functions has at most 16 roots, with the problem's truth tables.
 pub fn diagrams_have_their_problems_tables(problem: &Problem)
     ensures roots { (order : List ℕ) (d : OrderedGraph) →
         Represents problem.now.inputs (functions problem.now) order d.graph →

@@ -1,9 +1,7 @@
-//! The levels of a diagram, and the swap of two adjacent levels.
-//!
-//! A level has a node for each function that is left over when all variables above are fixed in
-//! some way. If such a function doesn't depend on the level's variable, the two children of its
-//! node are equal. So each edge goes to the next level, and a swap changes nothing outside its two
-//! levels.
+//! The levels of a diagram, and the swap of two adjacent levels. A level has a node for each
+//! function that is left over when all variables above are fixed in some way. If such a function
+//! doesn't depend on the level's variable, the two children of its node are equal. So each edge
+//! goes to the next level, and a swap changes nothing outside its two levels.
 
 ghost use Rattle.std.specs.Prelude.{◌≡◌, ◌*◌, ◌<◌, ◌≤◌, ◌^◌, length, IfOk};
 ghost use Rattle.sifting.specs.Leveled.{branching, HasChildren, SwapsLevels};
@@ -11,22 +9,19 @@ ghost use Rattle.sifting.specs.Leveled.{branching, HasChildren, SwapsLevels};
 use crate::node_table::NodeTable;
 use std::alloc::{AllocError, Global};
 
-/// A node: the index of its low child and that of its high child in the next level's list of nodes.
-/// On the lowest level these are indexes in the list of terminals.
+/// The indexes of a node's low and high child on the next level, or among the terminals.
 pub(crate) type Children = (u32, u32);
 
-/// A level of a diagram. It also has nodes whose two children are equal, so that each edge goes to
-/// the next level.
+/// A level of a diagram, with nodes whose two children are equal.
 #[derive(Debug, Drop)]
 pub(crate) struct Level {
     /// The nodes, each once. A node's place is its index here.
     pub nodes: Vec<Children>,
-    /// How many nodes have two different children.
+    /// How many nodes have two different children, and so are nodes of the reduced diagram.
     pub count: u32,
     pub ghost counted: { count ≡ branching nodes.items },
 }
 
-/// How many of `nodes` have two different children, and so are nodes of the reduced diagram.
 fn count_of(nodes: &[Children]) -> u32
     requires { length nodes.now < 2 ^ 32 }
     ensures { result ≡ branching nodes.now }
@@ -41,8 +36,7 @@ fn count_of(nodes: &[Children]) -> u32
 }
 
 impl Level {
-    /// The level with the nodes `nodes`, each the indexes of its low and its high child in the next
-    /// level. Requires fewer than 2^32 nodes.
+    /// The level with the nodes `nodes`.
     pub fn new(nodes: Vec<Children>) -> Level
         requires { length nodes.items < 2 ^ 32 }
         ensures { result.nodes ≡ nodes }
@@ -51,7 +45,6 @@ impl Level {
         Level { nodes, count }
     }
 
-    /// A copy of the level.
     pub fn try_clone(&self, alloc: Global) -> Result<Level, AllocError>
         ensures { IfOk result (λ l. l.nodes.items ≡ self.now.nodes.items) }
     {
@@ -62,10 +55,8 @@ impl Level {
     }
 }
 
-/// Swaps the variables of two adjacent levels, whose nodes are `upper` and `lower`, and returns the
-/// new upper level and the new lower one. Node k of the new upper level has the function of
-/// `upper[k]`. Requires each child in `upper` to be an index in `lower`, and at most 2^30 nodes in
-/// `upper`. `table` is working memory: what it has before and after the call doesn't matter.
+/// Swaps the variables of two adjacent levels, and returns the new levels. Node k of the new upper
+/// level has the function of `upper[k]`. `table` is working memory.
 pub(crate) fn swap_levels(
     alloc: Global,
     table: &mut NodeTable,

@@ -1,5 +1,3 @@
-//! A diagram by levels, whose adjacent levels can be swapped.
-
 ghost use Rattle.std.specs.Prelude.{◌≡◌, ◌+◌, ◌<◌, ◌≤◌, ℕ, [], not, length, slice_index, swap, IfOk, IsFalse};
 ghost use Rattle.definitions.specs.Diagrams.{IsReduced, IsOrdered};
 ghost use Rattle.definitions.specs.Pairs.{Keeps, has_pair};
@@ -15,20 +13,16 @@ use std::marker::Model;
 use std::mem;
 
 /// A reduced diagram whose adjacent levels can be swapped, under an order that keeps some pairs. A
-/// call that takes the manager by value and runs out of memory drops the manager.
+/// call that takes it by value and runs out of memory drops it.
 #[derive(Debug, Drop)]
 pub struct Manager {
     order: Order,
-    /// Entry j is the index, in the top level's list of nodes, of the node that stands for root j.
+    /// The index on the top level of each root's node.
     roots: Vec<u32>,
-    /// The levels, top first.
     levels: Vec<Level>,
-    /// The terminals below the lowest level, each once: `true` is terminal 1. The children of the
-    /// lowest level's nodes are indexes in this list.
+    /// The values of the terminals, to whose places the lowest level's children refer.
     terminals: Vec<bool>,
-    /// The pairs that the order keeps.
     pairs: Pairs,
-    /// The table that numbers the nodes of a level while levels are swapped.
     table: NodeTable,
 }
 
@@ -48,7 +42,6 @@ impl Model for Manager {
         (nodes_of m.levels.items) m.terminals.items m.order m.roots.items m.pairs };
 }
 
-/// A copy of each of `levels`, in the same order.
 fn copies_of(alloc: Global, levels: &[Level]) -> Result<Vec<Level>, AllocError>
     ensures { IfOk result (λ v. nodes_of v.items ≡ nodes_of levels.now) }
 {
@@ -60,9 +53,8 @@ fn copies_of(alloc: Global, levels: &[Level]) -> Result<Vec<Level>, AllocError>
 }
 
 impl Manager {
-    /// Makes the manager of a diagram, with no pairs to keep. Requires the diagram to be ordered
-    /// and reduced, and to have at most 16 roots. The time is at most in proportion to the number
-    /// of nodes, plus, for each edge, the number of levels that it passes over.
+    /// The manager of a diagram, with no pairs to keep. The time is at most in proportion to the
+    /// number of nodes, plus, for each edge, the number of levels that it passes over.
     pub fn of(alloc: Global, diagram: Diagram) -> Result<Manager, AllocError>
         requires few { length diagram.graph.roots ≤ 16 }
         requires ordered { IsOrdered diagram.order diagram.graph }
@@ -76,10 +68,7 @@ impl Manager {
         Ok(manager)
     }
 
-    /// Makes the manager of a diagram whose order must keep `pairs`. Requires `pairs` to be of the
-    /// diagram's variables, its order to keep them, and the diagram to be ordered and reduced and
-    /// to have at most 16 roots. The time is at most in proportion to the number of nodes, plus,
-    /// for each edge, the number of levels that it passes over.
+    /// The manager of a diagram whose order keeps `pairs`, made in the same time as by `of`.
     pub fn with_pairs(alloc: Global, diagram: Diagram, pairs: Pairs) -> Result<Manager, AllocError>
         requires few { length diagram.graph.roots ≤ 16 }
         requires ordered { IsOrdered diagram.order diagram.graph }
@@ -102,9 +91,7 @@ impl Manager {
         })
     }
 
-    /// Whether `level`, counted from 0 at the top, may be swapped with the level below it: no pair
-    /// requires the upper level's variable to stand above the lower one's. Requires that there is a
-    /// level below.
+    /// Whether no pair forbids to swap `level`, counted from 0 at the top, with the level below it.
     pub fn may_swap(&self, level: usize) -> bool
         requires { level + 1 < length self.now.order }
         ensures { result ≡ not
@@ -115,10 +102,8 @@ impl Manager {
         !contains(self.pairs.below(variables[level]), variables[level + 1])
     }
 
-    /// Swaps `level`, counted from 0 at the top, with the level below it, and returns the manager.
-    /// Requires that there is a level below, and that no pair requires the upper variable to stand
-    /// above the lower one. The functions and all other levels stay, and the diagram stays reduced.
-    /// Takes time in proportion to the number of nodes on the two levels before the swap.
+    /// Swaps `level`, counted from 0 at the top, with the level below it. Takes time in proportion
+    /// to the number of nodes on the two levels.
     pub fn swap(self, alloc: Global, level: usize) -> Result<Manager, AllocError>
         requires below { level + 1 < length self.order }
         requires lawful { IsFalse
@@ -142,7 +127,7 @@ impl Manager {
         Ok(manager)
     }
 
-    /// The number of nodes in the reduced diagram.
+    /// The number of nodes of the reduced diagram.
     pub fn size(&self) -> u32
         ensures value { result ≡ size_of self.now }
         ensures managed { IsManagedOrder self.now }
@@ -154,8 +139,7 @@ impl Manager {
         size
     }
 
-    /// How many nodes of the reduced diagram each level has, top first. The entries past the last
-    /// level are 0.
+    /// The number of nodes on each level, top first. Entries past the last level are 0.
     pub fn level_counts(&self) -> [u32; 16]
         ensures counts { (i : ℕ) → i < length self.now.order →
             slice_index result i ≡ count_of self.now i }

@@ -1,5 +1,3 @@
-//! The table of the distinct nodes of a level that is being made.
-
 ghost use Rattle.std.specs.Prelude.{◌≡◌, [], ◌+◌, ◌*◌, ◌^◌, ◌<◌, ◌≤◌, length, IfOk, IfErr, OnOk, IfSome, IfNone};
 ghost use Rattle.sifting.specs.NodeTables.{home_of, HasNumber, IsFree, Finds, IsFreeSlot, IsSet, IsNodeTable, Inserted};
 
@@ -11,30 +9,24 @@ use std::mem;
 /// The memory of earlier levels is used again.
 #[derive(Debug, Drop)]
 pub(crate) struct NodeTable {
-    /// The hash table. A slot with a node of this level has the node's number plus `base`. A
-    /// smaller value is left from an earlier level and counts as free, so that a new level begins
-    /// without clearing the slots.
+    /// A slot has a node's number plus `base`. A smaller value is left from an earlier level and
+    /// counts as free, so that a new level begins without clearing the slots.
     pub slots: Vec<u32>,
-    /// The search for a node begins at one of the slots from 0 to `homes`, which `home` computes,
-    /// and goes up from there.
+    /// The search for a node begins at one of the slots from 0 to `homes`, and goes up from there.
     pub homes: usize,
-    /// What the slots of this level add to a node's number. It is larger than all values that
-    /// earlier levels left in the slots.
+    /// Larger than all values that earlier levels left in the slots.
     pub base: u32,
-    /// The nodes of the level so far, by first occurrence: a node's place is its number.
+    /// The nodes of the level so far: a node's place is its number.
     pub nodes: Vec<Children>,
-    /// How many of these nodes have two different children.
     pub count: u32,
-    /// The list of nodes of an earlier level, whose memory `spare_list` uses. What it has doesn't
-    /// matter.
+    /// The list of nodes of an earlier level, whose memory `spare_list` uses.
     pub spare: Vec<Children>,
 }
 
 /// The odd multiplier of the hash: its multiples spread over the words of 64 bits.
 const SPREAD: u64 = 11_400_714_819_323_198_485;
 
-/// The slot, from 0 to `homes` inclusive, at which the search for `node` begins: a hash of the
-/// node. Requires `homes` to be at most 2^32.
+/// The slot, from 0 to `homes` inclusive, at which the search for `node` begins.
 #[inline(always)]
 fn home(homes: usize, node: Children) -> usize
     requires { homes ≤ 2 ^ 32 }
@@ -46,9 +38,7 @@ fn home(homes: usize, node: Children) -> usize
     ((high * homes as u64) >> 32) as usize
 }
 
-/// The number of the node in a slot with the value `slot`: `slot - base`, if this is from 0 to
-/// `count` - 1. Otherwise the slot is free, and the result is None. `count` is the number of nodes
-/// in the level so far, and `base` what is added to a node's number in its slot.
+/// The number of the node in a slot with the value `slot`. None if the slot is free.
 #[inline(always)]
 fn number_in(slot: u32, base: u32, count: usize) -> Option<usize>
     ensures some { IfSome result (HasNumber base count slot) }
@@ -58,12 +48,8 @@ fn number_in(slot: u32, base: u32, count: usize) -> Option<usize>
     if number < count { Some(number) } else { None }
 }
 
-/// Searches `nodes` for `node` by linear probing, from the slot with the index `home` up to the
-/// last slot. The slot of node k has the value `base` + k, and a slot with the value of no node is
-/// free and ends the search. `Ok` has the node's number, its index in `nodes`. `Err`, if it isn't
-/// found, has the index of the free slot that ended the search, or the number of slots if none did.
-/// Requires `home` to be at most the number of slots, and `base` plus the number of nodes to be
-/// below 2^32.
+/// The number of `node`, by linear probing from slot `home` up. The error is the index of the free
+/// slot that ended the search, or the number of slots if none did.
 #[inline(always)]
 fn find(
     slots: &[u32],
@@ -88,8 +74,7 @@ fn find(
     Err(slots.len())
 }
 
-/// Writes the value `slot` to the slot with the index `at`, or appends it if `at` is the number of
-/// slots. Requires `at` to be no larger.
+/// Writes `slot` at index `at`, or appends it if `at` is the number of slots.
 fn set_slot(slots: &mut Vec<u32>, at: usize, slot: u32) -> Result<(), AllocError>
     requires { at ≤ length slots.old.items }
     ensures { OnOk result (IsSet slots.old.items slots.new.items at slot) }
@@ -116,17 +101,15 @@ impl NodeTable {
         }
     }
 
-    /// Takes over the memory of the nodes of two levels that are not needed any more, for the
-    /// levels that are made next. Not to be called between `begin` and `finish`, because it
-    /// replaces the table's nodes.
+    /// Takes over the memory of the nodes of two levels, for levels to come. Not to be called
+    /// between `begin` and `finish`, because it replaces the table's nodes.
     pub fn reuse(&mut self, upper: Level, lower: Level) {
         self.spare = upper.nodes;
         self.nodes = lower.nodes;
     }
 
-    /// An empty list with room for `most` nodes. It takes over the memory of the upper level that
-    /// the last call of `reuse` was given, unless an earlier call took it, and allocates what is
-    /// missing.
+    /// An empty list with room for `most` nodes, in memory that `reuse` took over, as far as it
+    /// goes.
     pub fn spare_list(&mut self, alloc: Global, most: usize) -> Result<Vec<Children>, AllocError>
         ensures { IfOk result (λ v. v.items ≡ []) }
     {
@@ -136,8 +119,8 @@ impl NodeTable {
         Ok(list)
     }
 
-    /// Begins a new level, which may get at most `most` nodes: the table then has no nodes, and all
-    /// its slots are free. Requires `most` to be at most 2^31. After an error no level is begun.
+    /// Begins a level of at most `most` nodes, with all slots free. After an error no level is
+    /// begun.
     pub fn begin(&mut self, most: usize) -> Result<(), AllocError>
         requires { 2 * most ≤ 2 ^ 32 }
         ensures table { OnOk result (IsNodeTable self.new) }
@@ -157,10 +140,8 @@ impl NodeTable {
         Ok(())
     }
 
-    /// Returns the number of `node` in the level that was begun: nodes are numbered from 0, by
-    /// first occurrence. Adds the node to the table if it is new. Requires that `begin` was called,
-    /// and that the level gets no more nodes than its `most`. After an error a level has to be
-    /// begun anew.
+    /// The number of `node` in the level that was begun, where it is added if it is new. After an
+    /// error a level has to be begun anew.
     #[inline(always)]
     pub fn number_of(&mut self, node: Children) -> Result<u32, AllocError>
         requires table { IsNodeTable self.old }
@@ -182,8 +163,7 @@ impl NodeTable {
         Ok(number)
     }
 
-    /// Takes the level that was begun out of the table and returns it: its nodes by number. The
-    /// table then has no nodes, and all its slots are free.
+    /// Takes the level out of the table, whose slots are then free.
     pub fn finish(&mut self, alloc: Global) -> Level
         requires table { IsNodeTable self.old }
         requires room { self.old.base + length self.old.nodes.items < 2 ^ 32 }

@@ -1,5 +1,4 @@
-//! Sifting by the calling thread, or by two threads, of which one moves a variable up and the other
-//! one moves it down.
+//! Sifting by the calling thread, or by two, of which one moves a variable up and the other down.
 
 ghost use Rattle.std.specs.Prelude.{◌≡◌, ◌<◌, ◌≤◌, length, IfOk};
 ghost use Rattle.definitions.specs.Problems.{functions};
@@ -14,13 +13,10 @@ use std::alloc::{AllocError, Global};
 use std::thread;
 use std::thread::Threads;
 
-/// How many nodes a diagram must have at least for two threads to move a variable. With fewer,
-/// moving it takes no longer than starting a thread.
+/// With fewer nodes, moving a variable takes no longer than starting a thread.
 const LEAST_NODES: u32 = 4096;
 
-/// Moves the variable at place `from` down to place `to`, both counted from 0 at the top, and
-/// returns the manager. Requires `to` to be at least `from` and below the number of variables, and
-/// that no pair requires one of the variables that it passes to stay below it.
+/// Moves the variable at place `from` down to place `to`.
 fn lower(alloc: Global, manager: Manager, from: usize, to: usize) -> Result<Manager, AllocError>
     requires within { to < length manager.order }
     requires downward { from ≤ to }
@@ -34,11 +30,8 @@ fn lower(alloc: Global, manager: Manager, from: usize, to: usize) -> Result<Mana
     Ok(manager)
 }
 
-/// Moves the variable at place `from`, counted from 0 at the top, up in one copy of the diagram and
-/// down in another one, each as far as the pairs allow and by a thread of its own. Returns for up
-/// and then for down the manager, the new place, and the best place with its size: of the places
-/// from `from` to the new one, both inclusive, the uppermost at which the diagram has the fewest
-/// nodes. Requires `from` to be below the number of variables.
+/// Moves the variable at place `from` up in one copy of the diagram and down in another one, each
+/// by a thread of its own.
 fn walk_both<R: Threads>(
     rt: &R,
     alloc: Global,
@@ -66,9 +59,7 @@ fn walk_both<R: Threads>(
 
 /// A way to move a variable to its best place. All ways give the same order.
 pub(crate) trait Sifter {
-    /// Moves variable `x` to its best place: of the places that keep the pairs, the uppermost at
-    /// which the diagram has the fewest nodes. Returns the manager. Requires `x` to be one of its
-    /// variables.
+    /// Moves variable `x` to its best place.
     fn put_best(&self, alloc: Global, manager: Manager, x: VarIx) -> Result<Manager, AllocError>
         requires { x < length manager.order }
         ensures order { IfOk result
@@ -87,26 +78,17 @@ pub(crate) struct SerialSifter;
 /// `LEAST_NODES` nodes, and else by the calling thread.
 #[derive(Drop)]
 pub(crate) struct ThreadedSifter<'r, R> {
-    /// The runtime that starts the threads.
     pub(crate) rt: &'r R,
-    /// How many workers there are.
     pub(crate) workers: Workers,
 }
 
 impl Sifter for SerialSifter {
-    /// Moves variable `x`, by the calling thread, to its best place: of the places that keep the
-    /// pairs, the uppermost at which the diagram has the fewest nodes. Returns the manager.
-    /// Requires `x` to be one of its variables.
     fn put_best(&self, alloc: Global, manager: Manager, x: VarIx) -> Result<Manager, AllocError> {
         manager.put_best(alloc, x)
     }
 }
 
 impl<'r, R: Threads> Sifter for ThreadedSifter<'r, R> {
-    /// Moves variable `x` to its best place: of the places that keep the pairs, the uppermost at
-    /// which the diagram has the fewest nodes. Returns the manager. Requires `x` to be one of its
-    /// variables. Two threads move it, one up and one down, if there are two workers or more and
-    /// the diagram has at least 4,096 nodes, else the calling thread.
     fn put_best(&self, alloc: Global, manager: Manager, x: VarIx) -> Result<Manager, AllocError> {
         if self.workers.count() == 1 || manager.size() < LEAST_NODES {
             return manager.put_best(alloc, x);
@@ -123,10 +105,7 @@ impl<'r, R: Threads> Sifter for ThreadedSifter<'r, R> {
 }
 
 impl Manager {
-    /// One pass of sifting: `sifter` moves each variable once to its best place. This is, of the
-    /// places that keep the pairs, the uppermost at which the diagram has the fewest nodes. The
-    /// variables are taken by falling level count in the order at the start, and those of equal
-    /// counts by rising number.
+    /// One pass of sifting, as by `sift`, in which `sifter` moves the variables.
     pub(crate) fn sift_by<S: Sifter>(self, sifter: &S, alloc: Global) -> Result<Sifted, AllocError>
         ensures order { IfOk result (λ s. s.order ≡ sifted_order self) }
         ensures functions { IfOk result (λ s. s.problem ≡ self.problem) }
@@ -141,10 +120,8 @@ impl Manager {
         Ok(Sifted::of(manager))
     }
 
-    /// One pass of sifting, with the same result for any number of workers: moves each variable
-    /// once to the uppermost place, of those that keep the pairs, at which the diagram has the
-    /// fewest nodes. With two workers or more, two threads move a variable if the diagram then has
-    /// at least 4,096 nodes; else the calling thread does.
+    /// One pass of sifting, with the same result for any number of workers. With two or more, two
+    /// threads move a variable while the diagram has at least 4,096 nodes.
     pub fn sift_by_threads<R: Threads>(
         self,
         rt: &R,

@@ -8,8 +8,8 @@ ghost use Rattle.definitions.specs.Orders.{has, without};
 ghost use Rattle.definitions.specs.Widths.{width};
 ghost use Rattle.subfunction_classes.specs.Dependence.{AreMasks};
 
-/// Law: the width of a member x of a set S over S without x is the number of classes over S that
-/// depend on x. So one class table gives the widths of all members.
+/// Law: the width of a member x over the others is the number of classes over the set that depend
+/// on x. So one class table gives the widths of all members.
 pub fn one_numbering_gives_all_widths()
     ensures { (n : ℕ) (F : List Function) (S masks : List ℕ) (x : ℕ) → x < n → IsTrue (has S x) →
         AreMasks n F S masks →

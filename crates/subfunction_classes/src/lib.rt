@@ -1,7 +1,5 @@
 //! Class numbers of subfunctions, and the variables that classes depend on: definitions, and laws
-//! for the crates that number classes, each in its own way. The code makes the class table of the
-//! empty set, in which each subfunction is the value at a point, masks of classes, and the rank of
-//! a variable outside a set.
+//! for the crates that number classes, each in its own way.
 #![tactic(auto)]
 
 pub mod laws;

@@ -1,5 +1,4 @@
-//! The masks of classes: the mask of a class is the set of the variables that its subfunctions
-//! depend on.
+//! The masks of classes: the variables that a class's subfunctions depend on.
 
 ghost use Rattle.std.specs.Prelude.{◌≡◌, ◌^◌, ◌<◌, ◌≤◌, ◌==◌, length};
 ghost use Rattle.std.specs.Int.{bit_at};
@@ -8,9 +7,7 @@ ghost use Rattle.subfunction_classes.specs.Dependence.{joined_mask};
 
 use definitions::{Mask, VarIx, contains};
 
-/// The set of the variables on which a function depends whose cofactors are class `pair.0` by x = 0
-/// and class `pair.1` by x = 1: the union of the two classes' masks, with x added if the classes
-/// differ. `masks[c]` has the variables on which class c depends.
+/// The mask of a function whose cofactors are class `pair.0` by x = 0 and `pair.1` by x = 1.
 #[inline(always)]
 pub fn join_mask(masks: &[Mask], x: VarIx, pair: (u32, u32)) -> Mask
     requires variable { x < 16 }
@@ -27,7 +24,7 @@ pub fn join_mask(masks: &[Mask], x: VarIx, pair: (u32, u32)) -> Mask
     }
 }
 
-/// How many of `masks`, at most 2^20, contain variable x.
+/// How many of `masks` contain variable x.
 pub fn count_with(masks: &[Mask], x: VarIx) -> u32
     requires variable { x < 16 }
     requires few { length masks.now ≤ 2 ^ 20 }

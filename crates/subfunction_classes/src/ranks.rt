@@ -1,5 +1,3 @@
-//! Where a variable stands among those outside a set.
-
 ghost use Rattle.std.specs.Prelude.{◌≡◌, ◌<◌};
 ghost use Rattle.subfunction_classes.specs.Table.{free_below};
 

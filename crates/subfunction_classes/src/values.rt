@@ -9,17 +9,15 @@ use definitions::packed::bit_of;
 use definitions::{Mask, Problem};
 use std::alloc::{AllocError, Global};
 
-/// The class number of a value in the class table of the empty set: 0 if it equals `first`, the
-/// value of function 0 at point 0, else 1.
+/// The class number of a value: 0 if it equals `first`, the value of function 0 at point 0.
 pub fn number_of_value(value: bool, first: bool) -> u32
     ensures { result ≡ number first value }
 {
     if value == first { 0 } else { 1 }
 }
 
-/// Appends to `numbers` the class numbers of a function's values, by rising point: 0 for the value
-/// `first`, and 1 for the other value. `words` is the packed truth table of the function, which has
-/// `inputs` variables, at most 16. If memory is refused, some of the numbers may be missing.
+/// Appends the class numbers of a function's values, by rising point. If memory is refused, some
+/// may be missing.
 fn push_values(
     numbers: &mut Vec<u32>,
     words: &[u64],
@@ -38,9 +36,8 @@ fn push_values(
     Ok(())
 }
 
-/// The class table of the empty set: the class numbers of all values of a problem, function by
-/// function and by rising point. The value of function 0 at point 0 has the number 0, and the other
-/// value has 1.
+/// The class table of the empty set: the class numbers of all values, function by function and by
+/// rising point.
 pub fn value_numbers(alloc: Global, problem: &Problem) -> Result<Vec<u32>, AllocError>
     ensures numbers { IfOk result
         (λ v. v.items ≡ map (number (value_at problem.now 0 0)) (values_of problem.now)) }
@@ -58,15 +55,13 @@ pub fn value_numbers(alloc: Global, problem: &Problem) -> Result<Vec<u32>, Alloc
     Ok(numbers)
 }
 
-/// Whether the class number 1 occurs in `numbers`, the class table of the empty set.
 fn has_both(numbers: &[u32]) -> bool
     ensures { result ≡ list_any (λ k. nat_eq k 1) numbers.now }
 {
     numbers.iter().any(|number| *number == 1)
 }
 
-/// The masks of the classes in `numbers`, the class table of the empty set: an empty mask for each
-/// of the one or two classes, because a value depends on no variable.
+/// The masks of the classes in `numbers`: all empty, because a value depends on no variable.
 pub fn no_dependence(alloc: Global, numbers: &[u32]) -> Result<Vec<Mask>, AllocError>
     ensures long { IfOk result (λ v. length v.items ≡ class_count numbers.now) }
     ensures zeros { IfOk result (λ v. (c : ℕ) → slice_index v.items c ≡ 0) }
