@@ -10,7 +10,6 @@ use std::alloc::Global;
 use std::process::Abort;
 use truth_table::Tables;
 
-/// A function with the variables outside a set fixed as at a point.
 fn fixed_outside(function: u64, set: Mask, point: u32) -> u64 {
     let set = u32::from(set);
     let mut fixed = 0;
@@ -23,7 +22,6 @@ fn fixed_outside(function: u64, set: Mask, point: u32) -> u64 {
     fixed
 }
 
-/// Whether a function depends on a variable.
 fn depends(function: u64, x: VarIx) -> bool
     requires { x < 6 }
 {
@@ -65,7 +63,6 @@ pub(crate) struct Plain {
     edges: Vec<Edge>,
 }
 
-/// The functions of at most six variables, each in a word that repeats its values.
 fn functions_of(rt: &impl Abort, alloc: Global, tables: &Tables, all: Mask) -> Vec<u64> {
     let problem = tables.problem();
     let mut functions = Vec::new(alloc);
@@ -78,7 +75,6 @@ fn functions_of(rt: &impl Abort, alloc: Global, tables: &Tables, all: Mask) -> V
     functions
 }
 
-/// Whether some function depends on a variable.
 fn some_depends(functions: &[u64], x: VarIx) -> bool
     requires { x < 6 }
 {
@@ -90,7 +86,6 @@ fn some_depends(functions: &[u64], x: VarIx) -> bool
     false
 }
 
-/// The variables on which some function depends.
 fn essential_of(functions: &[u64]) -> Mask {
     let mut essential = 0;
     for x in 0..6u8 {
@@ -161,7 +156,6 @@ impl Plain {
         u64::from(self.value(cert, above)) > reached
     }
 
-    /// The verdict on a certificate of which only the listed sets are to be judged.
     pub(crate) fn verdict(&self, cert: &Certificate) -> Verdict {
         if self.value(cert, 0) != 0 {
             return Verdict::Invalid(Reason::Start);

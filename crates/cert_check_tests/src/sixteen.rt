@@ -12,7 +12,6 @@ use truth_table::Tables;
 
 static SIXTEEN_ONES: &[u8] = b".i 16\n.o 1\n1111111111111111 1\n.e\n";
 
-/// The truth tables of a cover's text.
 pub(crate) fn tables_of<R: Abort + Threads + Sync>(rt: &R, alloc: Global, text: &[u8]) -> Tables {
     let cover = read_cover(alloc, &mut Counting::new(text)).expect(rt, "a cover");
     Tables::of_cover(rt, alloc, &cover).expect(rt, "memory")
@@ -27,7 +26,6 @@ struct Costs {
     more: u32,
 }
 
-/// The cost of a set.
 fn cost_of(costs: &Costs, mask: Mask) -> u32 {
     if mask == 0 {
         costs.start
@@ -64,7 +62,6 @@ fn certificate_of(rt: &impl Abort, alloc: Global, costs: &Costs) -> Certificate 
     .expect(rt, "a spelling")
 }
 
-/// The verdict on the certificate with these costs.
 fn verdict_on<R: Abort + Threads + Sync>(
     rt: &R,
     alloc: Global,

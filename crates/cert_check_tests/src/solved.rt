@@ -48,7 +48,6 @@ fn random_values(inputs: u8, outputs: u8, seed: u64, point: u32) -> u32
     values
 }
 
-/// Writes some bits, the lowest first.
 fn push_bits(rt: &impl Abort, text: &mut String, bits: u32, count: u8) {
     for place in 0..count.min(16) {
         text.push(if (bits >> place) & 1 == 1 { '1' } else { '0' })
@@ -56,7 +55,6 @@ fn push_bits(rt: &impl Abort, text: &mut String, bits: u32, count: u8) {
     }
 }
 
-/// The text of a cover of random functions.
 fn random_text(rt: &impl Abort, alloc: Global, inputs: u8, outputs: u8, seed: u64) -> String
     requires { inputs ≤ 16 }
 {
@@ -79,7 +77,6 @@ fn kept(inputs: u8, seed: u64) -> &'static [(VarIx, VarIx)] {
     &[(0, 1)]
 }
 
-/// The order sifted from the first one that keeps the pairs.
 fn sifted_of(rt: &impl Abort, alloc: Global, tables: &Tables, pairs: Pairs) -> Sifted
     requires { pairs.inputs ≡ tables.now.inputs }
     ensures { result.problem ≡ tables.now }
@@ -122,7 +119,6 @@ struct Solved {
     solution: Solution,
 }
 
-/// What the solver finds of random functions.
 fn solve_random<R: Abort + Threads + Sync>(rt: &R, alloc: Global, inputs: u8, seed: u64) -> Solved
     requires { inputs ≤ 16 }
 {
@@ -184,7 +180,6 @@ fn changed(
     .expect(rt, "a spelling")
 }
 
-/// Whether the solver's certificate is valid.
 fn is_valid<R: Abort + Threads + Sync>(rt: &R, alloc: Global, solved: &Solved) -> bool {
     let cert = changed(rt, alloc, solved, &[], 0, 2);
     check(rt, alloc, &solved.tables, &cert).expect(rt, "memory") == Verdict::Valid
@@ -219,8 +214,8 @@ fn place_of_exchanged(cells: &[ListedCell], inputs: u8, place: usize) -> usize
     place
 }
 
-/// Whether the solver's certificate with the cost at some places changed has its plain verdict, by
-/// the calling thread and by several.
+/// Whether the certificate with the cost at some places changed has its plain verdict, by the
+/// calling thread and by several.
 fn is_judged<R: Abort + Threads + Sync>(
     rt: &R,
     alloc: Global,

@@ -1,4 +1,4 @@
-//! The bounds of what a certificate states, within which it can be written as text.
+//! The bounds within which a certificate can be written as text.
 
 ghost use Rattle.std.specs.Prelude.{◌≡◌, ◌≤◌, ◌^◌, ◌-◌, ◌↔◌, ℕ, None, IsTrue, IsFalse, length};
 ghost use Rattle.std.specs.List.{All};
@@ -11,11 +11,10 @@ use order_model::{ListedCell, VarIx};
 /// The largest cost, level count and total.
 pub(crate) const MOST_NODES: u32 = 999_999;
 
-/// The largest number of pairs: 16 * 15, as many as there are pairs of different variables.
+/// As many as there are pairs of different variables: 16 * 15.
 pub(crate) const MOST_PAIRS: usize = 240;
 
-/// How many proper subsets n variables have: 2^n - 1. This is also the mask of all n variables, and
-/// the masks of the proper subsets are those below it. Requires `n` to be at most 16.
+/// How many proper subsets n variables have, which is also the mask of all n variables.
 pub(crate) fn sets_below_all(n: u8) -> u32
     requires { n ≤ 16 }
     ensures { result ≡ 2 ^ n - 1 }
@@ -23,8 +22,7 @@ pub(crate) fn sets_below_all(n: u8) -> u32
     (1 << n) - 1
 }
 
-/// Whether `key` is larger than `last`, the key of the pair or listed set before; true if there is
-/// none. The key of a pair (a, b) is 16 a + b, and that of a listed set its mask.
+/// Whether `key` is above `last`, the key of the pair or listed set before it, if there is one.
 pub(crate) fn is_above(last: Option<u32>, key: u32) -> bool
     ensures { result ≡ above last key }
 {
@@ -34,16 +32,14 @@ pub(crate) fn is_above(last: Option<u32>, key: u32) -> bool
     }
 }
 
-/// The key of the pair (a, b), by which pairs are sorted: 16 a + b. Keys of pairs of variables
-/// below 16 rise by a and then by b.
+/// The key of the pair (a, b), by which pairs are sorted.
 pub(crate) fn key_of_pair(a: VarIx, b: VarIx) -> u32
     ensures { result ≡ pair_key (a, b) }
 {
     u32::from(a) * 16 + u32::from(b)
 }
 
-/// Whether all pairs (a, b) are of variables below `n`, and each pair is larger than the one
-/// before, compared by a and then by b.
+/// Whether all pairs are of variables below `n`, and rise by their keys.
 fn pairs_rise(n: u8, pairs: &[(VarIx, VarIx)]) -> bool
     ensures { result ≡ fit (is_pair_of n) pair_key None pairs.now }
 {
@@ -60,8 +56,7 @@ fn pairs_rise(n: u8, pairs: &[(VarIx, VarIx)]) -> bool
     true
 }
 
-/// Whether all listed sets are proper subsets of `n` variables with costs of at most `MOST_NODES`,
-/// and each mask is larger than the one before. Requires `n` to be at most 16.
+/// Whether the listed sets are proper subsets of `n` variables, and rise by their masks.
 fn cells_rise(n: u8, cells: &[ListedCell]) -> bool
     requires { n ≤ 16 }
     ensures { result ≡ fit (is_cell_of n) mask_in None cells.now }
@@ -79,22 +74,19 @@ fn cells_rise(n: u8, cells: &[ListedCell]) -> bool
     true
 }
 
-/// Whether a number of inputs or outputs is from 1 to 16.
 fn count_fits(count: u8) -> bool
     ensures { IsTrue result ↔ ((1 ≤ count) × (count ≤ 16)) }
 {
     1 <= count && count <= 16
 }
 
-/// Whether `order` has n entries, each from 0 to 15. It need not be an order: an entry may repeat,
-/// or be n or more.
+/// Whether `order` has n entries from 0 to 15. It need not be an order: an entry may repeat.
 fn order_fits(n: u8, order: &[VarIx]) -> bool
     ensures { IsTrue result ↔ ((length order.now ≡ n) × All (λ x. x ≤ 15) order.now) }
 {
     order.len() == n as usize && order.iter().all(|x| *x <= 15)
 }
 
-/// Whether there are n level counts, each of at most `MOST_NODES`.
 fn levels_fit(n: u8, levels: &[u32]) -> bool
     ensures { IsTrue result ↔
         ((length levels.now ≡ n) × All (λ count. count ≤ most_nodes) levels.now) }
@@ -102,8 +94,6 @@ fn levels_fit(n: u8, levels: &[u32]) -> bool
     levels.len() == n as usize && levels.iter().all(|count| *count <= MOST_NODES)
 }
 
-/// Whether a certificate of n inputs may have these pairs: at most `MOST_PAIRS`, of variables below
-/// n, rising by first and then second variable.
 fn pairs_fit(n: u8, pairs: &[(VarIx, VarIx)]) -> bool
     ensures { IsTrue result ↔
         ((length pairs.now ≤ most_pairs) × IsTrue (fit (is_pair_of n) pair_key None pairs.now)) }
@@ -111,8 +101,6 @@ fn pairs_fit(n: u8, pairs: &[(VarIx, VarIx)]) -> bool
     pairs.len() <= MOST_PAIRS && pairs_rise(n, pairs)
 }
 
-/// Whether a certificate of `n` inputs may list these sets: proper subsets of the inputs with costs
-/// of at most `MOST_NODES`, by rising mask. Requires `n` to be at most 16.
 fn cells_fit(n: u8, cells: &[ListedCell]) -> bool
     requires { n ≤ 16 }
     ensures { IsTrue result ↔
@@ -121,10 +109,7 @@ fn cells_fit(n: u8, cells: &[ListedCell]) -> bool
     cells.len() <= sets_below_all(n) as usize && cells_rise(n, cells)
 }
 
-/// Whether a certificate with these parts can be written as text. There must be 1 to 16 inputs and
-/// outputs; for each input an entry of at most 15 in the order and a level count; at most
-/// `MOST_PAIRS` pairs of inputs, by rising first and then second variable; and listed sets that are
-/// proper subsets of the inputs, by rising mask. No count, cost or total may exceed `MOST_NODES`.
+/// Whether a certificate with these parts can be written as text.
 pub(crate) fn have_spelling(parts: &CertificateParts) -> bool
     ensures spelled { IsTrue result → HasSpelling (contents parts.now) }
     ensures unspelled { IsFalse result → HasSpelling (contents parts.now) → ⊥ }

@@ -1,5 +1,3 @@
-//! Certificates that no order has fewer nodes.
-
 ghost use Rattle.std.specs.Prelude.{◌≡◌, [], map, IfSome, IfNone};
 ghost use Rattle.definitions.specs.Listed.{listed};
 ghost use Rattle.certificate.specs.Spelling.{HasSpelling};
@@ -12,25 +10,22 @@ use std::marker::Model;
 /// The parts of a certificate, which may be out of the bounds of its text.
 #[derive(Debug, Drop)]
 pub struct CertificateParts {
-    /// The number of inputs.
     pub inputs: u8,
-    /// The number of outputs.
     pub outputs: u8,
-    /// The order, top first. It need not be one: the checker tests this.
+    /// Top first. It need not be an order: the checker tests this.
     pub order: Vec<VarIx>,
-    /// The level counts that the certificate states for the order, top first.
+    /// Top first.
     pub levels: Vec<u32>,
-    /// The number of nodes that the certificate states for the order.
+    /// The number of nodes that the certificate states.
     pub total: u32,
-    /// The pairs (a, b) of variables, of which a has to stand above b. `None` in format 1; in
-    /// format 2 there is a list, which may be empty.
+    /// The pairs (a, b), of which a has to stand above b. `None` in format 1.
     pub pairs: Option<Vec<(VarIx, VarIx)>>,
     /// The listed sets with their costs.
     pub cells: Vec<ListedCell>,
 }
 
 impl CertificateParts {
-    /// The pairs (a, b) of variables, of which a has to stand above b. Empty in format 1.
+    /// The pairs, none in format 1.
     pub(crate) fn kept_pairs(&self) -> &[(VarIx, VarIx)]
         ensures { result.now ≡ pairs_in self.now.pairs }
     {
@@ -41,9 +36,9 @@ impl CertificateParts {
     }
 }
 
-/// A certificate: an order with its level counts and their total, and the least costs of sets of
-/// variables. From these a checker concludes that no order that keeps the pairs has fewer nodes. A
-/// certificate may be wrong, but its numbers are within the bounds of its text.
+/// An order with its level counts, and the least costs of sets, from which a checker concludes that
+/// no order that keeps the pairs has fewer nodes. It may be wrong, but within the bounds of its
+/// text.
 #[derive(Debug, Drop)]
 pub struct Certificate {
     parts: CertificateParts,
@@ -62,10 +57,7 @@ impl Model for Certificate {
 }
 
 impl Certificate {
-    /// The certificate with these parts. `None` unless there are 1 to 16 inputs and outputs; for
-    /// each input an entry of at most 15 in the order and a level count; at most 240 pairs of
-    /// inputs, by rising first and then second variable; and listed sets that are proper subsets of
-    /// the inputs, by rising mask. Level counts, total and costs may be at most 999,999.
+    /// The certificate with these parts. `None` if they can't be written as text.
     pub fn from_parts(parts: CertificateParts) -> Option<Certificate>
         ensures some { IfSome result (λ c. c ≡ contents parts) }
         ensures none { IfNone result (HasSpelling (contents parts) → ⊥) }
@@ -76,11 +68,8 @@ impl Certificate {
         Some(Certificate { parts })
     }
 
-    /// The certificate in format 1, without pairs, with these parts; `order` and `levels`, the
-    /// level counts, are top first. `None` unless there are 1 to 16 inputs and outputs; for each
-    /// input an entry of at most 15 in `order` and a level count; and in `cells` listed sets that
-    /// are proper subsets of the inputs, by rising mask. Level counts, total and costs may be at
-    /// most 999,999.
+    /// The certificate in format 1 with these parts; `order` and `levels` are top first. `None` if
+    /// they can't be written as text.
     pub fn new(
         inputs: u8,
         outputs: u8,
@@ -106,11 +95,7 @@ impl Certificate {
         })
     }
 
-    /// The certificate in format 2 with these parts; `order` and `levels`, the level counts, are
-    /// top first. `None` unless there are 1 to 16 inputs and outputs; for each input an entry of at
-    /// most 15 in `order` and a level count; at most 240 pairs (a, b) of inputs, a to stand above
-    /// b, by rising a and b; and in `cells` listed sets that are proper subsets of the inputs, by
-    /// rising mask. Level counts, total and costs may be at most 999,999.
+    /// The certificate in format 2 with these parts. `None` if they can't be written as text.
     pub fn new2(
         inputs: u8,
         outputs: u8,
@@ -163,8 +148,8 @@ impl Certificate {
         self.parts.outputs
     }
 
-    /// The order, top first: as many variables from 0 to 15 as there are inputs. It need not be an
-    /// order: the checker tests whether it has each variable once.
+    /// The order, top first. It need not be one: the checker tests whether it has each variable
+    /// once.
     pub fn order(&self) -> &[VarIx]
         ensures { result.now ≡ self.now.order }
     {
@@ -185,8 +170,7 @@ impl Certificate {
         self.parts.total
     }
 
-    /// The pairs (a, b) of variables, of which a has to stand above b, by rising a and then rising
-    /// b. Format 1 has none.
+    /// The pairs (a, b), of which a has to stand above b, by rising a and b. Format 1 has none.
     pub fn pairs(&self) -> &[(VarIx, VarIx)]
         ensures pairs { result.now ≡ self.now.pairs }
         ensures spelled { HasSpelling self.now }

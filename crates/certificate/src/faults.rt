@@ -1,5 +1,3 @@
-//! Why a text is no certificate.
-
 use std::alloc::AllocError;
 use thiserror::Error;
 
@@ -12,11 +10,10 @@ pub enum LineFault {
     /// A fixed word of the line is wrong, or the line has more or fewer words than it should.
     #[error("BadLine")]
     BadLine,
-    /// A number or mask isn't written as the format has it, or is out of its bounds.
+    /// A number isn't written as the format has it, or is out of its bounds.
     #[error("BadNumber")]
     BadNumber,
-    /// A pair, or the mask of a listed set, isn't larger than the one on the line before. Pairs are
-    /// compared by first and then second variable.
+    /// A pair, or the mask of a listed set, isn't larger than the one on the line before.
     #[error("NotRising")]
     NotRising,
     /// Text follows the last line, `end`. The faulty line is the one after `end`.
@@ -27,10 +24,10 @@ pub enum LineFault {
 /// Why a text is not read as a certificate.
 #[derive(Clone, Copy, Debug, PartialEq, Eq, Error)]
 pub enum CertFault {
-    /// The number of the first faulty line, counted from 1, and its fault.
+    /// The first faulty line, counted from 1, and its fault.
     #[error("line {0}: {1}")]
     Line(usize, LineFault),
-    /// The text has more than 1,048,576 bytes.
+    /// The text has more than `MOST_BYTES` bytes.
     #[error("TooLong")]
     TooLong,
     /// An allocation was refused.
@@ -44,7 +41,6 @@ impl From<AllocError> for CertFault {
 
     ghost from_gives = { λ _ e. e ≡ OutOfMemory };
 
-    /// The fault `OutOfMemory`.
     fn from(_: AllocError) -> CertFault {
         CertFault::OutOfMemory
     }

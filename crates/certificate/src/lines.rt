@@ -14,8 +14,7 @@ use crate::faults::LineFault;
 use crate::words::{cut, mask, number};
 use order_model::{ListedCell, VarIx};
 
-/// The parts of `line` before and after its only space; each may be empty. None if the line has no
-/// space, or more than one.
+/// The parts of `line` before and after its only space; each may be empty.
 fn two_words(line: &[u8]) -> Option<(&[u8], &[u8])>
     ensures some { IfSome result (λ ws. words line.now ≡ ws.0.now ∷ ws.1.now ∷ []) }
     ensures none { IfNone result ((a b : _) → words line.now ≡ a ∷ b ∷ [] → ⊥) }
@@ -29,10 +28,7 @@ fn two_words(line: &[u8]) -> Option<(&[u8], &[u8])>
     }
 }
 
-/// Reads the number from a line of two words: `name`, and a number from `least` to `most`. The
-/// error is `BadLine` if there are more or fewer words or the first isn't `name`, else `BadNumber`
-/// if the second is no such number in decimal, without leading zeros. Requires `most` to be at most
-/// `MOST_NODES`.
+/// The number after `name` on a line of two words. The error is `BadLine` or `BadNumber`.
 pub(crate) fn number_line(line: &[u8], name: &[u8], least: u32, most: u32) -> Result<u32, LineFault>
     requires { most ≤ most_nodes }
     ensures { Says (field_fault name.now 1 least most) line.now
@@ -50,10 +46,8 @@ pub(crate) fn number_line(line: &[u8], name: &[u8], least: u32, most: u32) -> Re
     }
 }
 
-/// Reads the pair (a, b) of variables below `n` from a line of two numbers. `last` is 16 a + b of
-/// the pair on the line before, if there is one. The error is `BadLine` if the line hasn't two
-/// words, else `BadNumber` if one of them is no variable below `n`, else `NotRising` if 16 a + b
-/// isn't above `last`. Requires `n` to be from 1 to 16.
+/// The pair of variables below `n` on a line of two numbers, above the key `last`. The error is
+/// `BadLine`, `BadNumber` or `NotRising`.
 pub(crate) fn pair_line(line: &[u8], n: u8, last: Option<u32>) -> Result<(VarIx, VarIx), LineFault>
     requires some { 1 ≤ n }
     requires few { n ≤ 16 }
@@ -79,10 +73,8 @@ pub(crate) fn pair_line(line: &[u8], n: u8, last: Option<u32>) -> Result<(VarIx,
     Ok(pair)
 }
 
-/// Reads a listed set, a proper subset of `n` variables, from a line of its mask and its cost.
-/// `last` is the mask on the line before, if there is one. The error is `BadLine` if the line
-/// hasn't two words, else `BadNumber` if the first is no such mask or the second no cost of at most
-/// `MOST_NODES`, else `NotRising` if the mask isn't above `last`. Requires `n` to be at most 16.
+/// The listed set on a line of its mask and its cost, above the mask `last`. The error is
+/// `BadLine`, `BadNumber` or `NotRising`.
 pub(crate) fn cell_line(line: &[u8], n: u8, last: Option<u32>) -> Result<ListedCell, LineFault>
     requires { n ≤ 16 }
     ensures { Says (entry_fault (is_cell n) (λ a b. above last (cell_key_of a b))) line.now
@@ -107,8 +99,7 @@ pub(crate) fn cell_line(line: &[u8], n: u8, last: Option<u32>) -> Result<ListedC
     Ok(ListedCell { mask, cost })
 }
 
-/// Reads the format, 1 or 2, from the first line of a certificate, `bddorder-certificate` and the
-/// format. The error for any other line is `BadLine`.
+/// The format on the first line, `bddorder-certificate` and the format, or `BadLine`.
 pub(crate) fn title_line(line: &[u8]) -> Result<u8, LineFault>
     ensures { Says title_fault line.now
         (λ format. format ≡ number_of (get_or (words line.now) 1 [])) result }
@@ -122,8 +113,7 @@ pub(crate) fn title_line(line: &[u8]) -> Result<u8, LineFault>
     }
 }
 
-/// Accepts the last line of a certificate, which is `end`. The error for any other line is
-/// `BadLine`.
+/// Accepts the line `end`, or returns `BadLine`.
 pub(crate) fn end_line(line: &[u8]) -> Result<(), LineFault>
     ensures { Says (fixed_fault (codes "end" ∷ [])) line.now (λ _. Unit {0}) result }
 {
@@ -134,7 +124,6 @@ pub(crate) fn end_line(line: &[u8]) -> Result<(), LineFault>
     }
 }
 
-/// How many words a text has: one more than it has spaces.
 fn count_words(text: &[u8]) -> usize
     ensures { result ≡ length (words text.now) }
 {
@@ -147,8 +136,7 @@ fn count_words(text: &[u8]) -> usize
     count
 }
 
-/// The rest of `line` behind its first word and the space after it, if this word is `name` and
-/// `count` words follow. None for any other line. Requires `count` to be at least 1.
+/// The rest of `line` behind the word `name` if `count` words follow it.
 pub(crate) fn behind_name<'a>(line: &'a [u8], name: &[u8], count: usize) -> Option<&'a [u8]>
     requires { 1 ≤ count }
     ensures some { IfSome result

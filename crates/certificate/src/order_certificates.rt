@@ -1,5 +1,3 @@
-//! The certificate that an order has the fewest nodes.
-
 ghost use Rattle.std.specs.Prelude.{◌≡◌, IfOk, map, string_bytes};
 ghost use Rattle.certificate.specs.Faults.{Spells};
 ghost use Rattle.definitions.specs.Certificates.{certificate_of};
@@ -12,11 +10,9 @@ use crate::laws::orders_have_certificates;
 use order_model::{ListedCell, Pairs, Problem, SizedOrder};
 use std::alloc::{AllocError, Global};
 
-/// The text, in format 2, of the certificate that the order in `found` has the fewest nodes among
-/// those that keep `pairs`; whether it has isn't tested. Requires that `pairs` are of the problem's
-/// variables, and that `found` has its order's level counts and size. `cells` must have the sets to
-/// list, by rising mask, with their least costs: all lawful proper subsets of which the least cost
-/// plus the number of essential variables outside is below the size in `found`.
+/// The text, in format 2, of the certificate that the order in `found` has the fewest nodes, which
+/// isn't tested. `cells` must have the sets to list: all lawful proper subsets of which the least
+/// cost plus the number of essential variables outside is below the size in `found`.
 pub fn certificate_text(
     alloc: Global,
     problem: &Problem,

@@ -1,5 +1,3 @@
-//! Certificates from their texts.
-
 ghost use Rattle.std.specs.Prelude.{◌≡◌, ◌+◌, ◌^◌, ◌<◌, ◌≤◌, ◌⊎◌, IfOk, IfErr, IfSome, IfNone, length};
 ghost use Rattle.std.specs.List.{All};
 ghost use Rattle.certificate.specs.declared.faults.CertFault.TheVariants.{OutOfMemory};
@@ -17,8 +15,6 @@ use std::alloc::Global;
 /// The most bytes of a text that is read as a certificate.
 pub const MOST_BYTES: usize = 1_048_576;
 
-/// The variables with the given numbers. Requires each number to be at most 15. The only error is
-/// `OutOfMemory`.
 fn variables(alloc: Global, numbers: &[u32]) -> Result<Vec<VarIx>, CertFault>
     requires { All (λ k. k ≤ 15) numbers.now }
     ensures same { IfOk result (λ v. v.items ≡ numbers.now) }
@@ -31,7 +27,6 @@ fn variables(alloc: Global, numbers: &[u32]) -> Result<Vec<VarIx>, CertFault>
     Ok(variables)
 }
 
-/// What the first six lines of a certificate state.
 #[derive(Drop)]
 pub(crate) struct Head {
     format: u8,
@@ -42,9 +37,7 @@ pub(crate) struct Head {
     total: u32,
 }
 
-/// Takes the first six lines of a text off `lines`. Returns what they state: the format, the
-/// numbers of inputs and outputs, the order, the level counts and the total. The error is the first
-/// fault, with the number of its line, or `OutOfMemory`.
+/// Takes the first six lines off `lines`. The error is the first fault, or `OutOfMemory`.
 fn read_head(alloc: Global, lines: &mut Lines<'_>) -> Result<Head, CertFault>
     requires { FitsCount lines.old }
     ensures head { TakesHead lines.old.number lines.old.rest.now lines.new.number lines.new.rest.now
@@ -68,10 +61,7 @@ fn read_head(alloc: Global, lines: &mut Lines<'_>) -> Result<Head, CertFault>
     })
 }
 
-/// Takes the line with the number of listed sets, a line for each, and the last line off `lines`.
-/// Returns the listed sets, proper subsets of `n` variables by rising mask, with their costs. The
-/// error is the first fault, with the number of its line, or `OutOfMemory`. Requires `n` to be at
-/// most 16.
+/// Takes the lines of the listed sets, and the last line, off `lines`.
 fn read_sets(alloc: Global, lines: &mut Lines<'_>, n: u8) -> Result<Vec<ListedCell>, CertFault>
     requires small { FitsCount lines.old }
     requires few { n ≤ 16 }
@@ -82,10 +72,8 @@ fn read_sets(alloc: Global, lines: &mut Lines<'_>, n: u8) -> Result<Vec<ListedCe
     Ok(cells)
 }
 
-/// Takes all lines after the first six off `lines`. Returns the pairs of variables below `n`, which
-/// are `None` in format 1, and the listed sets with their costs. The error is the first fault, with
-/// the number of its line, or `OutOfMemory`. Requires `format` to be 1 or 2, and `n` to be from 1
-/// to 16.
+/// Takes all lines after the first six off `lines`: the pairs, if the format has them, and the
+/// sets.
 fn read_body(
     alloc: Global,
     lines: &mut Lines<'_>,
@@ -108,9 +96,8 @@ fn read_body(
 }
 
 impl Certificate {
-    /// Reads the certificate, in either format, whose text is `text`. The error is the first fault,
-    /// with the number of its line, or `TooLong` for more than 1,048,576 bytes, or `OutOfMemory`.
-    /// Time and memory are linear in the length of the text.
+    /// The certificate, in either format, whose text is `text`. Time and memory are linear in its
+    /// length.
     pub fn parse(alloc: Global, text: &[u8]) -> Result<Certificate, CertFault>
         ensures spelled { IfOk result (λ cert. text.now ≡ spelling cert) }
         ensures short { IfOk result (λ _. length text.now ≤ most_bytes) }

@@ -21,7 +21,6 @@ use crate::words::{cut, number};
 use order_model::{ListedCell, VarIx};
 use std::alloc::Global;
 
-/// Appends `item` to `items`. The only error is `OutOfMemory`, and `items` then stays as it was.
 pub(crate) fn add<T: Drop>(items: &mut Vec<T>, item: T) -> Result<(), CertFault>
     ensures added { OnOk result (items.new.items ≡ items.old.items ++ item ∷ []) }
     ensures memory { IfErr result (λ fault. fault ≡ OutOfMemory) }
@@ -32,9 +31,8 @@ pub(crate) fn add<T: Drop>(items: &mut Vec<T>, item: T) -> Result<(), CertFault>
     }
 }
 
-/// Appends to `numbers` the number that `word` states in decimal, without leading zeros. The error
-/// is `BadNumber`, with the line number `line`, if `word` states no number of at most `most`, or
-/// `OutOfMemory`; `numbers` then stays as it was. Requires `most` to be at most `MOST_NODES`.
+/// Appends the number that `word` states. The error is `BadNumber`, at line `line`, or
+/// `OutOfMemory`.
 fn push_number(numbers: &mut Vec<u32>, word: &[u8], most: u32, line: usize) -> Result<(), CertFault>
     requires { most ≤ most_nodes }
     ensures added { OnOk result (numbers.new.items ≡ numbers.old.items ++ number_of word.now ∷ []) }
@@ -49,9 +47,7 @@ fn push_number(numbers: &mut Vec<u32>, word: &[u8], most: u32, line: usize) -> R
     add(numbers, value)
 }
 
-/// The numbers that the words of `text` state in decimal, without leading zeros. The error is
-/// `BadNumber`, with the line number `line`, if a word states no number of at most `most`, or
-/// `OutOfMemory`. Requires `most` to be at most `MOST_NODES`.
+/// The numbers that the words of `text` state, at line `line`.
 fn numbers_in(alloc: Global, text: &[u8], most: u32, line: usize) -> Result<Vec<u32>, CertFault>
     requires { most ≤ most_nodes }
     ensures numbers { IfOk result (λ v. v.items ≡ map number_of (words text.now)) }
@@ -71,17 +67,13 @@ fn numbers_in(alloc: Global, text: &[u8], most: u32, line: usize) -> Result<Vec<
     Ok(numbers)
 }
 
-/// The lines of a text that have not been taken yet.
 #[derive(Drop)]
 pub(crate) struct Lines<'a> {
-    /// What is left of the text.
     rest: &'a [u8],
-    /// The number of the next line, counted from 1.
     number: usize,
 }
 
 impl<'a> Lines<'a> {
-    /// The lines of `text`, none of which has been taken yet.
     pub(crate) fn of(text: &'a [u8]) -> Lines<'a>
         ensures rest { result.rest.now ≡ text.now }
         ensures number { result.number ≡ 1 }
@@ -92,8 +84,7 @@ impl<'a> Lines<'a> {
         }
     }
 
-    /// Takes the next line, and returns it without its line feed. None, and nothing is taken, if no
-    /// line feed is left in the text.
+    /// Takes the next line, without its line feed, if there is one with a line feed.
     fn next(&mut self) -> Option<&'a [u8]>
         requires { FitsCount self.old }
         ensures line { IfSome result (λ line. Cuts 10 self.old.rest.now line.now self.new.rest.now) }
@@ -107,9 +98,8 @@ impl<'a> Lines<'a> {
         Some(line)
     }
 
-    /// Takes the next line, and returns what `read` returns for its bytes without the line feed; a
-    /// fault of `read` gets the line's number. If no line feed is left, nothing is taken, and the
-    /// error is `MissingLine` with the number that the line would have.
+    /// What `read` returns for the next line; a fault of `read` gets the line's number. If no line
+    /// feed is left, the error is `MissingLine` with the number that the line would have.
     fn take<V, F: FnOnce(&[u8]) -> Result<V, LineFault>>(&mut self, read: F) -> Result<V, CertFault>
         requires small { FitsCount self.old }
         requires readable { F.IsAlwaysCallable read }
@@ -126,10 +116,7 @@ impl<'a> Lines<'a> {
         }
     }
 
-    /// Takes the next line, which has two words, `name` and a number from `least` to `most`, and
-    /// returns the number. The error has the line's number: `MissingLine` if there is no line,
-    /// `BadNumber` if the line is `name` and one word that is no such number, `BadLine` for any
-    /// other line. Requires `most` to be at most `MOST_NODES`.
+    /// Takes the next line, `name` and a number from `least` to `most`, and returns the number.
     pub(crate) fn number(&mut self, name: &[u8], least: u32, most: u32) -> Result<u32, CertFault>
         requires small { FitsCount self.old }
         requires bounds { most ≤ most_nodes }
@@ -141,9 +128,7 @@ impl<'a> Lines<'a> {
         self.take(|line| number_line(line, name, least, most))
     }
 
-    /// Takes the next line, which has to be the first of a certificate, and returns the format that
-    /// it states, 1 or 2. The error has the line's number: `MissingLine` if there is no line,
-    /// `BadLine` if it is another one.
+    /// Takes the first line of a certificate, and returns its format.
     pub(crate) fn title(&mut self) -> Result<u8, CertFault>
         requires { FitsCount self.old }
         ensures line { TakesLine title_fault self.old self.new
@@ -153,9 +138,8 @@ impl<'a> Lines<'a> {
         self.take(title_line)
     }
 
-    /// Takes the next line, which has to be `end`, the last. The error has the line's number:
-    /// `MissingLine` if there is no line, `BadLine` if it is another one, and `TrailingText`, at
-    /// the line after, if any text follows it.
+    /// Takes the last line, `end`. The error is `TrailingText`, at the line after, if any text
+    /// follows.
     pub(crate) fn end(&mut self) -> Result<(), CertFault>
         requires { FitsCount self.old }
         ensures passed { OnOk result
@@ -171,11 +155,7 @@ impl<'a> Lines<'a> {
         Ok(())
     }
 
-    /// Takes the next line, which has the word `name` and then `count` numbers of at most `most`,
-    /// and returns the numbers. The error is `OutOfMemory`, or has the line's number: `MissingLine`
-    /// if there is no line, `BadLine` if its first word or its number of words is wrong,
-    /// `BadNumber` if a word is no such number. Requires `count` to be at least 1, and `most` to be
-    /// at most `MOST_NODES`.
+    /// Takes the next line, `name` and then `count` numbers of at most `most`.
     pub(crate) fn numbers(
         &mut self,
         alloc: Global,
@@ -200,9 +180,7 @@ impl<'a> Lines<'a> {
         numbers_in(alloc, digits, most, number)
     }
 
-    /// Takes the line that states the number of pairs, and a line for each pair of variables below
-    /// `n`. Returns the pairs (a, b), which rise by a and then by b. The error is the first fault,
-    /// with the number of its line, or `OutOfMemory`. Requires `n` to be from 1 to 16.
+    /// Takes the line with the number of pairs, and a line for each.
     pub(crate) fn pairs(&mut self, alloc: Global, n: u8) -> Result<Vec<(VarIx, VarIx)>, CertFault>
         requires small { FitsCount self.old }
         requires some { 1 ≤ n }
@@ -222,10 +200,7 @@ impl<'a> Lines<'a> {
         Ok(pairs)
     }
 
-    /// Takes the line that states the number of listed sets, and a line for each. Returns the
-    /// listed sets, proper subsets of `n` variables by rising mask, with their costs. The error is
-    /// the first fault, with the number of its line, or `OutOfMemory`. Requires `n` to be at most
-    /// 16.
+    /// Takes the line with the number of listed sets, and a line for each.
     pub(crate) fn cells(&mut self, alloc: Global, n: u8) -> Result<Vec<ListedCell>, CertFault>
         requires small { FitsCount self.old }
         requires few { n ≤ 16 }

@@ -1,4 +1,4 @@
-//! The texts of certificates.
+//! The texts of certificates. If memory is refused, `text` may have got a part of what is appended.
 
 ghost use Rattle.std.specs.Prelude.{◌≡◌, ◌≤◌, ◌++◌, [], ◌∷◌, length, map, codes, string_bytes, IfOk, OnOk};
 ghost use Rattle.std.specs.List.{flat_map};
@@ -11,18 +11,15 @@ use order_model::{ListedCell, VarIx};
 use std::alloc::{AllocError, Global};
 use std::fmt::Write;
 
-/// Bytes that are enough for all lines but those of pairs and listed sets: at most 38 numbers of at
-/// most 6 digits, and the fixed words.
+/// Enough for all lines but those of pairs and listed sets: at most 38 numbers of at most 6 digits,
+/// and the fixed words.
 const LONGEST_HEAD: usize = 512;
 
-/// The most bytes of the line of a pair, with its line feed.
 const LONGEST_PAIR: usize = 6;
 
-/// The most bytes of the line of a listed set, with its line feed.
 const LONGEST_CELL: usize = 12;
 
-/// Appends to `text` a line: the word `name`, a space and `number`. If memory is refused, a part of
-/// the line may be appended.
+/// Appends a line: the word `name`, a space and `number`.
 fn push_number(text: &mut String, name: &str, number: usize) -> Result<(), AllocError>
     ensures { OnOk result
         (string_bytes text.new ≡ string_bytes text.old
@@ -32,8 +29,7 @@ fn push_number(text: &mut String, name: &str, number: usize) -> Result<(), Alloc
     Ok(())
 }
 
-/// Appends to `text` a line: the word `name` and then `numbers`, with spaces between. If memory is
-/// refused, a part of the line may be appended.
+/// Appends a line: the word `name` and then `numbers`.
 fn push_numbers(text: &mut String, name: &str, numbers: &[u32]) -> Result<(), AllocError>
     ensures { OnOk result
         (string_bytes text.new ≡ string_bytes text.old ++ text_line (field name.now numbers.now)) }
@@ -46,8 +42,7 @@ fn push_numbers(text: &mut String, name: &str, numbers: &[u32]) -> Result<(), Al
     Ok(())
 }
 
-/// Appends to `text` a line: the word `name` and then `variables`, with spaces between. If memory
-/// is refused, a part of the line may be appended.
+/// Appends a line: the word `name` and then `variables`.
 fn push_variables(text: &mut String, name: &str, variables: &[VarIx]) -> Result<(), AllocError>
     ensures { OnOk result
         (string_bytes text.new ≡ string_bytes text.old
@@ -61,8 +56,7 @@ fn push_variables(text: &mut String, name: &str, variables: &[VarIx]) -> Result<
     Ok(())
 }
 
-/// Appends to `text` a line for each pair (a, b): `a`, a space and `b`. If memory is refused, a
-/// part of these lines may be appended.
+/// Appends a line for each pair (a, b): `a`, a space and `b`.
 fn push_pairs(text: &mut String, pairs: &[(VarIx, VarIx)]) -> Result<(), AllocError>
     ensures { OnOk result
         (string_bytes text.new ≡ string_bytes text.old
@@ -74,8 +68,7 @@ fn push_pairs(text: &mut String, pairs: &[(VarIx, VarIx)]) -> Result<(), AllocEr
     Ok(())
 }
 
-/// Appends to `text` the line of a listed set: its mask as four hexadecimal digits, a space, and
-/// its cost. If memory is refused, a part of the line may be appended.
+/// Appends the line of a listed set: its mask as four hexadecimal digits, a space, and its cost.
 fn push_cell(text: &mut String, cell: ListedCell) -> Result<(), AllocError>
     ensures { OnOk result
         (string_bytes text.new ≡ string_bytes text.old ++ text_line (cell_words (listed cell))) }
@@ -86,8 +79,6 @@ fn push_cell(text: &mut String, cell: ListedCell) -> Result<(), AllocError>
     Ok(())
 }
 
-/// Appends to `text` a line for each listed set: its mask as four hexadecimal digits, a space, and
-/// its cost. If memory is refused, a part of these lines may be appended.
 fn push_cells(text: &mut String, cells: &[ListedCell]) -> Result<(), AllocError>
     ensures { OnOk result
         (string_bytes text.new ≡ string_bytes text.old
@@ -99,8 +90,7 @@ fn push_cells(text: &mut String, cells: &[ListedCell]) -> Result<(), AllocError>
     Ok(())
 }
 
-/// Appends to `text` the first six lines of the certificate's text: format, inputs, outputs, order,
-/// level counts and total. If memory is refused, a part of these lines may be appended.
+/// Appends the first six lines: format, inputs, outputs, order, level counts and total.
 fn push_head(text: &mut String, cert: &Certificate) -> Result<(), AllocError>
     ensures { OnOk result
         (string_bytes text.new ≡ string_bytes text.old
@@ -115,8 +105,7 @@ fn push_head(text: &mut String, cert: &Certificate) -> Result<(), AllocError>
     Ok(())
 }
 
-/// Appends to `text` the line that states the number of the certificate's pairs, and a line for
-/// each; nothing in format 1. If memory is refused, a part of these lines may be appended.
+/// Appends the line with the number of pairs, and a line for each; nothing in format 1.
 fn push_pair_lines(text: &mut String, cert: &Certificate) -> Result<(), AllocError>
     ensures { OnOk result
         (string_bytes text.new ≡ string_bytes text.old
@@ -130,8 +119,7 @@ fn push_pair_lines(text: &mut String, cert: &Certificate) -> Result<(), AllocErr
     Ok(())
 }
 
-/// Appends to `text` the line that states the number of the certificate's listed sets, and a line
-/// for each. If memory is refused, a part of these lines may be appended.
+/// Appends the line with the number of listed sets, and a line for each.
 fn push_cell_lines(text: &mut String, cert: &Certificate) -> Result<(), AllocError>
     ensures { OnOk result
         (string_bytes text.new ≡ string_bytes text.old
@@ -143,9 +131,8 @@ fn push_cell_lines(text: &mut String, cert: &Certificate) -> Result<(), AllocErr
 }
 
 impl Certificate {
-    /// The certificate's text, of at most 1,048,576 bytes, so that it can be read back. Its storage
-    /// is reserved before its first byte is made: 512 bytes, and 6 for each pair and 12 for each
-    /// listed set.
+    /// The certificate's text. Its storage is reserved before its first byte is made: 512 bytes,
+    /// and 6 for each pair and 12 for each listed set.
     pub fn text(&self, alloc: Global) -> Result<String, AllocError>
         ensures spelling { IfOk result (λ text. string_bytes text ≡ spelling self.now) }
         ensures readable { IfOk result (λ text. length (string_bytes text) ≤ most_bytes) }

@@ -1,5 +1,3 @@
-//! Lines, words, numbers and masks of a certificate's text.
-
 ghost use Rattle.std.specs.Prelude.{◌≡◌, ◌≤◌, ◌<◌, ◌==◌, ℕ, true, false, length, position, IfSome, IfNone, decimal as decimal_of};
 ghost use Rattle.std.specs.Fmt.{digit_glyph};
 ghost use Rattle.certificate.specs.Spelling.{most_nodes};
@@ -13,7 +11,6 @@ use order_model::{Mask, decimal_number};
 /// The most digits of a number: all bounds are below a million.
 const MOST_DIGITS: usize = 6;
 
-/// The index of the first `byte` in `text`; None if there is none.
 fn place_of(text: &[u8], byte: u8) -> Option<usize>
     ensures first { result ≡ position (λ b. b == byte) text.now }
     ensures bound { IfSome result (λ place. place < length text.now) }
@@ -21,7 +18,7 @@ fn place_of(text: &[u8], byte: u8) -> Option<usize>
     text.iter().position(|b| *b == byte)
 }
 
-/// The text before the first `byte`, and the text after it. None if `text` doesn't have the byte.
+/// The text before the first `byte`, and the text after it.
 pub(crate) fn cut(text: &[u8], byte: u8) -> Option<(&[u8], &[u8])>
     ensures some { IfSome result (λ parts. Cuts byte text.now parts.0.now parts.1.now) }
     ensures none { IfNone result (Lacks byte text.now) }
@@ -30,8 +27,7 @@ pub(crate) fn cut(text: &[u8], byte: u8) -> Option<(&[u8], &[u8])>
     Some((&text[..place], &text[place + 1..]))
 }
 
-/// The number of at most 999,999 that `word` states in decimal, without leading zeros. None for any
-/// other word.
+/// The number of at most 999,999 that `word` states in decimal, without leading zeros.
 fn decimal(word: &[u8]) -> Option<u32>
     ensures some { IfSome result
         (λ value. (decimal_of value ≡ word.now) × (number_of word.now ≡ value)) }
@@ -46,8 +42,7 @@ fn decimal(word: &[u8]) -> Option<u32>
     decimal_number(word)
 }
 
-/// The number from `least` to `most` that `word` states in decimal, without leading zeros. None for
-/// any other word. Requires `most` to be at most 999,999.
+/// The number from `least` to `most` that `word` states in decimal, without leading zeros.
 pub(crate) fn number(word: &[u8], least: u32, most: u32) -> Option<u32>
     requires { most ≤ most_nodes }
     ensures some { IfSome result
@@ -62,8 +57,7 @@ pub(crate) fn number(word: &[u8], least: u32, most: u32) -> Option<u32>
     Some(value)
 }
 
-/// The value of the hexadecimal digit `b`, from `0` to `9` or from `a` to `f`. None for any other
-/// byte.
+/// The value of the hexadecimal digit `b`, in lower case.
 fn hex_digit(b: u8) -> Option<Mask>
     ensures some { IfSome result (λ d. (b ≡ digit_glyph false d) × (d < 16)) }
     ensures none { IfNone result ((d : ℕ) → d < 16 → b ≡ digit_glyph false d → ⊥) }
@@ -75,8 +69,7 @@ fn hex_digit(b: u8) -> Option<Mask>
     }
 }
 
-/// The mask of a proper subset of `n` variables that `word` states in four hexadecimal digits, with
-/// letters in lower case. None for any other word. Requires `n` to be at most 16.
+/// The mask of a proper subset of `n` variables that `word` states in four hexadecimal digits.
 pub(crate) fn mask(word: &[u8], n: u8) -> Option<Mask>
     requires { n ≤ 16 }
     ensures some { IfSome result (λ mask. (is_mask n word.now ≡ true) × (mask_of word.now ≡ mask)) }

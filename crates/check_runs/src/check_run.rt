@@ -14,9 +14,6 @@ use std::alloc::{AllocError, Global};
 use std::thread::Threads;
 use truth_table::Tables;
 
-/// The fault of a check whose certificate can't be read, for the reason `refused`:
-/// `CertificateTooLong` for too many bytes, `Device` for a failed call of the reader, or
-/// `OutOfMemory`.
 fn fault_of_bytes(refused: Refused) -> Fault
     ensures { result ≡ bytes_fault refused }
 {
@@ -27,9 +24,7 @@ fn fault_of_bytes(refused: Refused) -> Fault
     }
 }
 
-/// Reads `cert` to its end, and returns the certificate that its text is. The error is `Device` if
-/// a call of the reader fails, `OutOfMemory`, `CertificateTooLong` for more than `MOST_BYTES`
-/// bytes, or the first faulty line of the text.
+/// Reads `cert` to its end, and returns the certificate that its text is.
 fn read_certificate<C: CountedRead>(alloc: Global, cert: &mut C) -> Result<Certificate, Fault>
     ensures cert { IfOk result (λ c. IfSome (C.remaining cert.old) (λ text. SpellsWithin text c)) }
     ensures refused { IfErr result
@@ -47,8 +42,7 @@ fn read_certificate<C: CountedRead>(alloc: Global, cert: &mut C) -> Result<Certi
     }
 }
 
-/// Checks `cert` for the functions of `cover`. Returns the outcome, `Done` if the certificate is
-/// good and `Invalid` if not, and the line of the verdict.
+/// The outcome of a check, `Done` or `Invalid`, and the line of the verdict.
 fn verdict_on<R: Threads + Sync>(
     rt: &R,
     alloc: Global,
@@ -64,14 +58,9 @@ fn verdict_on<R: Threads + Sync>(
     }
 }
 
-/// Reads a PLA file from `file` and a certificate from `cert`, and writes the verdict to `out`:
-/// `valid N` for a certificate with the total N, `valid N pairs q` if it has q pairs, or `invalid`
-/// and the first reason, in the order of `Reason`, why the certificate is not good.
-///
-/// Returns `Done` for a valid certificate, `Invalid` for one that is not good, and `Refused`, with
-/// the first fault, if the file or the certificate is faulty or can't be read, memory is refused,
-/// or `out` fails. The certificate is read only if the file has no fault. The line is made whole
-/// before its first byte is written.
+/// Reads a PLA file from `file` and a certificate from `cert`, and writes the line of the verdict
+/// to `out`. The certificate is read only if the file has no fault. The line is made whole before
+/// its first byte is written.
 pub fn run_check<R: Threads + Sync, F: CountedRead, C: CountedRead, W: CountedWrite>(
     rt: &R,
     alloc: Global,

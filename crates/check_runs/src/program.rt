@@ -1,5 +1,3 @@
-//! The program ordercheck: words, files and messages.
-
 ghost use Rattle.command_line.specs.Lines.{texts};
 ghost use Rattle.check_runs.specs.Judging.{OrdercheckEnds, Verdicts};
 ghost use Rattle.outcomes.specs.Messages.{writer};
@@ -14,8 +12,7 @@ use std::rt::Files;
 use std::thread::Threads;
 
 /// Opens the PLA file and then the certificate that `line` names, checks them, and writes the
-/// verdict to `out`. Returns how the check ends: refused with `Device` if a file can't be opened,
-/// else as `run_check` returns it.
+/// verdict to `out`.
 fn check_files<'a, R: Files + AllocGlobal + Threads + Sync, W: CountedWrite>(
     rt: &R,
     line: &CheckLine<'a>,
@@ -34,12 +31,10 @@ fn check_files<'a, R: Files + AllocGlobal + Threads + Sync, W: CountedWrite>(
     run_check(rt, rt.alloc(), &mut file, &mut cert, out)
 }
 
-/// The program ordercheck. `words` are those after its name; the verdict goes to `out`, messages to
-/// `err`. Returns the exit status: 0 if the certificate is valid, or help or the version was asked
-/// for, 1 if the certificate is not valid, 2 for refused words, 3 for a refused PLA file or
-/// certificate, 4 if memory is refused, 5 if a device failed.
-///
-/// The words are `FILE CERT`. Both files are opened first. CERT is read only if FILE has no fault.
+/// The program ordercheck, with the words after its name, `FILE CERT`. Returns the exit status: 0
+/// if the certificate is valid, or help or the version was asked for, 1 if it is not valid, 2 for
+/// refused words, 3 for a refused PLA file or certificate, 4 if memory is refused, 5 if a device
+/// failed.
 pub fn ordercheck<'a, R: Files + AllocGlobal + Threads + Sync, W: CountedWrite, E: CountedWrite>(
     rt: &R,
     words: &'a [&'a str],

@@ -1,5 +1,3 @@
-//! The lines that ordercheck writes.
-
 ghost use Rattle.std.specs.Prelude.{◌≡◌, ◌++◌, string_bytes, IfOk, OnOk};
 ghost use Rattle.cert_check.specs.Verdicts.{reason_of};
 ghost use Rattle.check_runs.specs.VerdictTexts.{invalid_line, pairs_words, reason_words, valid_line};
@@ -9,12 +7,11 @@ use certificate::Certificate;
 use std::alloc::{AllocError, Global};
 use std::fmt::Write;
 
-/// Bytes that are enough for the longest line: its words and two numbers of at most 6 digits.
+/// Enough for the longest line: its words and two numbers of at most 6 digits.
 const LONGEST_LINE: usize = 32;
 
-/// Appends the name of `reason` to `text`. For an edge, the mask of the set from which it leads, in
-/// four hexadecimal digits, and the variable that it adds follow. If memory is refused, a part of
-/// these words may be appended.
+/// Appends the name of `reason`, and of an edge the mask that it leads from, in four hexadecimal
+/// digits, and its variable. If memory is refused, a part of these words may be appended.
 fn push_reason(text: &mut String, reason: Reason) -> Result<(), AllocError>
     ensures { OnOk result
         (string_bytes text.new ≡ string_bytes text.old ++ reason_words (reason_of reason)) }
@@ -34,7 +31,7 @@ fn push_reason(text: &mut String, reason: Reason) -> Result<(), AllocError>
     }
 }
 
-/// The line on a certificate that is not good: `invalid`, a space and the reason, with a line feed.
+/// The line `invalid` and the reason.
 pub(crate) fn invalid_text(alloc: Global, reason: Reason) -> Result<String, AllocError>
     ensures { IfOk result (λ text. string_bytes text ≡ invalid_line (reason_of reason)) }
 {
@@ -45,8 +42,8 @@ pub(crate) fn invalid_text(alloc: Global, reason: Reason) -> Result<String, Allo
     Ok(text)
 }
 
-/// Appends ` pairs q` to `text`, where q is the number `pairs`; nothing if it is 0. If memory is
-/// refused, a part of these words may be appended.
+/// Appends ` pairs q`, where q is `pairs`, unless it is 0. If memory is refused, a part may be
+/// appended.
 fn push_pairs(text: &mut String, pairs: usize) -> Result<(), AllocError>
     ensures { OnOk result (string_bytes text.new ≡ string_bytes text.old ++ pairs_words pairs) }
 {
@@ -56,8 +53,7 @@ fn push_pairs(text: &mut String, pairs: usize) -> Result<(), AllocError>
     Ok(())
 }
 
-/// The line on a certificate that is good: `valid` and its total, then `pairs` and the number of
-/// its pairs if it has any, with a line feed.
+/// The line `valid` and the total, then `pairs` and their number if there are any.
 pub(crate) fn valid_text(alloc: Global, cert: &Certificate) -> Result<String, AllocError>
     ensures { IfOk result (λ text. string_bytes text ≡ valid_line cert.now) }
 {

@@ -19,23 +19,22 @@ use std::alloc::{AllocError, Global};
 use std::marker::Model;
 use subfunction_classes::{count_with, no_dependence, value_numbers};
 
-/// The class table of a set has an entry for each function and each assignment of the other
-/// variables: the class number of the subfunction. Equal subfunctions have one class number, by
-/// first occurrence. Rows of entries that repeat an earlier row may be left out, because they lead
-/// to no other pairs of classes.
+/// The class table of a set: for each function and each assignment of the other variables, the
+/// class number of the subfunction, by first occurrence. Rows of entries that repeat an earlier row
+/// may be left out, because they lead to no other pairs of classes.
 #[derive(Drop)]
 pub(crate) struct ClassTable<'a> {
     problem: &'a Problem,
     set: Mask,
-    // A variable's number, or the number of variables: no member of the set is below `level`. Rows
+    // No member of the set is below `level`; it is the number of variables for the empty set. Rows
     // of 2^`level` entries that repeat an earlier row may be left out.
     level: VarIx,
     // The number of subfunctions, if all are distinct and depend on the whole set: `numbers` and
     // `masks` are then empty.
     full: Option<u32>,
-    /// The class number of each entry that isn't left out.
+    /// The class numbers of the entries that aren't left out.
     numbers: Vec<u32>,
-    /// For each class number, the mask of the variables that its subfunctions depend on.
+    /// For each class, the variables that its subfunctions depend on.
     masks: Vec<Mask>,
 }
 
@@ -50,11 +49,9 @@ impl<'a> Model for ClassTable<'a> {
         (table_at c.problem.now c.set c.level) c.full c.numbers.items c.masks.items };
 }
 
-/// Repeated rows of 2^y entries are looked for if y is one of these numbers, in tables of sets
-/// without variables below y.
+/// Repeated rows of 2^y entries are looked for at these y.
 const SHORT_LEVELS: [VarIx; 4] = [3, 5, 7, 10];
 
-/// Whether each of `masks` equals `set`; true if there are none.
 fn are_whole(masks: &[Mask], set: Mask) -> bool
     ensures { IsTrue result → (i : ℕ) → i < length masks.now → slice_index masks.now i ≡ set }
 {
@@ -66,10 +63,8 @@ fn are_whole(masks: &[Mask], set: Mask) -> bool
     true
 }
 
-/// The class table of `set` for the functions of `problem`. `numbered` has its entries, perhaps
-/// without rows of 2^`level` entries that repeat an earlier row, and the masks of its classes. If
-/// all subfunctions are distinct and depend on the whole set, the table keeps only their count.
-/// Requires that no member of the set is below `level`.
+/// The class table of `set`, of whose entries `numbered` may lack repeated rows. If all
+/// subfunctions are distinct and depend on the whole set, only their count is kept.
 fn table_of<'a>(
     alloc: Global,
     problem: &'a Problem,
@@ -105,7 +100,6 @@ fn table_of<'a>(
 impl<'a> ClassTable<'a> {
     ghost use Rattle.subfunction_classes.specs.Table.{functions_of};
 
-    /// The class table of the empty set, for the functions of `problem`.
     pub(crate) fn of_problem(
         alloc: Global,
         problem: &'a Problem,
@@ -124,18 +118,15 @@ impl<'a> ClassTable<'a> {
         })
     }
 
-    /// The set that the table is of, as a mask.
     pub(crate) fn set(&self) -> Mask
         ensures { result ≡ self.now.set }
     {
         self.set
     }
 
-    /// A copy of this table without rows of 2^`y` entries that repeat an earlier row; some may
-    /// stay. None if no repeat is found in the first half of the entries, if `y` isn't in
-    /// `SHORT_LEVELS`, if rows of 2^`y` or fewer entries may be left out already, or if only a
-    /// count of subfunctions is kept. Requires that `y` is from 1 to the number of inputs, and that
-    /// no member of the set is below `y`.
+    /// This table without rows of 2^`y` entries that repeat an earlier row; some may stay. None if
+    /// no repeat is found in the first half of the entries, if `y` isn't in `SHORT_LEVELS`, or if
+    /// such rows may be left out already.
     pub(crate) fn with_short_rows(
         &self,
         alloc: Global,
@@ -171,9 +162,8 @@ impl<'a> ClassTable<'a> {
         }
     }
 
-    /// The class table of this table's set with `x` added. Requires that `x` is a variable of the
-    /// problem, that it is smaller than all members of the set, and that any rows left out of this
-    /// table have more than 2^`x` entries. `memory` is working memory.
+    /// The class table of this table's set with `x`, a smaller variable, added. `memory` is working
+    /// memory.
     pub(crate) fn with_variable(
         &self,
         memory: &mut PairMemory,
@@ -207,10 +197,8 @@ impl<'a> ClassTable<'a> {
     }
 
     /// Whether a lower bound shows that each member y of the set with `x` added has at least the
-    /// width `needed[y]` over the other members; if false, some may have it nevertheless. A
-    /// variable behind the end of `needed`, which has at most 16 entries, needs 0. Makes no table.
-    /// Requires that `x` is a variable of the problem, that it is smaller than all members of the
-    /// set, and that any rows left out of this table have more than 2^`x` entries.
+    /// width `needed[y]`, or 0 behind the end of `needed`. If false, it may have it nevertheless.
+    /// Makes no table.
     pub(crate) fn tells_wide(
         &self,
         alloc: Global,
@@ -230,8 +218,7 @@ impl<'a> ClassTable<'a> {
         }
     }
 
-    /// The width of `x` over the set without it: how many distinct subfunctions over the set depend
-    /// on `x`. Requires that `x` is a member of the set.
+    /// The width of the member `x` over the other members.
     pub(crate) fn width_into(&self, x: VarIx) -> u32
         requires { IsTrue (has (set_of (classes_at self.now)) x) }
         ensures { result ≡ width_over self.now.problem.inputs (functions_of (classes_at self.now))

@@ -1,7 +1,8 @@
-//! Fewer edges to test, of which one fails if any edge does. If variables may be exchanged without
-//! a change of any function, value or edge to test, a set and its image (the set of the partners of
-//! its variables) have edges of equal widths. So in each orbit, the sets that such exchanges take
-//! to one another, only the edges into the greatest set need a test.
+//! Fewer edges to test, of which one fails if any edge does. If exchanges of variables change no
+//! function, value or edge to test, a set and its image have edges of equal widths. So in each
+//! orbit, the sets that such exchanges take to one another, only the edges into the greatest set
+//! need a test. `fewer[m]` has the variables of the edges still to be tested into the set with the
+//! mask m.
 
 ghost use Rattle.std.specs.Prelude.{◌≡◌, ◌<◌, ◌^◌, ◌++◌, ◌⊎◌, ℕ, [], ◌∷◌, IfOk, IfSome, IsTrue, OnOk, length, slice_index};
 ghost use Rattle.std.specs.List.{All};
@@ -13,10 +14,8 @@ use order_model::{Mask, Pairs};
 use std::alloc::{AllocError, Global};
 use symmetries::{Exchange, exchanges_of};
 
-/// Whether an exchange of variables changes neither the values nor the edges to test of `edges`:
-/// whether each set and its image have equal values, and edges are to be tested into the image by
-/// the partners of the variables by which they are to be tested into the set. `images[m]` must be
-/// the image of the set with the mask m, for all sets of the problem's variables.
+/// Whether an exchange of variables, which takes the set m to `images[m]`, changes neither the
+/// values nor the edges to test.
 fn keeps_edges(edges: Edges, images: &[Mask]) -> bool
     requires long { length images.now ≡ 2 ^ edges.problem.now.inputs }
     requires inside { (S : ℕ) → S < length images.now →
@@ -37,8 +36,7 @@ fn keeps_edges(edges: Edges, images: &[Mask]) -> bool
     true
 }
 
-/// Exchanges of variables that change no function, no set's value in `edges.values`, and no edge to
-/// test in `edges.judged`. Some may be missed.
+/// Exchanges of variables that change no function, value or edge to test. Some may be missed.
 fn guides_of(alloc: Global, edges: Edges) -> Result<Vec<Exchange>, AllocError>
     ensures { IfOk result (λ v. AreAllGuides edges.entry v.items) }
 {
@@ -52,8 +50,7 @@ fn guides_of(alloc: Global, edges: Edges) -> Result<Vec<Exchange>, AllocError>
     Ok(guides)
 }
 
-/// Whether some exchange in `guides` takes `set`, a set of the problem's variables, to a greater
-/// mask. Requires that these exchanges change no function, value or edge to test of `edges`.
+/// Whether some exchange in `guides` takes `set` to a greater mask.
 fn has_greater_image(edges: Edges, guides: &[Exchange], set: Mask) -> bool
     requires guides { AreAllGuides edges guides.now }
     requires set { set < 2 ^ edges.problem.now.inputs }
@@ -67,10 +64,7 @@ fn has_greater_image(edges: Edges, guides: &[Exchange], set: Mask) -> bool
     false
 }
 
-/// Makes `fewer[m]` 0 if an exchange in `guides` takes the set with the mask m to a greater mask.
-/// `fewer[m]` has the variables of the edges still to be tested into the set with the mask m.
-/// Requires that the exchanges change no function, value or edge to test of `edges`, and that an
-/// edge in `fewer` fails if any in `edges` does; that stays so.
+/// Makes `fewer[m]` 0 if an exchange in `guides` takes the set m to a greater mask.
 fn leave_out(edges: Edges, guides: &[Exchange], fewer: &mut Vec<u16>)
     requires guides { AreAllGuides edges guides.now }
     requires fewer { AreEnough edges fewer.old.items }
@@ -83,21 +77,18 @@ fn leave_out(edges: Edges, guides: &[Exchange], fewer: &mut Vec<u16>)
     }
 }
 
-/// The sets that exchanges reach, orbit by orbit: an orbit has the sets that exchanges take to one
-/// another.
+/// The sets that exchanges reach, orbit by orbit.
 #[derive(Drop)]
 struct Reached {
-    /// `seen[m]`: whether the set with the mask m was reached, in the present orbit or an earlier
-    /// one.
+    /// Whether the set m was reached, in the present orbit or an earlier one.
     seen: Vec<bool>,
     /// The sets of the present orbit that were reached.
     sets: Vec<Mask>,
 }
 
 impl Reached {
-    /// Marks `set` as reached, and appends it to `self.sets`, the sets of the present orbit.
-    /// Nothing changes if it was reached before, in this orbit or in another one, or has a variable
-    /// that the problem lacks. If memory is refused, it is marked but not appended.
+    /// Appends `set` to the present orbit if it wasn't reached before. If memory is refused, it is
+    /// marked but not appended.
     fn add(&mut self, set: Mask) -> Result<(), AllocError>
         ensures { OnOk result
             ((self.new.sets.items ≡ self.old.sets.items)
@@ -114,12 +105,8 @@ impl Reached {
     }
 }
 
-/// Takes `set`, of the orbit of `first`, to its images under the exchanges in `guides`. Adds to
-/// `reached` those that were not reached before, and makes `fewer[m]` 0 for those of a mask m below
-/// `first`. `fewer[m]` has the variables of the edges still to be tested into the set with the mask
-/// m. Requires that the exchanges change no function, value or edge to test of `edges`, that an
-/// edge in `fewer` fails if any in `edges` does, and that `reached.sets` are of the orbit, too. If
-/// memory is refused, only some images are taken.
+/// Adds to `reached` the images of `set`, of the orbit of `first`, and makes `fewer[m]` 0 for those
+/// below `first`. If memory is refused, only some images are taken.
 fn step_from(
     edges: Edges,
     guides: &[Exchange],
@@ -145,12 +132,9 @@ fn step_from(
     Ok(())
 }
 
-/// Makes `fewer[m]` 0 for each mask m below `first` in the orbit of `first` under the exchanges in
-/// `guides`. `fewer[m]` has the variables of the edges still to be tested into the set with the
-/// mask m. `reached.sets` becomes the sets of this orbit; but if `first` was reached before, it
-/// becomes empty, and `fewer` stays. Requires that `first` is a set of the problem's variables,
-/// that the exchanges change no function, value or edge to test of `edges`, and that an edge in
-/// `fewer` fails if any in `edges` does. If memory is refused, only a part of this is done.
+/// Makes `fewer[m]` 0 for each mask m below `first` in the orbit of `first`, which becomes
+/// `reached.sets`; nothing, if `first` was reached before. If memory is refused, only a part of
+/// this is done.
 fn leave_out_orbit(
     edges: Edges,
     guides: &[Exchange],
@@ -175,11 +159,8 @@ fn leave_out_orbit(
     Ok(())
 }
 
-/// Makes `fewer[m]` 0 if the set with the mask m isn't the greatest of its orbit under the
-/// exchanges in `guides`. `fewer[m]` has the variables of the edges still to be tested into the set
-/// with the mask m. Requires that the exchanges change no function, value or edge to test of
-/// `edges`, and that an edge in `fewer` fails if any in `edges` does; that stays so. If memory is
-/// refused, only some sets are done.
+/// Makes `fewer[m]` 0 if the set m isn't the greatest of its orbit. If memory is refused, only some
+/// sets are done.
 fn leave_out_orbits(
     alloc: Global,
     edges: Edges,
@@ -202,8 +183,7 @@ fn leave_out_orbits(
     Ok(())
 }
 
-/// The number of sets into which some edge is to be tested. `judged[m]` is the mask of the
-/// variables of the edges to test into the set with the mask m.
+/// The number of sets into which some edge is to be tested.
 pub(crate) fn count_judged(judged: &[Mask]) -> usize {
     let mut count = 0usize;
     for edges in judged {
@@ -215,11 +195,9 @@ pub(crate) fn count_judged(judged: &[Mask]) -> usize {
 /// This many steps along orbits take about as long as judging the edges into one set.
 const STEPS_OF_A_SET: usize = 512;
 
-/// Some of the edges to test of `edges`, at least one of which fails if any edge does. Entry m has
-/// the variables of those into the set with the mask m. Edges are left out if an exchange that
-/// changes no function, value or edge to test takes their set to a greater mask; also if several
-/// such exchanges in turn do, unless following these takes at least `STEPS_OF_A_SET` steps for each
-/// set with edges left. None if no such exchange is found.
+/// Some of the edges to test, of which one fails if any edge does: those into the greatest set of
+/// each orbit, and others if following its exchanges takes at least `STEPS_OF_A_SET` steps for each
+/// set with edges left. None if no exchange is found.
 pub(crate) fn fewer_edges(alloc: Global, edges: Edges) -> Result<Option<Vec<u16>>, AllocError>
     ensures { IfOk result (λ o. IfSome o (λ v. AreEnough edges.entry v.items)) }
 {

@@ -1,10 +1,6 @@
-//! The walk of the checker over all sets, which finds the first of given edges that fails. An
-//! edge leads from a set to the set with one more variable. It fails if the value of the larger set
+//! The walk of the checker over all sets, which finds the first of given edges that fails. An edge
+//! leads from a set to the set with one more variable. It fails if the value of the larger set
 //! exceeds that of the smaller one by more than the width of this variable over the smaller set.
-//!
-//! Shared with the search are definitions and laws, the types of problems, the finding of
-//! exchanges, the numbering of pairs of classes, and the counting of the classes that depend on a
-//! variable.
 #![tactic(auto)]
 
 mod class_table;

@@ -1,7 +1,6 @@
 //! Lower bounds on the widths after adding a variable x to a set. A class of the larger set is a
 //! pair of classes of the smaller one: the lower class, where x is 0, and the class where x is 1.
-//! Distinct lower classes belong to distinct pairs, so there are at least as many pairs as lower
-//! classes, and pairs need not be numbered.
+//! There are at least as many pairs as lower classes, so pairs need not be numbered.
 
 ghost use Rattle.std.specs.Prelude.{◌≡◌, ℕ, ◌<◌, ◌≤◌, ◌^◌, length, slice_index, IfOk, IsTrue};
 ghost use Rattle.subfunction_classes.specs.PairTables.{IsPairTable};
@@ -13,11 +12,8 @@ use pair_numbering::EntryPairs;
 use std::alloc::{AllocError, Global};
 use subfunction_classes::{count_with, join_mask};
 
-/// For each class, the variables on which some function depends whose cofactor at `x` = 0 is this
-/// class; 0 if there is no such function. Each function is given by its cofactors by `x`: the
-/// classes at places i and i + 2^`x` of `numbers`, a class table, where bit `x` of i is 0.
-/// `masks[k]` is the mask of class k. Requires that each entry of `numbers` is a class of such a
-/// pair, and below the length of `masks`.
+/// For each class, the variables on which some function with this lower class depends; 0 if there
+/// is none. `masks[k]` is the mask of class k.
 fn lower_masks(
     alloc: Global,
     numbers: &[u32],
@@ -38,12 +34,8 @@ fn lower_masks(
     Ok(labels)
 }
 
-/// Whether a lower bound shows for each variable y, `x` among them, that at least `needed[y]`
-/// distinct functions depend on y. If false, there may be as many nevertheless. Each function is
-/// given by its cofactors by `x`: the classes at places i and i + 2^`x` of `numbers`, a class
-/// table, where bit `x` of i is 0. `masks[k]` is the mask of class k. Requires that each entry of
-/// `numbers` is a class of such a pair, and below the length of `masks`, which is at most 2^20.
-/// `needed` has at most 16 entries; a variable behind its end needs 0.
+/// Whether a lower bound shows for each variable y that at least `needed[y]` distinct functions
+/// depend on y, or 0 behind the end of `needed`. If false, there may be as many nevertheless.
 pub(crate) fn are_wide(
     alloc: Global,
     numbers: &[u32],

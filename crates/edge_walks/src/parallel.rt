@@ -1,5 +1,3 @@
-//! The walk over all sets for the first edge that fails, by many threads or by one.
-
 ghost use Rattle.std.specs.Prelude.{◌≡◌, ◌-◌, ◌*◌, ◌^◌, ◌<◌, ◌≤◌, IfOk};
 ghost use Rattle.edge_walks.specs.Edges.{IsFirstEdge, IsFirstOfParts, part_at};
 ghost use Rattle.edge_walks.specs.Walks.{CanStart, FailsAmong, FailsInBlock};
@@ -16,20 +14,18 @@ use rayon::prelude::*;
 use std::alloc::{AllocError, Global};
 use std::thread::Threads;
 
-/// The sets of one task agree in this many highest variables, or in all if there are fewer.
+/// The sets of one task agree in this many highest variables.
 const PART_VARIABLES: u8 = 6;
 
 /// The class tables of the sets of this many highest variables are made once for all tasks.
 const SHARED_VARIABLES: u8 = 2;
 
-/// If edges are to be tested into at most this many sets, the calling thread walks over them alone.
+/// Over edges into at most this many sets the calling thread walks alone.
 const SETS_FOR_ONE: usize = 32;
 
-/// The members that all sets of task number `place` have among the `end` highest variables, as a
-/// mask whose bit 0 is the lowest of these variables: the `end` lowest bits of `place`, with bits 0
-/// to 2 xored into bits 3 to 5. Different numbers give different masks, and those with few members,
-/// which take longest, are spread over the numbers. Requires `end` to be at most 6, and `place` to
-/// be below 2^`end`.
+/// The members that the sets of task `place` have among the `end` highest variables: its number
+/// with bits 0 to 2 xored into bits 3 to 5. So the sets with few members, which take longest, are
+/// spread over the tasks.
 #[tactic(auto, unfolding(crate::specs::Edges::part_at), using(crate::proofs::Places::part_within))]
 fn part_of(place: usize, end: u8) -> Mask
     requires end { end ≤ 6 }
@@ -41,9 +37,7 @@ fn part_of(place: usize, end: u8) -> Mask
     (mixed & ((1 << end) - 1)) as Mask
 }
 
-/// The first edge in `parts`, by the mask that it leads from and then by variable; None if there
-/// are none. Each entry of `parts` is the result of one task: an edge that fails, or None, or an
-/// error if memory was refused. Err if any entry is an error.
+/// The first edge in the results of tasks. Err if any of them is an error.
 fn first_of_parts(parts: &[Result<Option<Edge>, AllocError>]) -> Result<Option<Edge>, AllocError>
     ensures { IfOk result (IsFirstOfParts parts.now) }
 {
@@ -57,12 +51,9 @@ fn first_of_parts(parts: &[Result<Option<Edge>, AllocError>]) -> Result<Option<E
     Ok(first)
 }
 
-/// The first edge in `root.edges` that fails, by the mask that it leads from and then by variable;
-/// None if none does. Each of 2^`end` tasks tests the edges into the sets that agree in the `end`
-/// highest variables. A task begins at the class table of its sets' members from `y` on, or at
-/// `root.table` if `tops` lacks that. Requires that `root.table` is that of the empty set, that
-/// `root.free` is the number n of variables, that `tops` has class tables of sets without variables
-/// below `y`, that `end` is at most 6 and at most n, and that n - `end` <= `y` < n.
+/// The first edge that fails, found by 2^`end` tasks: each tests the edges into the sets that agree
+/// in the `end` highest variables, and begins at the class table of its members from `y` on, or at
+/// `root.table` if `tops` lacks that.
 fn first_by_tasks<R: Threads + Sync>(
     rt: &R,
     alloc: Global,
@@ -94,14 +85,13 @@ fn first_by_tasks<R: Threads + Sync>(
     first_of_parts(&parts)
 }
 
-/// Who walks over the sets: the threads of a pool, or the calling thread.
+/// Who walks over the sets.
 pub trait Walker {
     // What a walk requires.
     ghost ready: { Self → Type 0 };
 
-    /// The first edge that fails, by the mask that it leads from and then by variable, among those
-    /// that `edges.judged` lists; None if none does. An edge fails if `edges.values` rise along it
-    /// by more than its width.
+    /// The first edge among `edges.judged` that fails, by the mask that it leads from and then by
+    /// variable.
     fn first_of_all(&self, alloc: Global, edges: Edges) -> Result<Option<Edge>, AllocError>
         requires { ready self.now }
         ensures { IfOk result (IsFirstEdge (FailsAmong edges.entry)) };
@@ -110,11 +100,10 @@ pub trait Walker {
 /// Shares the sets among threads by `rayon`; a walk over few sets is left to the calling thread.
 #[derive(Drop)]
 pub struct ThreadPool<'r, R> {
-    /// The runtime, which starts the threads.
     pub rt: &'r R,
 }
 
-/// The walker that is the calling thread alone.
+/// Walks over all sets by the calling thread.
 #[derive(Drop)]
 pub struct CallingThread;
 
@@ -123,9 +112,6 @@ impl<'r, R: Threads + Sync> Walker for ThreadPool<'r, R> {
 
     ghost ready = { λ _. IsSync R.row };
 
-    /// The first edge in `edges` that fails, by the mask that it leads from and then by variable;
-    /// None if none does. Threads share the sets; if edges lead into at most `SETS_FOR_ONE` sets,
-    /// the calling thread tests them alone.
     fn first_of_all(&self, alloc: Global, edges: Edges) -> Result<Option<Edge>, AllocError> {
         if count_judged(edges.judged) <= SETS_FOR_ONE {
             return CallingThread.first_of_all(alloc, edges);
@@ -147,8 +133,6 @@ impl<'r, R: Threads + Sync> Walker for ThreadPool<'r, R> {
 impl Walker for CallingThread {
     ghost ready = { λ _. Unit {0} };
 
-    /// The first edge in `edges` that fails, by the mask that it leads from and then by variable,
-    /// found by the calling thread alone; None if none does.
     fn first_of_all(&self, alloc: Global, edges: Edges) -> Result<Option<Edge>, AllocError> {
         let table = ClassTable::of_problem(alloc, edges.problem)?;
         let root = Position {
@@ -160,11 +144,10 @@ impl Walker for CallingThread {
     }
 }
 
-/// The first edge in `edges` that fails, by the mask that it leads from and then by variable; None
-/// if none does. `walker` tests the edges. If exchanges of variables change no function, value or
-/// edge to test, it first tests a part of the edges, of which one fails if any edge does. If the
-/// first of these to fail leads from the mask m, the first of all leads from m or a smaller mask;
-/// so it then tests only the edges into sets into which an edge can lead from such a mask.
+/// The first edge in `edges` that fails. If variables may be exchanged, `walker` first tests a part
+/// of the edges, of which one fails if any does. If the first of these leads from the mask m, the
+/// first of all leads from m or a smaller mask, so only edges into sets that such masks lead to are
+/// then tested.
 pub fn first_failure<W: Walker>(
     walker: &W,
     alloc: Global,

@@ -1,5 +1,5 @@
-//! Takes repeated rows out of a class table's entries. A row here is 2^y entries that stand one
-//! behind the other, from a multiple of 2^y on.
+//! Takes repeated rows out of a class table's entries. A row is 2^y entries that stand one behind
+//! the other, from a multiple of 2^y on.
 
 ghost use Rattle.std.specs.Prelude.{◌≡◌, ℕ, ◌*◌, ◌^◌, ◌<◌, ◌≤◌, ◌++◌, List, [], length, IfOk, IfSome, IsTrue, OnOk};
 ghost use Rattle.edge_walks.specs.Rows.{AreWholeRows, IsShortened};
@@ -10,8 +10,8 @@ use std::alloc::{AllocError, Global};
 /// The factor of Fibonacci hashing: 2^64 divided by the golden ratio, rounded down.
 const SPREAD: u64 = 0x9E37_79B9_7F4A_7C15;
 
-/// The bucket of `row`, a number below `buckets`: a hash of the entries in whole groups of four.
-/// Requires `buckets` to be above 0, and expects a power of two; else some buckets stay empty.
+/// The bucket of `row`: a hash of the entries in whole groups of four. If `buckets` is no power of
+/// two, some stay empty.
 fn bucket_of(row: &[u32], buckets: usize) -> usize
     requires some { 0 < buckets }
     ensures within { result < buckets }
@@ -30,8 +30,7 @@ fn bucket_of(row: &[u32], buckets: usize) -> usize
     (key >> 40) as usize & (buckets - 1)
 }
 
-/// Whether `row` is row number `place` of `kept`, counted from 1, where `kept` is cut into rows as
-/// long as `row`. False if `place` is 0 or `kept` has fewer rows. Requires `row` not to be empty.
+/// Whether `row` is row number `place` of `kept`, counted from 1.
 fn is_kept(kept: &[u32], place: usize, row: &[u32]) -> bool
     requires some { 0 < length row.now }
     ensures { IsTrue result → (front : List ℕ) × (between : List ℕ) × (rows : ℕ)
@@ -46,9 +45,8 @@ fn is_kept(kept: &[u32], place: usize, row: &[u32]) -> bool
     before == row
 }
 
-/// Whether two equal rows of 2^`y` entries are found in the first half of `numbers`. Some may be
-/// missed: a wrong answer costs time or memory only. Requires that `numbers` has whole rows, at
-/// most 2^20 entries, and that `y` is at most 16.
+/// Whether two equal rows are found in the first half of `numbers`. Some may be missed, which costs
+/// time or memory only.
 fn has_repeat(alloc: Global, numbers: &[u32], y: VarIx) -> Result<bool, AllocError>
     requires variable { y ≤ 16 }
     requires few { length numbers.now ≤ 2 ^ 20 }
@@ -68,11 +66,8 @@ fn has_repeat(alloc: Global, numbers: &[u32], y: VarIx) -> Result<bool, AllocErr
     Ok(false)
 }
 
-/// Appends to `kept` the rows of `numbers`, of 2^`y` entries each. A hash puts each row into one of
-/// `places.len()` buckets; it is left out if it equals the last row kept of its bucket b.
-/// `places[b]` becomes the number of that row in `kept`, counted from 1. Before, `kept` must be
-/// empty and `places` not, and `places` is expected to be all 0. `numbers` must be whole rows, at
-/// most 2^20 entries, and `y` at most 16. If memory is refused, only some rows are kept.
+/// Appends rows of `numbers` to `kept`, without those that equal the last row kept of their bucket
+/// b, whose number, counted from 1, is `places[b]`. If memory is refused, only some rows are kept.
 fn keep_rows(
     numbers: &[u32],
     y: VarIx,
@@ -98,9 +93,8 @@ fn keep_rows(
     Ok(())
 }
 
-/// The entries of `numbers` without rows of 2^`y` entries that repeat an earlier row; some repeats
-/// may stay. None if no repeat is found in the first half. Requires that `numbers` are whole rows,
-/// at most 2^20 entries, and that `y` is at most 16.
+/// The entries of `numbers` without rows that repeat an earlier row; some repeats may stay. None if
+/// no repeat is found in the first half.
 pub(crate) fn without_repeats(
     alloc: Global,
     numbers: &[u32],

@@ -1,5 +1,3 @@
-//! Edges that lead from small masks.
-
 ghost use Rattle.std.specs.Prelude.{◌≡◌, ◌+◌, ◌^◌, ◌≤◌, ℕ, IfOk, length};
 ghost use Rattle.edge_walks.specs.FewerEdges.{AreFewer, IsPast};
 
@@ -17,9 +15,7 @@ fn smallest_source(set: Mask) -> Mask
     set - (1 << highest)
 }
 
-/// A copy of `judged` in which the entry of a set is 0 if edges into it lead only from masks above
-/// `last`. `judged[m]` is the mask of the variables of the edges to test into the set with the mask
-/// m. Requires at most 65,536 entries.
+/// A copy of `judged` without the edges into sets to which only masks above `last` lead.
 pub(crate) fn edges_up_to(
     alloc: Global,
     judged: &[Mask],

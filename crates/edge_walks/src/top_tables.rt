@@ -14,8 +14,8 @@ use pair_numbering::PairMemory;
 use std::alloc::{AllocError, Global};
 
 /// The class table of the set of `at.table` with the variable `at.free` - 1 added. None if no edge
-/// is to be tested into this larger set with none, some or all of the smaller variables added.
-/// Requires 0 < `at.free`. `memory` is working memory.
+/// is to be tested into this set with none, some or all of the smaller variables added. `memory` is
+/// working memory.
 fn judged_upper_table<'t>(
     memory: &mut PairMemory,
     at: Position<'_, 't>,
@@ -31,12 +31,9 @@ fn judged_upper_table<'t>(
     Ok(Some(larger))
 }
 
-/// Adds the variable `root.free` - 1 to the set of `root.table`, and to the sets of the tables in
-/// `tops`; appends the class tables of these larger sets to `tops`. A table is left out if no edge
-/// is to be tested into its set with none, some or all of the smaller variables added. Requires
-/// `root.free` to be above 0, and the sets of the tables in `tops` to have no variable below
-/// `root.free`. If memory is refused, only some tables may be appended. `memory` is working
-/// memory.
+/// Adds the variable `root.free` - 1 to the sets of `root.table` and of `tops`, and appends the
+/// class tables of these larger sets that `judged_upper_table` gives to `tops`. If memory is
+/// refused, only some may be appended.
 fn add_variable<'t>(
     memory: &mut PairMemory,
     root: Position<'_, 't>,
@@ -66,9 +63,7 @@ fn add_variable<'t>(
 }
 
 /// The class tables of the non-empty sets without variables below `y` that the walk needs. It needs
-/// a set if an edge is to be tested into it with none, some or all of the variables added that are
-/// smaller than its members. Expects `root.table` to be that of the empty set. Requires `y` <=
-/// `root.free`.
+/// a set if an edge is to be tested into it with none, some or all smaller variables added.
 pub(crate) fn top_tables<'t>(
     alloc: Global,
     root: Position<'_, 't>,
@@ -91,11 +86,9 @@ pub(crate) fn top_tables<'t>(
     Ok(tops)
 }
 
-/// The first edge of those to test in `root.edges` that fails and leads into the set `part`, or
-/// into `part` with variables below `end` added; None if none does. Edges are ordered by the mask
-/// from which they lead, then by variable. `root` is the place where a walk over all sets begins.
-/// `tops` has class tables from which it can begin later: of sets without variables below `y`.
-/// Requires that `part` has no variable below `end`, and that `end` <= `y`, which is a variable.
+/// The first edge to test that fails and leads into `part` with none, some or all of the variables
+/// below `end` added. `tops` has class tables, of sets without variables below `y`, from which the
+/// walk can begin later than at `root`.
 pub(crate) fn first_from_tops(
     alloc: Global,
     root: Position,

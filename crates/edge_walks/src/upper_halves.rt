@@ -12,9 +12,8 @@ use crate::walk::{has_judged, has_upper_judged};
 use order_model::{Mask, VarIx, contains};
 use std::alloc::{AllocError, Global};
 
-/// For each variable y, the least width with which the edge by y into `set` doesn't fail: how much
-/// `edges.values` rise along it, or 0 if they don't rise. It is 0, too, if `edges.judged` lacks
-/// this edge. Requires `set` to be a set of the problem's variables.
+/// For each variable y, how much the values rise along the edge by y into `set`: the least width
+/// with which it doesn't fail. 0 if the edge isn't to be tested.
 fn needed_widths(alloc: Global, edges: Edges, set: Mask) -> Result<Vec<u32>, AllocError>
     requires { set < 2 ^ edges.problem.now.inputs }
     ensures long { IfOk result (λ v. length v.items ≡ edges.entry.problem.now.inputs) }
@@ -36,9 +35,6 @@ fn needed_widths(alloc: Global, edges: Edges, set: Mask) -> Result<Vec<u32>, All
 }
 
 /// Whether an edge is to be tested into a set whose mask is above `set` and below `set` + 2^`y`.
-/// `judged[m]` is the mask of the variables of the edges to test into the set with the mask m.
-/// Requires `y` to be at most 16, and `judged` to have an entry for each of these masks, but at
-/// most 2^16.
 fn has_later(judged: &[Mask], set: Mask, y: VarIx) -> bool
     requires variable { y ≤ 16 }
     requires within { set + 2 ^ y ≤ length judged.now }
@@ -53,9 +49,8 @@ fn has_later(judged: &[Mask], set: Mask, y: VarIx) -> bool
     false
 }
 
-/// Whether `edges.values[set]` plus the number of variables outside `set` is at least the value of
-/// the set of all variables. The certificate then most likely does not list `set`. Requires `set`
-/// to be a set of the problem's variables.
+/// Whether the certificate most likely does not list `set`: its value plus the number of variables
+/// outside is at least the value of the set of all variables.
 fn is_hardly_listed(edges: Edges, set: Mask) -> bool
     requires { set < 2 ^ edges.problem.now.inputs }
 {
@@ -65,11 +60,9 @@ fn is_hardly_listed(edges: Edges, set: Mask) -> bool
     u64::from(edges.values[set as usize]) + u64::from(outside) >= u64::from(total)
 }
 
-/// Whether lower bounds on widths show that no edge to test fails into the set of `at.table` with
-/// the variable x = `at.free` - 1, and none or some smaller ones, added. If false, one may fail or
-/// not. It is false at once in two cases: an edge is to be tested into such a set with a smaller
-/// variable added; or the value of the set with x alone added, plus the number of variables outside
-/// it, is below the value of the set of all variables. Requires 0 < `at.free`.
+/// Whether lower bounds on widths show that no edge to test into the upper half fails. If false,
+/// one may fail or not. It is false at once if an edge is to be tested into a set of the half other
+/// than the smallest, or if the certificate likely lists the smallest.
 fn passes_by_lower_classes(alloc: Global, at: Position) -> Result<bool, AllocError>
     requires { 0 < at.free }
     ensures { IfOk result (λ none. IsTrue none → IsFirstEdge (FailsInUpper at.entry) None) }
@@ -84,9 +77,8 @@ fn passes_by_lower_classes(alloc: Global, at: Position) -> Result<bool, AllocErr
     table.tells_wide(alloc, x, &needed)
 }
 
-/// Whether it can be shown without another table that no edge to test fails into the set of
-/// `at.table` with the variable `at.free` - 1, and none or some smaller ones, added. If false, one
-/// may fail or not. Requires 0 < `at.free`.
+/// Whether it can be shown without another table that no edge to test into the upper half fails. If
+/// false, one may fail or not.
 pub(crate) fn upper_half_passes(alloc: Global, at: Position) -> Result<bool, AllocError>
     requires { 0 < at.free }
     ensures { IfOk result (λ passes. IsTrue passes → IsFirstEdge (FailsInUpper at.entry) None) }

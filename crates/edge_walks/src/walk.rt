@@ -1,5 +1,3 @@
-//! The walk that finds the first edge that fails. Sets with common high variables share tables.
-
 ghost use Rattle.std.specs.Prelude.{◌≡◌, ℕ, ◌+◌, ◌-◌, ◌*◌, ◌/◌, ◌^◌, ◌<◌, ◌≤◌, false, None, length, slice_index, IfOk};
 ghost use Rattle.edge_walks.specs.Edges.{IsFirstEdge, IsFirstOf};
 ghost use Rattle.edge_walks.specs.Blocks.{IsBlock, IsPartTable, StandsAt, table_or};
@@ -12,8 +10,7 @@ use order_model::{Mask, VarIx, contains};
 use pair_numbering::PairMemory;
 use std::alloc::AllocError;
 
-/// The one of two edges that comes first, by the mask that it leads from and then by variable. If
-/// one is None, the other; None if both are.
+/// The first of two edges, of which either may be missing.
 pub(crate) fn first_of(a: Option<Edge>, b: Option<Edge>) -> Option<Edge>
     ensures { IsFirstOf a b result }
 {
@@ -32,9 +29,7 @@ pub(crate) fn first_of(a: Option<Edge>, b: Option<Edge>) -> Option<Edge>
     Some(one)
 }
 
-/// Whether an edge is to be tested into a set whose mask is at least `set` and below `set` + 2^`y`.
-/// `judged[m]` is the mask of the variables of the edges to test into the set with the mask m.
-/// Requires `y` to be at most 16, and `judged` to have an entry for each of these masks.
+/// Whether an edge is to be tested into a set whose mask is from `set` on and below `set` + 2^`y`.
 pub(crate) fn has_judged(judged: &[Mask], set: Mask, y: VarIx) -> bool
     requires variable { y ≤ 16 }
     requires within { set + 2 ^ y ≤ length judged.now }
@@ -49,8 +44,7 @@ pub(crate) fn has_judged(judged: &[Mask], set: Mask, y: VarIx) -> bool
     false
 }
 
-/// Whether an edge is to be tested into the set of `at.table` with the variable `at.free` - 1, and
-/// none or some smaller ones, added. Requires 0 < `at.free`.
+/// Whether an edge is to be tested into the upper half of the sets where the walk stands.
 pub(crate) fn has_upper_judged(at: Position) -> bool
     requires { 0 < at.free }
     ensures { result ≡ false → IsFirstEdge (FailsInUpper at.entry) None }
@@ -59,8 +53,8 @@ pub(crate) fn has_upper_judged(at: Position) -> bool
     has_judged(at.edges.judged, at.table.set() + (1 << x), x)
 }
 
-/// The class table of the set of `at.table` with the variable `at.free` - 1 added. Requires 0 <
-/// `at.free`. `memory` is working memory.
+/// The class table of the set of `at.table` with the variable `at.free` - 1 added. `memory` is
+/// working memory.
 pub(crate) fn upper_table<'t>(
     memory: &mut PairMemory,
     at: Position<'_, 't>,
@@ -72,8 +66,8 @@ pub(crate) fn upper_table<'t>(
     at.table.with_variable(memory, at.free - 1)
 }
 
-/// The first edge in `at.edges` that leads into the set of `at.table` and fails; None if none does.
-/// Edges by larger variables come first: they lead from smaller masks. Requires `at.free` to be 0.
+/// The first edge into the set of `at.table` that fails. Edges by larger variables come first: they
+/// lead from smaller masks.
 fn first_into(at: Position) -> Option<Edge>
     requires { at.free ≡ 0 }
     ensures { IsFirstEdge (FailsAt at.entry) result }
@@ -93,10 +87,8 @@ fn first_into(at: Position) -> Option<Edge>
     None
 }
 
-/// The first edge in `at.edges`, by the mask that it leads from and then by variable, that fails
-/// and leads into the set of `at.table` with none, some or all of the variables below `at.free`
-/// added; None if none does. `short` is true if repeated rows of the table were looked for already.
-/// `memory` is working memory.
+/// The first edge that fails and leads into the sets where the walk stands. `short` is true if
+/// repeated rows of the table were looked for already. `memory` is working memory.
 pub(crate) fn first_failing(
     memory: &mut PairMemory,
     at: Position,
@@ -142,8 +134,7 @@ pub(crate) fn first_failing(
 }
 
 /// The class table of the members of `part` that are not below `end`; None if this is the set of
-/// `at.table`. Requires that the set of `at.table` is the members of `part` that are not below
-/// `at.free`, and that `end` <= `at.free`. `memory` is working memory.
+/// `at.table`. `memory` is working memory.
 fn part_table<'t>(
     memory: &mut PairMemory,
     at: Position<'_, 't>,
@@ -168,11 +159,8 @@ fn part_table<'t>(
     Ok(own)
 }
 
-/// The first edge in `at.edges`, by the mask that it leads from and then by variable, that fails
-/// and leads into `part` with none, some or all of the variables below `end` added; None if none
-/// does. Requires that `part` has no variable below `end`, that the set of `at.table` is the
-/// members of `part` that are not below `at.free`, and that `end` <= `at.free`. `memory` is working
-/// memory.
+/// The first edge that fails and leads into `part` with none, some or all of the variables below
+/// `end` added. `memory` is working memory.
 pub(crate) fn first_in_part(
     memory: &mut PairMemory,
     at: Position,

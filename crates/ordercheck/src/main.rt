@@ -10,9 +10,8 @@ use std::process::ExitCode;
 use std::rt::Files;
 use std::thread::Threads;
 
-/// Runs ordercheck with the words of the command line, and returns its exit status. The verdict
-/// goes to `out`, messages to `err`. Err is the exit status if ordercheck can't be called: 2 if a
-/// word of the command line isn't UTF-8, 4 if memory is refused.
+/// Runs ordercheck with the words of the command line, and returns its exit status. Err is the
+/// status if it can't be called: 2 if a word isn't UTF-8, 4 if memory is refused.
 fn ordercheck_status<
     R: Env + Files + AllocGlobal + Threads + Sync,
     W: CountedWrite,
@@ -23,7 +22,6 @@ fn ordercheck_status<
     Ok(ordercheck(rt, &words, out, err))
 }
 
-/// Runs ordercheck with standard output and standard error, and ends with its exit status.
 fn main(rt: HostRuntime) -> ExitCode {
     let mut out = Counting::new(rt.stdout());
     let mut err = Counting::new(rt.stderr());
