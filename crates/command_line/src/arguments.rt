@@ -10,8 +10,7 @@ use clap::error::ErrorKind;
 use clap::{Arg, Command};
 use std::alloc::Global;
 
-/// A required argument of a command line, the path of a file. `name` is its name, and `help` its
-/// line in the program's help.
+/// A required argument: the path of a file.
 pub(crate) fn required_path<'a>(alloc: Global, name: &'a str, help: &'a str) -> Arg<'a>
     ensures rule { rule_of result ≡ required_rule name.entry.now }
     ensures local { result.global ≡ false }

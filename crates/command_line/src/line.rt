@@ -53,8 +53,7 @@ pub struct Line<'a> {
     pub cert: Option<&'a str>,
 }
 
-/// The option `--workers W` of minorder: W is a number from 1 to 64, and 4 if the option isn't
-/// given.
+/// `--workers W`: a number from 1 to 64, by default 4.
 fn workers_option<'a>(alloc: Global) -> Arg<'a>
     ensures rule { rule_of result ≡ workers_rule }
     ensures local { result.global ≡ false }
@@ -67,8 +66,7 @@ fn workers_option<'a>(alloc: Global) -> Arg<'a>
         .default_value("4")
 }
 
-/// The option whose name is `name`, written with `--` before it, and which takes one value. In the
-/// program's help, its line shows `value` in place of the value, and then the text `help`.
+/// The option `--NAME` with one value, shown in the program's help as `value`, and then `help`.
 fn option<'a>(alloc: Global, name: &'a str, value: &'a str, help: &'a str) -> Arg<'a>
     ensures rule { rule_of result ≡ option_rule name.entry.now }
     ensures local { result.global ≡ false }
@@ -130,8 +128,7 @@ fn with_options<'a>(alloc: Global, command: Command<'a>) -> Result<Command<'a>, 
     ))
 }
 
-/// The command line of minorder, as clap's `Command`: all its options, and the required argument
-/// FILE.
+/// The command line of minorder, as clap's `Command`.
 fn command<'a>(alloc: Global) -> Result<Command<'a>, AllocError>
     ensures { IfOk result (λ c. app_of c ≡ minorder) }
 {

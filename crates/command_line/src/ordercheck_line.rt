@@ -20,7 +20,7 @@ pub struct CheckLine<'a> {
     pub cert: &'a str,
 }
 
-/// The command line of ordercheck, as clap's `Command`: the arguments FILE and CERT, both required.
+/// The command line of ordercheck, as clap's `Command`.
 fn command<'a>(alloc: Global) -> Result<Command<'a>, AllocError>
     ensures { IfOk result (λ c. app_of c ≡ ordercheck) }
 {
@@ -39,8 +39,7 @@ fn command<'a>(alloc: Global) -> Result<Command<'a>, AllocError>
         ))
 }
 
-/// The command line of ordercheck that `matches`, clap's result, contains. None if one of the two
-/// paths is missing.
+/// The command line of ordercheck that clap found. None if clap let a missing path through.
 fn line_of<'a>(matches: &ArgMatches<'a>) -> Option<CheckLine<'a>>
     ensures line { IfSome result (IsCheckLineBy (first_value (found_of matches.now))) }
     ensures lacks { IsNone result →

@@ -35,8 +35,6 @@ impl Usage {
 impl From<Error> for Usage {
     ghost from_gives = { λ error usage. usage ≡ usage_kind error };
 
-    /// `Information` for clap's requests for help and for the version, `OutOfMemory` if clap was
-    /// refused memory, and `Refused` for any other error of clap.
     fn from(error: Error) -> Usage {
         match error.kind() {
             ErrorKind::DisplayHelp | ErrorKind::DisplayVersion => Usage::Information(error),
@@ -51,7 +49,6 @@ impl From<AllocError> for Usage {
 
     ghost from_gives = { λ _ usage. usage ≡ OutOfMemory };
 
-    /// `OutOfMemory`: an allocation was refused.
     fn from(_: AllocError) -> Usage {
         Usage::OutOfMemory
     }

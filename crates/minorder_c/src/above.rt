@@ -1,5 +1,3 @@
-//! The pairs that an order has to keep.
-
 ghost use Rattle.std.specs.Prelude.{◌≡◌, ◌≤◌, IfOk, IfErr, OnOk};
 ghost use Rattle.definitions.specs.KeptPairs.{CanBeKept};
 ghost use Rattle.definitions.specs.Pairs.{sorted_pairs};
@@ -18,7 +16,6 @@ pub(crate) struct AbovePair {
     pub below: u8,
 }
 
-/// The pairs `given` as tuples (above, below) of variables, in the same order.
 fn numbers_of(alloc: Global, given: &[AbovePair]) -> Result<Vec<(VarIx, VarIx)>, AllocError>
     ensures { IfOk result (λ v. v.items ≡ pairs_given given.now) }
 {
@@ -30,9 +27,7 @@ fn numbers_of(alloc: Global, given: &[AbovePair]) -> Result<Vec<(VarIx, VarIx)>,
     Ok(pairs)
 }
 
-/// The pairs `given`, without duplicates, as pairs that orders of the variables below `n` have to
-/// keep. Err is `Pairs` if no such order keeps them or a variable of theirs isn't below `n`, else
-/// `OutOfMemory`. Requires `n` to be from 1 to 16.
+/// The pairs `given`, without duplicates, for orders of the variables below `n`.
 pub(crate) fn kept_pairs(alloc: Global, given: &[AbovePair], n: u8) -> Result<Pairs, Refusal>
     requires some { 1 ≤ n }
     requires few { n ≤ 16 }

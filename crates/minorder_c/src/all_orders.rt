@@ -1,5 +1,3 @@
-//! What the figures and the sizes of all orders are found from.
-
 ghost use Rattle.std.specs.Prelude.{IfOk, IfErr, OnOk};
 ghost use Rattle.definitions.specs.AllOrders.{AreAllWidths};
 ghost use Rattle.definitions.specs.KeptPairs.{CanBeKept};
@@ -16,8 +14,7 @@ use small_search::is_small;
 use std::alloc::{AllocError, Global};
 use truth_table::Tables;
 
-/// A row for each set of variables, at its mask: at each member x the width of x over the other
-/// members, and 0 elsewhere.
+/// For each set, at its mask and each member x: the width of x over the other members, 0 elsewhere.
 pub(crate) fn rows_of_all_sets(
     alloc: Global,
     problem: &Problem,
@@ -37,14 +34,12 @@ pub(crate) fn rows_of_all_sets(
 pub(crate) struct AllOrders {
     pub tables: Tables,
     pub pairs: Pairs,
-    /// For each set, at its mask: at each member x the width of x over the others.
+    /// At each mask and member x: the width of x over the other members.
     pub widths: Vec<WidthRow>,
 }
 
 impl AllOrders {
-    /// Those of `given` and of the pairs `above`. Err is `Shape` if `given` does not have exactly
-    /// the words of 1 to 16 truth tables of 1 to 16 inputs. Otherwise it is `Pairs` if no order of
-    /// the inputs keeps the pairs, or `OutOfMemory`.
+    /// Those of `given` and of the pairs `above`.
     pub(crate) fn of(
         alloc: Global,
         given: &GivenTables,

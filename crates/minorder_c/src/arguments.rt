@@ -1,5 +1,3 @@
-//! The arguments of calls.
-
 ghost use Rattle.std.specs.Prelude.{◌≡◌, ◌≤◌, ◌↔◌, length, IsTrue, IfOk, IfErr, OnOk};
 ghost use Rattle.definitions.specs.Orders.{IsOrder};
 ghost use Rattle.minorder_c.specs.Answers.{AreTables, HasCallShape, IsInRange, given, tables_in};
@@ -11,8 +9,8 @@ use order_model::{BadOrder, Order};
 use std::alloc::Global;
 use truth_table::Tables;
 
-/// What a call is given as truth tables: words, and the numbers of inputs and outputs. The numbers
-/// may be out of range, and the words too few or too many.
+/// What a call is given as truth tables. The numbers may be out of range, and the words too few or
+/// too many.
 #[derive(Clone, Copy, Debug)]
 pub(crate) struct GivenTables<'a> {
     pub words: &'a [u64],
@@ -21,8 +19,6 @@ pub(crate) struct GivenTables<'a> {
 }
 
 impl<'a> GivenTables<'a> {
-    /// Puts together the truth tables of a call from C: their words, and the numbers of inputs and
-    /// outputs. Nothing is checked.
     pub(crate) fn of(words: &'a [u64], inputs: u32, outputs: u32) -> GivenTables<'a>
         ensures { result ≡ given words.entry inputs outputs }
     {
@@ -34,15 +30,13 @@ impl<'a> GivenTables<'a> {
     }
 }
 
-/// Whether the numbers of inputs and outputs of `given` are both from 1 to 16.
 pub(crate) fn is_in_range(given: &GivenTables) -> bool
     ensures { IsTrue result ↔ IsInRange given.now }
 {
     (1..=16).contains(&given.inputs) && (1..=16).contains(&given.outputs)
 }
 
-/// Whether `given` has 1 to 16 inputs, 1 to 16 outputs, and exactly the words of their packed truth
-/// tables.
+/// Whether `given` has exactly the words of its truth tables.
 pub(crate) fn are_tables(given: &GivenTables) -> bool
     ensures { IsTrue result ↔ AreTables given.now }
 {
@@ -50,18 +44,15 @@ pub(crate) fn are_tables(given: &GivenTables) -> bool
         && given.words.len() == given.outputs as usize * words_per_table(given.inputs as u8)
 }
 
-/// Whether `given` has exactly the words of 1 to 16 truth tables of 1 to 16 inputs, and both
-/// `places`, the length of a slice for an order, and `counts`, that of a slice for level counts,
-/// are the number of inputs.
+/// Whether `places`, the length of a slice for an order, and `counts`, that of one for level
+/// counts, fit the truth tables.
 pub(crate) fn has_call_shape(given: &GivenTables, places: usize, counts: usize) -> bool
     ensures { IsTrue result ↔ HasCallShape given.now places counts }
 {
     places == given.inputs as usize && counts == given.inputs as usize && are_tables(given)
 }
 
-/// The truth tables `given`. Err is `Shape` if the number of inputs or that of outputs isn't from 1
-/// to 16, or there are more or fewer words than the truth tables have. Otherwise it is
-/// `OutOfMemory`.
+/// The truth tables `given`.
 pub(crate) fn tables_of(alloc: Global, given: &GivenTables) -> Result<Tables, Refusal>
     ensures there { OnOk result (AreTables given.now) }
     ensures tables { IfOk result (λ t. t ≡ tables_in given.now) }
@@ -76,9 +67,7 @@ pub(crate) fn tables_of(alloc: Global, given: &GivenTables) -> Result<Tables, Re
     }
 }
 
-/// The truth tables `given`. Err is `Shape` if these are not exactly the words of 1 to 16 truth
-/// tables of 1 to 16 inputs, or if `places`, the length of a slice for an order, or `counts`, that
-/// of a slice for level counts, isn't the number of inputs. Otherwise it is `OutOfMemory`.
+/// The truth tables `given`, if slices of `places` and `counts` entries fit.
 pub(crate) fn tables_for(
     alloc: Global,
     given: &GivenTables,
@@ -95,8 +84,7 @@ pub(crate) fn tables_for(
     tables_of(alloc, given)
 }
 
-/// The order `variables`, top first. Err is `Order` if `variables` doesn't have each variable below
-/// its length exactly once, else `OutOfMemory`. Requires 1 to 16 variables.
+/// The order `variables`, top first.
 pub(crate) fn order_of(alloc: Global, variables: &[u8]) -> Result<Order, Refusal>
     requires some { 1 ≤ length variables.now }
     requires few { length variables.now ≤ 16 }
@@ -120,10 +108,7 @@ pub(crate) struct Arguments {
     pub(crate) order: Order,
 }
 
-/// The truth tables `given` and the order `variables`, top first. Err is `Shape` if `given` does
-/// not have exactly the words of 1 to 16 truth tables of 1 to 16 inputs, or if the length of
-/// `variables`, or `counts`, which is that of a slice for level counts, isn't the number of inputs.
-/// Otherwise it is `Order` if `variables` doesn't have each input exactly once, or `OutOfMemory`.
+/// The truth tables `given` and the order `variables`, if a slice of `counts` entries fits.
 pub(crate) fn arguments_of(
     alloc: Global,
     given: &GivenTables,

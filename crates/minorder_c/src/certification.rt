@@ -1,5 +1,3 @@
-//! The certificate of the first order of the fewest nodes.
-
 ghost use Rattle.std.specs.Prelude.{◌≡◌, ◌≢◌, string_bytes, IfOk, IfErr, OnOk};
 ghost use Rattle.definitions.specs.KeptPairs.{CanBeKept};
 ghost use Rattle.solutions.specs.Solutions.{IsSolution};
@@ -20,10 +18,8 @@ use small_search::{is_small, solve};
 use std::alloc::{AllocError, Global};
 use truth_table::Tables;
 
-/// The first order of the fewest nodes among those that keep `pairs`, and the cells of its
-/// certificate. Unless there are at most 10 inputs and the truth tables have at most 8,192 entries
-/// together (`is_small`), the size of a sifted order bounds the search. Requires `pairs` to be of
-/// the tables' variables.
+/// The first order of the fewest nodes, and the cells of its certificate. A sifted order bounds the
+/// search, unless there are at most 10 inputs and 8,192 table entries (`is_small`).
 fn solution(alloc: Global, tables: &Tables, pairs: Pairs) -> Result<Solution, AllocError>
     requires { pairs.inputs ≡ tables.now.inputs }
     ensures { IfOk result (IsSolution tables.now pairs.pairs) }
@@ -37,8 +33,6 @@ fn solution(alloc: Global, tables: &Tables, pairs: Pairs) -> Result<Solution, Al
     Ok(solution)
 }
 
-/// The text of the certificate of the first order of the fewest nodes among those that keep
-/// `pairs`. Requires `pairs` to be of the tables' variables.
 fn text_of(alloc: Global, tables: &Tables, pairs: Pairs) -> Result<String, AllocError>
     requires { pairs.inputs ≡ tables.now.inputs }
     ensures { IfOk result
@@ -51,10 +45,7 @@ fn text_of(alloc: Global, tables: &Tables, pairs: Pairs) -> Result<String, Alloc
     Ok(text)
 }
 
-/// The text of the certificate of the first order of the fewest nodes of the truth tables `given`,
-/// among the orders that keep the pairs `above`. Err is `Shape` if `given` does not have exactly
-/// the words of 1 to 16 truth tables of 1 to 16 inputs. Otherwise it is `Pairs` if no order of the
-/// inputs keeps the pairs, or `OutOfMemory`.
+/// The certificate's text for the truth tables `given`, under the pairs `above`.
 fn certificate(alloc: Global, given: &GivenTables, above: &[AbovePair]) -> Result<String, Refusal>
     ensures shape { OnOk result (AreTables given.now) }
     ensures kept { OnOk result (CanBeKept given.now.inputs (pairs_given above.now)) }
@@ -68,11 +59,8 @@ fn certificate(alloc: Global, given: &GivenTables, above: &[AbovePair]) -> Resul
     Ok(text)
 }
 
-/// Writes the certificate of the first order of the fewest nodes of the packed truth tables
-/// `tables`, among those that keep the pairs `above`, to the front of `text`, and its length to
-/// `size`. Returns 0, or 7 if `text` is too short; then only `size` is written. A refused call
-/// writes nothing and returns 2 if `inputs` or `outputs` isn't from 1 to 16 or the length of
-/// `tables` doesn't match, 4 if memory is refused, 8 if no order of the inputs keeps the pairs.
+/// Writes the certificate of the first order of the fewest nodes to the front of `text`, and its
+/// length to `size`. Returns 7 if `text` is too short; then only `size` is written.
 #[unsafe(no_mangle)]
 pub extern "C" fn minorder_certify_with_pairs(
     alloc: Global,

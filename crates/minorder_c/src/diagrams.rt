@@ -1,5 +1,3 @@
-//! Reduced diagrams under any order.
-
 ghost use Rattle.std.specs.Prelude.{◌≡◌, ◌≢◌, length, IfOk, IfErr, OnOk};
 ghost use Rattle.definitions.specs.Orders.{IsOrder};
 ghost use Rattle.minorder_c.specs.Answers.{given};
@@ -13,11 +11,7 @@ use order_model::VarIx;
 use std::alloc::Global;
 use truth_table::{DiagramMemory, NumberedNode, make_diagram};
 
-/// The reduced diagram under `order` of the truth tables `given`, with numbered nodes. Err is
-/// `Shape` if `given` does not have exactly the words of 1 to 16 truth tables of 1 to 16 inputs,
-/// the length of `order` isn't the number of inputs, or `roots`, the length of a slice for roots,
-/// isn't that of outputs. Otherwise it is `Order` if `order` doesn't have each input exactly once,
-/// or `OutOfMemory`.
+/// The reduced diagram under `order`, with numbered nodes, if a slice of `roots` entries fits.
 fn diagram_of(
     alloc: Global,
     given: &GivenTables,
@@ -51,11 +45,9 @@ fn diagram_of(
     Ok(diagram)
 }
 
-/// Writes the reduced diagram of the packed truth tables `tables` under `order`: its nodes to the
-/// front of `nodes`, lowest first, their number to `count`, and each output's root to `roots`: 0 or
-/// 1 for a terminal, k + 2 for node k. Returns 0, or 7 if `nodes` is too short; then only `count`
-/// is written. A refused call writes nothing and returns 2 if `inputs` or `outputs` isn't from 1 to
-/// 16 or a length doesn't match, 4 if memory is refused, 5 if `order` is no order.
+/// Writes the reduced diagram under `order`: its nodes to the front of `nodes`, lowest first, their
+/// number to `count`, and each output's root to `roots`: 0 or 1 for a terminal, k + 2 for node k.
+/// Returns 7 if `nodes` is too short; then only `count` is written.
 #[unsafe(no_mangle)]
 pub extern "C" fn minorder_diagram_with_lengths(
     alloc: Global,

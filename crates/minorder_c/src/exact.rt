@@ -1,5 +1,3 @@
-//! The order of the fewest nodes.
-
 ghost use Rattle.std.specs.Prelude.{◌≡◌, ◌≢◌, ◌⊎◌, [], length, IfOk, IfErr, OnOk, OnErr};
 ghost use Rattle.definitions.specs.KeptPairs.{CanBeKept};
 ghost use Rattle.definitions.specs.Pairs.{sorted_pairs};
@@ -17,10 +15,7 @@ use small_search::{SmallSearch, Workspace, are_few, write_optimum};
 use std::alloc::{AllocError, Global};
 use truth_table::Tables;
 
-/// The first order of the fewest nodes among those that keep `pairs`, with its level counts and its
-/// size, found by a search by layers. The size of a sifted order bounds the search. Requires
-/// `given` to have exactly the words of 1 to 16 truth tables of 1 to 16 inputs, and `pairs` to be
-/// of these inputs.
+/// The first order of the fewest nodes, found by a search by layers that a sifted order bounds.
 fn searched(alloc: Global, given: &GivenTables, pairs: Pairs) -> Result<SizedOrder, AllocError>
     requires tables { AreTables given.now }
     requires pairs { pairs.inputs ≡ given.now.inputs }
@@ -32,11 +27,8 @@ fn searched(alloc: Global, given: &GivenTables, pairs: Pairs) -> Result<SizedOrd
     find_optimum_alone(alloc, tables.problem(), bound)
 }
 
-/// Writes the first order of the fewest nodes among those that keep `pairs` to `order`, top first,
-/// and its level counts to `levels`, and returns its size. What `workspace`, working memory, holds
-/// before doesn't matter. If memory is refused, `order` and `levels` stay. Requires `given` to have
-/// exactly the words of 1 to 16 truth tables of 1 to 16 inputs, pairs of these inputs, and the
-/// number of inputs as the length of `order` and of `levels`.
+/// Writes the first order of the fewest nodes and its level counts, and returns its size. If memory
+/// is refused, `order` and `levels` stay.
 pub(crate) fn optimum(
     alloc: Global,
     given: &GivenTables,
@@ -65,10 +57,8 @@ pub(crate) fn optimum(
     Ok(best.total)
 }
 
-/// Writes the first order of the fewest nodes of the truth tables `given` to `order`, top first,
-/// and its level counts to `levels`, and returns its size. An error writes nothing, and is `Shape`
-/// if `given` does not have exactly the words of 1 to 16 truth tables of 1 to 16 inputs, or the
-/// length of `order` or of `levels` isn't the number of inputs. Otherwise it is `OutOfMemory`.
+/// Writes the first order of the fewest nodes and its level counts, and returns its size. An error
+/// writes nothing.
 fn exact(
     alloc: Global,
     given: &GivenTables,
@@ -91,11 +81,8 @@ fn exact(
     Ok(total)
 }
 
-/// Writes the first order of the fewest nodes of the truth tables `given`, among those that keep
-/// the pairs `above`, to `order`, top first, and its level counts to `levels`, and returns its
-/// size. An error writes nothing, and is `Shape` if `given` does not have exactly the words of 1 to
-/// 16 truth tables of 1 to 16 inputs, or the length of `order` or of `levels` isn't the number of
-/// inputs. Otherwise it is `Pairs` if no order of the inputs keeps the pairs, or `OutOfMemory`.
+/// Writes the first order of the fewest nodes among those that keep the pairs `above` and its level
+/// counts, and returns its size. An error writes nothing.
 fn exact_above(
     alloc: Global,
     given: &GivenTables,
@@ -123,10 +110,8 @@ fn exact_above(
     Ok(total)
 }
 
-/// Writes the first order of the fewest nodes of the packed truth tables `tables` to `order`, top
-/// first, its level counts to `levels` and its size to `total`. Returns 0. A refused call writes
-/// nothing and returns 2 if `inputs` or `outputs` isn't from 1 to 16 or the length of `tables`,
-/// `order` or `levels` doesn't match them, 4 if memory is refused.
+/// Writes the first order of the fewest nodes, its level counts and its size. A refused call writes
+/// nothing.
 #[unsafe(no_mangle)]
 pub extern "C" fn minorder_exact_with_lengths(
     alloc: Global,
@@ -155,11 +140,8 @@ pub extern "C" fn minorder_exact_with_lengths(
     }
 }
 
-/// Writes the first order of the fewest nodes of the packed truth tables `tables`, among the orders
-/// that keep the pairs `above`, to `order`, top first, its level counts to `levels` and its size to
-/// `total`. Returns 0. A refused call writes nothing and returns 2 if `inputs` or `outputs` isn't
-/// from 1 to 16 or the length of `tables`, `order` or `levels` doesn't match them, 4 if memory is
-/// refused, 8 if no order of the inputs keeps the pairs.
+/// Writes the first order of the fewest nodes among those that keep the pairs `above`, its level
+/// counts and its size. A refused call writes nothing.
 #[unsafe(no_mangle)]
 pub extern "C" fn minorder_exact_above_with_lengths(
     alloc: Global,

@@ -1,5 +1,3 @@
-//! The order of the fewest nodes, and the reduced diagram under it.
-
 ghost use Rattle.std.specs.Prelude.{◌≡◌, ◌≢◌, ◌≤◌, [], length, IfOk};
 ghost use Rattle.minorder_c.specs.Answers.{AllStay, HasCallShape, IsFirstFewestOf, given};
 ghost use Rattle.minorder_c.specs.Diagrams.{HasOptimumShape, HoldsOptimum, IsDrawnFor, IsOptimumStatus, IsShortOptimum};
@@ -23,7 +21,6 @@ pub(crate) struct Memory {
 }
 
 impl Memory {
-    /// Memory without a diagram.
     pub(crate) fn new(alloc: Global) -> Memory {
         Memory {
             search: Workspace::new(alloc),
@@ -32,12 +29,9 @@ impl Memory {
     }
 }
 
-/// Writes the first order of the fewest nodes of the truth tables `given` to `order`, top first,
-/// and its level counts to `levels`, and returns its size. If the size is at most `room`, makes the
-/// reduced diagram under that order in `memory`; what this holds before doesn't matter. If memory
-/// is refused, none of the three has a meaning. Requires `given` to have exactly the words of 1 to
-/// 16 truth tables of 1 to 16 inputs, and the number of inputs as the length of `order` and of
-/// `levels`.
+/// Writes the first order of the fewest nodes and its level counts, and returns its size. If this
+/// is at most `room`, makes the reduced diagram in `memory`. If memory is refused, none of the
+/// three has a meaning.
 pub(crate) fn find_diagram(
     alloc: Global,
     given: &GivenTables,
@@ -64,12 +58,9 @@ pub(crate) fn find_diagram(
     Ok(total)
 }
 
-/// Writes the first order of the fewest nodes of the packed truth tables `tables` to `order`, top
-/// first, its level counts to `levels` and its size to `total`, and the reduced diagram under it:
-/// its nodes to the front of `nodes`, lowest first, and each output's root to `roots`: 0 or 1 for a
-/// terminal, k + 2 for node k. Returns 0, or 7 if `nodes` is shorter than `total`; then `nodes` and
-/// `roots` stay. A refused call writes nothing and returns 2 if `inputs` or `outputs` isn't from 1
-/// to 16 or a length doesn't match, 4 if memory is refused.
+/// Writes the first order of the fewest nodes, its level counts and its size, and the reduced
+/// diagram under it, as `minorder_diagram_with_lengths` does. Returns 7 if `nodes` is shorter than
+/// `total`; then `nodes` and `roots` stay.
 #[unsafe(no_mangle)]
 pub extern "C" fn minorder_exact_diagram_with_lengths(
     alloc: Global,

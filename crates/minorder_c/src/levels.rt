@@ -1,5 +1,3 @@
-//! Level counts under any order.
-
 ghost use Rattle.std.specs.Prelude.{◌≡◌, ◌≢◌, length, IfOk, IfErr, OnOk};
 ghost use Rattle.definitions.specs.Levels.{level_counts};
 ghost use Rattle.definitions.specs.Orders.{IsOrder};
@@ -10,11 +8,7 @@ use crate::arguments::{GivenTables, arguments_of};
 use crate::status::Refusal;
 use std::alloc::Global;
 
-/// The level counts, top first, under `order` of the truth tables `given`. Err is `Shape` if
-/// `given` does not have exactly the words of 1 to 16 truth tables of 1 to 16 inputs, or if the
-/// length of `order`, or `counts`, which is that of a slice for level counts, isn't the number of
-/// inputs. Otherwise it is `Order` if `order` doesn't have each input exactly once, or
-/// `OutOfMemory`.
+/// The level counts under `order`, top first, if a slice of `counts` entries fits.
 fn level_counts_of(
     alloc: Global,
     given: &GivenTables,
@@ -35,10 +29,7 @@ fn level_counts_of(
     Ok(levels)
 }
 
-/// Writes the level counts of the packed truth tables `tables` under `order` to `levels`, top
-/// first. Returns 0. A refused call writes nothing and returns 2 if `inputs` or `outputs` isn't
-/// from 1 to 16 or the length of `tables`, `order` or `levels` doesn't match them, 4 if memory is
-/// refused, 5 if `order` is no order of the inputs.
+/// Writes the level counts under `order`, top first. A refused call writes nothing.
 #[unsafe(no_mangle)]
 pub extern "C" fn minorder_levels_with_lengths(
     alloc: Global,

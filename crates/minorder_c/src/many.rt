@@ -13,19 +13,16 @@ use order_model::packed::{block, words_per_table};
 use small_search::Workspace;
 use std::alloc::{AllocError, Global};
 
-/// The answers for many problems: the entries of each list are those of the first problem, then
-/// those of the second, and so on.
+/// The answers for many problems, one problem after the other.
 #[derive(Drop)]
 pub(crate) struct Answers {
-    /// The first order of the fewest nodes of each problem, top first.
+    /// Top first.
     pub(crate) orders: Vec<u8>,
-    /// The level counts of each of these orders, top first.
+    /// Top first.
     pub(crate) levels: Vec<u32>,
-    /// The size of each of these orders.
     pub(crate) totals: Vec<u32>,
 }
 
-/// Whether `length` is `many * size`.
 pub(crate) fn is_length(length: usize, many: usize, size: usize) -> bool
     ensures { IsTrue result ↔ (length ≡ many * size) }
 {
@@ -35,9 +32,7 @@ pub(crate) fn is_length(length: usize, many: usize, size: usize) -> bool
     }
 }
 
-/// Whether `given` has 1 to 16 inputs, 1 to 16 outputs, and exactly the words of the packed truth
-/// tables of `many` problems, and both `places`, the length of a slice for orders, and `counts`,
-/// that of a slice for level counts, are `many` times the number of inputs.
+/// Whether the words, and slices of `places` and `counts` entries, fit `many` problems.
 pub(crate) fn is_shape(given: &GivenTables, places: usize, counts: usize, many: usize) -> bool
     ensures { IsTrue result ↔ HasManyShape given.now places counts many }
 {
@@ -50,10 +45,7 @@ pub(crate) fn is_shape(given: &GivenTables, places: usize, counts: usize, many: 
         && is_length(counts, many, given.inputs as usize)
 }
 
-/// Appends the first order of the fewest nodes of one problem, its level counts and its size to
-/// `answers`. If memory is refused, only a part of these may be appended. What `workspace`, working
-/// memory, holds before doesn't matter. Requires `given` to have exactly the words of the problem's
-/// 1 to 16 truth tables of 1 to 16 inputs.
+/// Appends the answer for one problem. If memory is refused, only a part may be appended.
 fn put(
     alloc: Global,
     given: &GivenTables,
@@ -79,9 +71,7 @@ fn put(
     Ok(())
 }
 
-/// The first order of the fewest nodes of each of `many` problems, with its level counts and its
-/// size. Requires `given` to have exactly the words of their packed truth tables, one problem after
-/// the other, with 1 to 16 inputs and 1 to 16 outputs each.
+/// The answers for `many` problems, whose truth tables `given` has one problem after the other.
 fn optima_of(alloc: Global, given: &GivenTables, many: usize) -> Result<Answers, AllocError>
     requires { HasManyShape given.now (many * given.now.inputs) (many * given.now.inputs) many }
     ensures optima { IfOk result
@@ -110,11 +100,8 @@ fn optima_of(alloc: Global, given: &GivenTables, many: usize) -> Result<Answers,
     Ok(answers)
 }
 
-/// Writes the first order of the fewest nodes of each problem to `orders`, top first, its level
-/// counts to `levels` and its size to `totals`, whose length is the number of problems. The packed
-/// truth tables `tables`, with `inputs` inputs and `outputs` outputs a problem, and the answers
-/// stand one problem after the other. Returns 0. A refused call writes nothing and returns 2 if
-/// these numbers aren't from 1 to 16 or a slice's length doesn't match, 4 if memory is refused.
+/// Writes the first order of the fewest nodes of each problem, its level counts and its size. The
+/// truth tables and the answers stand one problem after the other.
 #[unsafe(no_mangle)]
 pub extern "C" fn minorder_exact_many_with_lengths(
     alloc: Global,

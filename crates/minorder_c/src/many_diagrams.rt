@@ -16,22 +16,18 @@ use order_model::packed::{block, words_per_table};
 use std::alloc::{AllocError, Global};
 use truth_table::NumberedNode;
 
-/// The answers for many problems, with diagrams: the entries of each list are those of the first
-/// problem, then those of the second, and so on.
+/// The answers for many problems, with diagrams, one problem after the other.
 #[derive(Drop)]
 struct DrawnAnswers {
-    /// The orders, level counts and sizes.
     answers: Answers,
-    /// The nodes of the reduced diagram under each of these orders, lowest first.
+    /// The nodes of the reduced diagrams, lowest first.
     nodes: Vec<NumberedNode>,
     /// The number of each output's root, among the nodes of its problem.
     roots: Vec<u32>,
 }
 
-/// Appends the first order of the fewest nodes of one problem, its level counts and its size, and
-/// the nodes and roots of the reduced diagram under it to `drawn`. If memory is refused, only a
-/// part of these may be appended. What `memory` holds before doesn't matter. Requires `given` to
-/// have exactly the words of the problem's 1 to 16 truth tables of 1 to 16 inputs.
+/// Appends the answer and the diagram for one problem. If memory is refused, only a part may be
+/// appended.
 fn put_drawn(
     alloc: Global,
     given: &GivenTables,
@@ -59,9 +55,7 @@ fn put_drawn(
     Ok(())
 }
 
-/// The first order of the fewest nodes of each of `many` problems, with its level counts, its size
-/// and the reduced diagram under it. Requires `given` to have exactly the words of their packed
-/// truth tables, one problem after the other, with 1 to 16 inputs and 1 to 16 outputs each.
+/// The answers and diagrams for `many` problems.
 fn drawn_of(alloc: Global, given: &GivenTables, many: usize) -> Result<DrawnAnswers, AllocError>
     requires { HasManyShape given.now (many * given.now.inputs) (many * given.now.inputs) many }
     ensures { IfOk result
@@ -91,14 +85,9 @@ fn drawn_of(alloc: Global, given: &GivenTables, many: usize) -> Result<DrawnAnsw
     Ok(drawn)
 }
 
-/// Writes the first order of the fewest nodes of each problem to `orders`, top first, its level
-/// counts to `levels` and its size to `totals`, whose length is the number of problems, and the
-/// reduced diagram under it: its nodes, lowest first, to `nodes` and each output's root to `roots`,
-/// 0 or 1 for a terminal, k + 2 for node k of its problem. The packed truth tables `tables`, with
-/// `inputs` inputs and `outputs` outputs a problem, and the answers stand one problem after the
-/// other, and the rest of `nodes` stays. Returns 0, or 7 if `nodes` is shorter than the sum of the
-/// sizes; then `nodes` and `roots` stay. A refused call writes nothing and returns 2 if these
-/// numbers aren't from 1 to 16 or another length doesn't match, 4 if memory is refused.
+/// Writes what `minorder_exact_many_with_lengths` does, and the reduced diagram of each problem,
+/// numbered as by `minorder_diagram_with_lengths`. The rest of `nodes` stays. Returns 7 if `nodes`
+/// is shorter than the sum of the sizes; then `nodes` and `roots` stay.
 #[unsafe(no_mangle)]
 pub extern "C" fn minorder_exact_diagram_many_with_lengths(
     alloc: Global,

@@ -23,25 +23,18 @@ use truth_table::Tables;
 #[repr(C)]
 #[derive(Clone, Copy, Debug)]
 pub(crate) struct ReturnedFigures {
-    /// How many orders there are.
     pub orders: u64,
-    /// How many of them have the fewest nodes.
+    /// How many have the fewest nodes.
     pub optimal_orders: u64,
-    /// How many of them have the most nodes.
+    /// How many have the most nodes.
     pub worst_orders: u64,
     /// The sum of the nodes of all orders.
     pub total_nodes: u64,
-    /// The fewest nodes under an order.
     pub fewest_nodes: u32,
-    /// The most nodes under an order.
     pub most_nodes: u32,
 }
 
-/// Writes to `figures`, for the packed truth tables `tables`, how many orders keep the pairs
-/// `above`, their fewest and their most nodes, how many of the orders have so many, and the sum of
-/// the nodes of all these orders. Returns 0. A refused call writes nothing and returns 2 if
-/// `inputs` or `outputs` isn't from 1 to 16 or the length of `tables` doesn't match them, 4 if
-/// memory is refused, 8 if no order of the inputs keeps the pairs.
+/// Writes the figures of the orders that keep the pairs `above`. A refused call writes nothing.
 #[unsafe(no_mangle)]
 pub extern "C" fn minorder_orders_with_pairs(
     alloc: Global,
@@ -80,8 +73,7 @@ pub extern "C" fn minorder_orders_with_pairs(
     }
 }
 
-/// The widths of all sets, those of one mask behind those of the other. Requires `rows` to be the
-/// widths of all sets of the problem's variables.
+/// The widths of all sets, those of one mask behind those of the other.
 fn listed(alloc: Global, problem: &Problem, rows: &[WidthRow]) -> Result<Vec<u32>, AllocError>
     requires { AreAllWidths problem.now.inputs (functions problem.now) rows.now }
     ensures { IfOk result
@@ -96,17 +88,14 @@ fn listed(alloc: Global, problem: &Problem, rows: &[WidthRow]) -> Result<Vec<u32
     Ok(widths)
 }
 
-/// Whether `given` has exactly the words of 1 to 16 truth tables of 1 to 16 inputs, and `places`,
-/// the length of a slice for widths, is the number of inputs for each of the 2^inputs sets.
 fn has_widths_shape(given: &GivenTables, places: usize) -> bool
     ensures { IsTrue result ↔ HasWidthsShape given.now places }
 {
     are_tables(given) && places == (1usize << given.inputs) * given.inputs as usize
 }
 
-/// The widths of all sets: of each mask in turn, at each of its members the width of this variable
-/// over the others, and 0 elsewhere. Requires `given` to have exactly the words of 1 to 16 truth
-/// tables of 1 to 16 inputs.
+/// The widths of all sets, by rising mask: at each member that over the other members, and 0
+/// elsewhere.
 fn all_widths(alloc: Global, given: &GivenTables) -> Result<Vec<u32>, AllocError>
     requires { AreTables given.now }
     ensures { IfOk result
@@ -118,11 +107,8 @@ fn all_widths(alloc: Global, given: &GivenTables) -> Result<Vec<u32>, AllocError
     listed(alloc, tables.problem(), &rows)
 }
 
-/// Writes the widths of all sets to `widths`, for the packed truth tables `tables`: at
-/// `mask * inputs + x` that of the variable x over the other members of the set with this mask, and
-/// 0 if x isn't a member. Returns 0. A refused call writes nothing and returns 2 if `inputs` or
-/// `outputs` isn't from 1 to 16 or the length of `tables` or `widths` doesn't match them, 4 if
-/// memory is refused.
+/// Writes the widths of all sets: at `mask * inputs + x` that of the member x over the other
+/// members, or 0.
 #[unsafe(no_mangle)]
 pub extern "C" fn minorder_widths_with_lengths(
     alloc: Global,

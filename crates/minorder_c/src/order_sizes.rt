@@ -1,5 +1,3 @@
-//! How many of all orders have each size.
-
 ghost use Rattle.std.specs.Prelude.{◌≡◌, ◌≢◌};
 ghost use Rattle.definitions.specs.KeptPairs.{CanBeKept};
 ghost use Rattle.minorder_c.specs.Answers.{AreTables, given, pairs_given};
@@ -16,13 +14,10 @@ use crate::status::Refusal;
 use order_counts::{CallingThread, sizes_of_orders};
 use std::alloc::Global;
 
-/// Writes to the front of `orders`, for the packed truth tables `tables`, how many orders that keep
-/// the pairs `above` have each size up to `most`, from the fewest nodes on. The first entry and the
-/// last aren't 0. Also writes the fewest nodes, or 0 if no order has so few as `most`, to `fewest`,
-/// and the number of entries to `sizes`. Returns 0, or 7 if `orders` is shorter than that; then it
-/// stays. A refused call writes nothing and returns 2 if `inputs` or `outputs` isn't from 1 to 16
-/// or the length of `tables` doesn't match them, 4 if memory is refused, 8 if no order of the
-/// inputs keeps the pairs.
+/// Writes how many orders that keep the pairs `above` have each size up to `most`, from the fewest
+/// nodes on, which it writes to `fewest`; `sizes` gets the number of entries, 0 if no order has so
+/// few as `most`. The first and the last entry aren't 0. Returns 7 if `orders` is too short; then
+/// it stays.
 #[unsafe(no_mangle)]
 pub extern "C" fn minorder_sizes_with_pairs(
     alloc: Global,

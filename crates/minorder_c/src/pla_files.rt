@@ -1,5 +1,3 @@
-//! The reader of PLA files.
-
 ghost use Rattle.std.specs.Prelude.{◌≡◌, ◌≢◌, ◌*◌, ◌≤◌, length, IfOk, IfErr, OnOk};
 ghost use Rattle.definitions.specs.Problems.{words_per_table};
 ghost use Rattle.pla_reader.specs.Answering.{longest};
@@ -19,24 +17,21 @@ use truth_table::cover_words;
 /// The status of a call whose text is no PLA file: `MINORDER_BAD_PLA` in C.
 const BAD_PLA: u32 = 9;
 
-/// The number in C of the fault of a text that is too long. The faults of lines have the numbers 1
-/// to 14.
+/// The faults of lines have the numbers 1 to 14.
 const TOO_LONG: u32 = 15;
 
-/// How many places a caller has for names of inputs, and how many for those of outputs.
+/// A caller has so many places for names of inputs, and so many for those of outputs.
 const NAME_PLACES: usize = 16;
 
-/// What is wrong with a text that is no PLA file, in C.
 #[repr(C)]
 #[derive(Clone, Copy, Debug)]
 pub(crate) struct PlaFault {
-    /// The number of the first faulty line, counted from 1. 0 if the text is empty or too long.
+    /// The first faulty line, counted from 1. 0 if the text is empty or too long.
     pub line: usize,
     /// Which fault it is: 1 to 14 as `kind_of` numbers the faults of a line, or `TOO_LONG`.
     pub kind: u32,
 }
 
-/// Why a text isn't read: a fault by which it is no PLA file, or memory was refused.
 #[derive(Clone, Copy)]
 enum Unread {
     Fault(PlaFault),
@@ -49,24 +44,18 @@ impl From<AllocError> for Unread {
 
     ghost from_gives = { λ _ unread. unread ≡ OutOfMemory };
 
-    /// Turns a refused allocation into `OutOfMemory`.
     fn from(_: AllocError) -> Unread {
         Unread::OutOfMemory
     }
 }
 
-/// What a PLA file states, in C.
 #[derive(Drop)]
 struct PlaForC {
-    /// The number of inputs.
     inputs: u32,
-    /// The number of outputs.
     outputs: u32,
-    /// Where in the text the names of the inputs stand, then places of length 0, `NAME_PLACES` in
-    /// all.
+    /// Where in the text the names stand, then places of length 0, `NAME_PLACES` in all.
     input_names: Vec<TextPlace>,
-    /// Where in the text the names of the outputs stand, then places of length 0, `NAME_PLACES` in
-    /// all.
+    /// As for the inputs.
     output_names: Vec<TextPlace>,
     /// The packed truth tables, one output behind the other.
     words: Vec<u64>,
@@ -94,8 +83,6 @@ fn kind_of(fault: LineFault) -> u32
     }
 }
 
-/// The cover of the PLA file with the text `text`. Err is `Fault` with the fault by which the text
-/// is no PLA file, or `OutOfMemory`.
 fn cover_of(alloc: Global, text: &[u8]) -> Result<Cover, Unread>
     ensures within { OnOk result (length text.now ≤ longest) }
     ensures read { IfOk result (λ cover. Reads text.now cover) }
@@ -117,9 +104,8 @@ fn cover_of(alloc: Global, text: &[u8]) -> Result<Cover, Unread>
     }
 }
 
-/// Where the names of the inputs or of the outputs, as `names` says, stand in `text`. The list has
-/// 16 entries: those past the last name have length 0, and so have all if the text lists no names.
-/// Requires that `cover` is what the text states.
+/// Where the names stand in `text`: 16 places, of length 0 past the last name, or all if the text
+/// lists no names.
 fn names_of(
     alloc: Global,
     text: &[u8],
@@ -142,8 +128,7 @@ fn names_of(
     Ok(places)
 }
 
-/// The numbers of inputs and outputs, the names and the truth tables of the PLA file with the text
-/// `text`. Err is `Fault` with the fault by which the text is no PLA file, or `OutOfMemory`.
+/// What the PLA file with the text `text` states.
 fn pla_of(alloc: Global, text: &[u8]) -> Result<PlaForC, Unread>
     ensures read { IfOk result (λ p. IsReadWith text.now p.inputs p.outputs p.input_names.items
         p.output_names.items (λ Is. Is p.words.items)) }
@@ -165,11 +150,9 @@ fn pla_of(alloc: Global, text: &[u8]) -> Result<PlaForC, Unread>
     })
 }
 
-/// Reads the text of a PLA file. Writes its numbers of inputs and outputs, where their names stand
-/// in the text, and the packed truth tables to the front of `tables`. Returns 0 if all is written.
-/// If `tables` is too short, writes all but the truth tables and returns 7. If the text is no PLA
-/// file, writes only its first fault, to `fault`, and returns 9. Writes nothing if it returns 2,
-/// because `input_names` or `output_names` hasn't 16 places, or 4, for refused memory.
+/// Reads the text of a PLA file: its numbers of inputs and outputs, where their names stand in it,
+/// and the truth tables. Returns 7 if `tables` is too short; then all else is written. Returns 9 if
+/// the text is no PLA file; then only its first fault is written.
 #[unsafe(no_mangle)]
 pub extern "C" fn minorder_read_pla_with_lengths(
     alloc: Global,

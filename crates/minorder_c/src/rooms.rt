@@ -2,11 +2,10 @@
 
 ghost use Rattle.std.specs.Prelude.{◌≡◌, ◌≤◌, ◌++◌, drop, length};
 
-/// The status of a call that has more to write than the caller has room for: `MINORDER_SHORT_TEXT`
-/// in C.
+/// More is to be written than the caller has room for.
 pub(crate) const SHORT_ROOM: u32 = 7;
 
-/// Copies `items` to the front of `buffer`, which has to have room for them. The rest of it stays.
+/// Copies `items` to the front of `buffer`. The rest of it stays.
 pub(crate) fn put_front<T: Copy>(buffer: &mut [T], items: &[T])
     requires { length items.now ≤ length buffer.old }
     ensures { buffer.new ≡ items.now ++ drop (length items.now) buffer.old }

@@ -1,5 +1,3 @@
-//! One pass of sifting from any order.
-
 ghost use Rattle.std.specs.Prelude.{◌≡◌, ◌≢◌, ◌<◌, ℕ, length, slice_index, IfOk, IfErr, OnOk};
 ghost use Rattle.definitions.specs.Orders.{IsOrder};
 ghost use Rattle.definitions.specs.Problems.{functions};
@@ -14,7 +12,6 @@ use order_model::{Pairs, SizedOrder};
 use sifting::Sifted;
 use std::alloc::{AllocError, Global};
 
-/// The level counts of a sifted order, top first.
 fn levels_of(alloc: Global, sifted: &Sifted) -> Result<Vec<u32>, AllocError>
     ensures long { IfOk result (λ v. length v.items ≡ length sifted.now.order) }
     ensures counts { IfOk result
@@ -26,11 +23,7 @@ fn levels_of(alloc: Global, sifted: &Sifted) -> Result<Vec<u32>, AllocError>
     counts[..sifted.order().len()].to_vec(alloc)
 }
 
-/// The order after one pass of sifting from `order`, with its level counts and its size. Err is
-/// `Shape` if `given` does not have exactly the words of 1 to 16 truth tables of 1 to 16 inputs, or
-/// if the length of `order`, or `counts`, which is that of a slice for level counts, isn't the
-/// number of inputs. Otherwise it is `Order` if `order` doesn't have each input exactly once, or
-/// `OutOfMemory`.
+/// The order after one pass of sifting from `order`, if a slice of `counts` entries fits.
 fn sifted_order(
     alloc: Global,
     given: &GivenTables,
@@ -56,11 +49,8 @@ fn sifted_order(
     })
 }
 
-/// Replaces `order` by the order after one pass of sifting from it, for the packed truth tables
-/// `tables`, and writes the new level counts to `levels`, top first, and the new size to `total`.
-/// Returns 0. A refused call writes nothing and returns 2 if `inputs` or `outputs` isn't from 1 to
-/// 16 or the length of `tables`, `order` or `levels` doesn't match them, 4 if memory is refused, 5
-/// if `order` is no order of the inputs.
+/// Replaces `order` by the order after one pass of sifting from it, and writes its level counts and
+/// size. A refused call writes nothing.
 #[unsafe(no_mangle)]
 pub extern "C" fn minorder_sift_with_lengths(
     alloc: Global,

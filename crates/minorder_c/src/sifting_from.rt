@@ -1,5 +1,3 @@
-//! Sifting from any order, by the calling thread.
-
 ghost use Rattle.std.specs.Prelude.{◌≡◌, length, IfOk};
 ghost use Rattle.definitions.specs.Pairs.{Keeps};
 ghost use Rattle.definitions.specs.Problems.{functions};
@@ -11,9 +9,7 @@ use sifting::{Manager, Sifted};
 use std::alloc::{AllocError, Global};
 use truth_table::{Tables, reduced_diagram};
 
-/// The order after one pass of sifting from `start`, which puts each variable once at the uppermost
-/// place of least size that keeps `pairs`. Requires `start` and `pairs` to be of the tables'
-/// variables, and `start` to keep the pairs.
+/// The order after one pass of sifting from `start`.
 pub(crate) fn sifted_from(
     alloc: Global,
     tables: &Tables,
@@ -36,8 +32,7 @@ pub(crate) fn sifted_from(
     Ok(sifted)
 }
 
-/// An order that keeps `pairs`, whose size bounds the search. It is found by sifting from the
-/// lexicographically first order that keeps them. Requires `pairs` to be of the tables' variables.
+/// An order that keeps `pairs`, whose size bounds the search, sifted from the first such order.
 pub(crate) fn bound_of(alloc: Global, tables: &Tables, pairs: Pairs) -> Result<Sifted, AllocError>
     requires { pairs.inputs ≡ tables.now.inputs }
     ensures problem { IfOk result (λ s. s.problem ≡ tables.now) }

@@ -12,8 +12,7 @@ use crate::verdicts::{ReturnedVerdict, judgement_on, verdict_for_c};
 use order_model::VarIx;
 use std::alloc::Global;
 
-/// Writes the first of `pairs`, each (above, below), to the front of `place`, as many as it has
-/// room for. The rest of `place` stays.
+/// Writes the first of `pairs` to `place`, as many as it has room for. The rest of it stays.
 fn put_pairs(place: &mut [AbovePair], pairs: &[(VarIx, VarIx)])
     ensures { AreFront pairs.now place.old place.new }
 {
@@ -23,11 +22,8 @@ fn put_pairs(place: &mut [AbovePair], pairs: &[(VarIx, VarIx)])
     }
 }
 
-/// Writes the verdict on the text `certificate`, for the packed truth tables `tables`, to
-/// `verdict`, the certificate's total to `total`, the number of its pairs to `count`, and as many
-/// of them as fit to the front of `pairs`. Returns 0, whatever the verdict. A refused call writes
-/// nothing and returns 2 if `inputs` or `outputs` isn't from 1 to 16 or the length of `tables`
-/// doesn't match them, 3 if the text is no certificate, 4 if memory is refused.
+/// Writes the verdict on the text `certificate`, its total, the number of its pairs, and as many of
+/// these as fit. Returns 0, whatever the verdict.
 #[unsafe(no_mangle)]
 pub extern "C" fn minorder_check_total_with_pairs(
     alloc: Global,

@@ -1,5 +1,3 @@
-//! The checker of certificates.
-
 ghost use Rattle.std.specs.Prelude.{◌≡◌, ◌≢◌, IfOk, IfErr, OnOk};
 ghost use Rattle.certificate.specs.Spelling.{spelling};
 ghost use Rattle.minorder_c.specs.Answers.{AreTables, given};
@@ -12,10 +10,9 @@ use cert_check::{Reason, Verdict, check_alone};
 use certificate::{CertFault, Certificate};
 use std::alloc::Global;
 
-/// A verdict in C. `reason` is 0 if the certificate is good (the checker accepts it), else the
-/// number of the first reason why not: 1 to 8, in the order of `Reason`. If an edge fails (8),
-/// `mask` is the set from which the edge leads, and `variable` the variable that it adds; else both
-/// are 0.
+/// A verdict in C: 0 if the certificate is good, else the number of the first reason why not, 1 to
+/// 8, in the order of `Reason`; for an edge (8) the set that it leads from, and its variable, else
+/// both are 0.
 #[repr(C)]
 #[derive(Clone, Copy, Debug)]
 pub(crate) struct ReturnedVerdict {
@@ -24,8 +21,6 @@ pub(crate) struct ReturnedVerdict {
     pub variable: u32,
 }
 
-/// The verdict in C with this `reason`, and 0 as its mask and its variable. `reason` is 0 if the
-/// certificate is good, and 1 to 7 for a reason other than a failing edge.
 fn plain(reason: u32) -> ReturnedVerdict
     ensures { result ≡ record { reason = reason; mask = 0; variable = 0 } }
 {
@@ -36,10 +31,6 @@ fn plain(reason: u32) -> ReturnedVerdict
     }
 }
 
-/// The verdict in C for a verdict of the checker. Its reason is 0 if the certificate is good, else
-/// 1 for `Shape`, 2 `Order`, 3 `Pairs`, 4 `Levels`, 5 `Total`, 6 `Start`, 7 `CellTooBig`, 8 `Edge`.
-/// For `Edge` it has the mask of the set from which the failing edge leads and the variable that
-/// the edge adds, else 0 for both.
 pub(crate) fn verdict_for_c(verdict: Verdict) -> ReturnedVerdict
     ensures { result ≡ returned_verdict verdict }
 {
@@ -60,7 +51,6 @@ pub(crate) fn verdict_for_c(verdict: Verdict) -> ReturnedVerdict
     }
 }
 
-/// The certificate that `text` is. Err is `Certificate` if it is none, or `OutOfMemory`.
 fn certificate_of(alloc: Global, text: &[u8]) -> Result<Certificate, Refusal>
     ensures spelled { IfOk result (λ cert. text.now ≡ spelling cert) }
     ensures refused { IfErr result (RefusesText (Unit {0}) text.now) }
@@ -73,16 +63,13 @@ fn certificate_of(alloc: Global, text: &[u8]) -> Result<Certificate, Refusal>
     }
 }
 
-/// A certificate, and the verdict on it.
 #[derive(Drop)]
 pub(crate) struct Judgement {
     pub(crate) certificate: Certificate,
     pub(crate) verdict: Verdict,
 }
 
-/// The certificate that `text` is, and the verdict on it for the truth tables `given`. Err is
-/// `Shape` if `given` does not have exactly the words of 1 to 16 truth tables of 1 to 16 inputs.
-/// Otherwise it is `Certificate` if `text` is no certificate, or `OutOfMemory`.
+/// The certificate that `text` is, and the verdict on it.
 pub(crate) fn judgement_on(
     alloc: Global,
     given: &GivenTables,
@@ -103,10 +90,7 @@ pub(crate) fn judgement_on(
     }
 }
 
-/// Writes the verdict on the text `certificate`, for the packed truth tables `tables`, to
-/// `verdict`. Returns 0, whatever the verdict. A refused call writes nothing and returns 2 if
-/// `inputs` or `outputs` isn't from 1 to 16 or the length of `tables` doesn't match them, 3 if the
-/// text is no certificate, 4 if memory is refused.
+/// Writes the verdict on the text `certificate`. Returns 0, whatever the verdict.
 #[unsafe(no_mangle)]
 pub extern "C" fn minorder_check(
     alloc: Global,

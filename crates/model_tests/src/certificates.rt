@@ -36,7 +36,6 @@ type Parts = (
     &'static [ListedCell],
 );
 
-/// A certificate of parts, in format 1 if they have no list of pairs.
 fn certificate_of(rt: &impl Abort, alloc: Global, parts: &Parts) -> Option<Certificate> {
     let ((inputs, outputs), order, levels, total, pairs, cells) = parts;
     let pairs = match pairs {
@@ -112,7 +111,6 @@ static UNSPELLED: [Parts; 17] = [
     ((2, 1), &[0, 1], &[0, 0], 0, Some(&[(0, 1), (0, 1)]), &[]),
 ];
 
-/// Whether a certificate has the parts.
 fn is_of(cert: &Certificate, parts: &Parts) -> bool {
     let ((inputs, outputs), order, levels, total, pairs, cells) = parts;
     let format = if pairs.is_some() { 2 } else { 1 };
@@ -124,14 +122,12 @@ fn is_of(cert: &Certificate, parts: &Parts) -> bool {
         && cert.cells() == *cells
 }
 
-/// Whether parts have a spelling, as which their certificate is written.
 fn is_written(rt: &impl Abort, alloc: Global, parts: &Parts, spelling: &str) -> bool {
     let cert = certificate_of(rt, alloc, parts).expect(rt, "a certificate");
     let text = cert.text(alloc).expect(rt, "memory");
     is_of(&cert, parts) && text.as_str() == spelling
 }
 
-/// Whether a spelling is read as a certificate of the parts.
 fn is_read(rt: &impl Abort, alloc: Global, parts: &Parts, spelling: &str) -> bool {
     let cert = Certificate::parse(alloc, spelling.as_bytes()).expect(rt, "a certificate");
     is_of(&cert, parts)

@@ -12,7 +12,6 @@ static NAMED: &[u8] = b".i 3\n.o 1\n.ilb a b s\n.ob f\n1-0 1\n-11 1\n.e\n";
 /// Two functions without names.
 static UNNAMED: &[u8] = b".i 2\n.o 2\n.type f\n1- 1-\n-1 -1\n.e\n";
 
-/// Whether the names are these.
 fn are_names(names: &[String], wanted: &[&str]) -> bool {
     for (i, name) in wanted.iter().enumerate() {
         match names.get(i) {
@@ -23,17 +22,14 @@ fn are_names(names: &[String], wanted: &[&str]) -> bool {
     names.len() == wanted.len()
 }
 
-/// Whether a term has these care bits, values and outputs.
 fn is_term(term: &Term, parts: (u16, u16, u16)) -> bool {
     (term.care, term.value, term.outs) == parts
 }
 
-/// Whether a cover has these names.
 fn is_named(cover: &Cover, inputs: &[&str], outputs: &[&str]) -> bool {
     are_names(cover.input_names(), inputs) && are_names(cover.output_names(), outputs)
 }
 
-/// Whether a cover has the multiplexer's two products.
 fn is_multiplexer(cover: &Cover) -> bool {
     match cover.terms() {
         [a, b] => {
@@ -46,7 +42,6 @@ fn is_multiplexer(cover: &Cover) -> bool {
     }
 }
 
-/// The cover of a text.
 fn cover_of(rt: &impl Abort, alloc: Global, text: &[u8]) -> Cover {
     read_cover(alloc, &mut Counting::new(text)).expect(rt, "a cover")
 }

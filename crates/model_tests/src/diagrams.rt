@@ -26,7 +26,6 @@ static NODES: [Node; 3] = [
     },
 ];
 
-/// The multiplexer's diagram under the order s, a, b.
 fn multiplexer(rt: &impl Abort, alloc: Global) -> Diagram {
     let order = Order::try_from_slice(alloc, &[2, 0, 1]).expect(rt, "an order");
     let nodes = NODES.to_vec(alloc).expect(rt, "memory");
@@ -34,7 +33,6 @@ fn multiplexer(rt: &impl Abort, alloc: Global) -> Diagram {
     Diagram::new(order, nodes, roots)
 }
 
-/// Whether a diagram's one root has the multiplexer's values.
 fn is_multiplexer(diagram: &Diagram) -> bool {
     if diagram.roots().len() != 1 {
         return false;

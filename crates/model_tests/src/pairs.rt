@@ -30,7 +30,6 @@ fn are_two(rt: &impl Abort, alloc: Global, pairs: &Pairs) -> bool {
         && listed.as_slice() == [(1, 0), (2, 0)].as_slice()
 }
 
-/// The pairs of three variables that a text lists.
 fn pairs_of(rt: &impl Abort, text: &[u8]) -> Pairs {
     Pairs::parse(text, 3).expect(rt, "pairs")
 }
@@ -42,7 +41,6 @@ fn pairs_are_read_as_they_are_listed(rt: HostRuntime) {
     assert!(rt; are_two(&rt, rt.alloc(), &listed));
 }
 
-/// Whether an order keeps pairs of as many variables.
 fn keeps(rt: &impl Abort, alloc: Global, pairs: &Pairs, order: &[VarIx]) -> bool {
     let order = Order::try_from_slice(alloc, order).expect(rt, "an order");
     assert!(rt; order.len() == usize::from(pairs.inputs()));
@@ -57,13 +55,11 @@ fn orders_and_sets_keep_pairs(rt: HostRuntime) {
     assert!(rt; pairs.lawful(0) && pairs.lawful(0b011) && !pairs.lawful(0b110));
 }
 
-/// Whether the first order that keeps the pairs is this one.
 fn is_first(rt: &impl Abort, alloc: Global, pairs: &Pairs, wanted: &[VarIx]) -> bool {
     let order = pairs.first_order(alloc).expect(rt, "memory");
     order.variables() == wanted
 }
 
-/// The sixteen variables.
 static ALL: [VarIx; 16] = [0, 1, 2, 3, 4, 5, 6, 7, 8, 9, 10, 11, 12, 13, 14, 15];
 
 #[test]

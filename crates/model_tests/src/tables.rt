@@ -11,7 +11,6 @@ use truth_table::Tables;
 /// Three products of the variables 0 to 5, in which variable i meets variable i + 3.
 static INTERLEAVED: &[u8] = b".i 6\n.o 1\n1--1-- 1\n-1--1- 1\n--1--1 1\n.e\n";
 
-/// The truth tables of the cover that a text describes.
 fn tables_of<R: Abort + Threads + Sync>(rt: &R, alloc: Global, text: &[u8]) -> Tables {
     let cover = read_cover(alloc, &mut Counting::new(text)).expect(rt, "a cover");
     Tables::of_cover(rt, alloc, &cover).expect(rt, "memory")
@@ -52,7 +51,6 @@ static VALUES: [(u16, bool, bool); 5] = [
     (0x8220, false, false),
 ];
 
-/// Whether two functions of sixteen variables have these values.
 fn have_values(tables: &Tables) -> bool {
     let problem = tables.problem();
     if problem.inputs() != 16 || problem.outputs() != 2 {

@@ -71,7 +71,6 @@ fn lists_that_are_no_orders_are_refused(rt: HostRuntime) {
     }
 }
 
-/// Whether an order and its copy are this one.
 fn is_copied(rt: &impl Abort, alloc: Global, order: &Order, wanted: &[VarIx]) -> bool {
     let copy = order.try_clone(alloc).expect(rt, "memory");
     copy.variables() == wanted && order.variables() == wanted
@@ -116,7 +115,6 @@ fn problem_of(rt: &impl Abort, alloc: Global, n: u8, m: u8, ones: &[(u8, u32)]) 
     problem
 }
 
-/// Whether a problem is the conjunction and the disjunction of two inputs.
 fn is_of_both(problem: &Problem) -> bool {
     if problem.inputs() != 2 || problem.outputs() != 2 {
         return false;
@@ -130,7 +128,6 @@ fn is_of_both(problem: &Problem) -> bool {
     problem.essential() == 0b11
 }
 
-/// Whether a problem is one function of three inputs a, b, s: b if s is 1, else a.
 fn is_multiplexer(problem: &Problem) -> bool {
     let inputs = problem.inputs();
     if inputs != 3 || problem.outputs() != 1 || problem.essential() != 0b111 {

@@ -18,14 +18,12 @@ pub enum Program {
     Ordercheck,
 }
 
-/// Room in bytes for the longest line: a program's name, the words `certificate line`, a number and
-/// the name of a fault.
+/// Enough for the longest line: a program's name, the words `certificate line`, a number and the
+/// name of a fault.
 const LONGEST_LINE: usize = 64;
 
-/// A line that is being made.
 type Text = ArrayString<LONGEST_LINE>;
 
-/// The name of `program`: `minorder` or `ordercheck`.
 fn program_text(program: Program) -> &'static str
     ensures name { result.now ≡ program_name program }
     ensures short { length result.now ≤ 10 }
@@ -36,7 +34,7 @@ fn program_text(program: Program) -> &'static str
     }
 }
 
-/// The name of `fault`, a fault in a line of the PLA file, such as `BadNumber`.
+/// The name of a fault in a line of the PLA file, such as `BadNumber`.
 fn file_text(fault: FileFault) -> &'static str
     ensures kind { result.now ≡ file_kind fault }
     ensures short { length result.now ≤ 16 }
@@ -59,7 +57,7 @@ fn file_text(fault: FileFault) -> &'static str
     }
 }
 
-/// The name of `fault`, a fault in a line of a certificate, such as `BadNumber`.
+/// The name of a fault in a line of a certificate.
 fn certificate_text(fault: CertificateFault) -> &'static str
     ensures kind { result.now ≡ certificate_kind fault }
     ensures short { length result.now ≤ 12 }
@@ -73,8 +71,7 @@ fn certificate_text(fault: CertificateFault) -> &'static str
     }
 }
 
-/// Appends `label`, and then `number` in decimal, to `text`. Requires `text` and `label` to have at
-/// most 32 bytes together.
+/// Appends `label`, and then `number` in decimal, to `text`.
 fn push_number(text: &mut Text, label: &str, number: usize)
     requires { array_string_len text.old + length label.now ≤ 32 }
     ensures words { text.new.bytes ≡ text.old.bytes ++ label.now ++ decimal number }
@@ -86,9 +83,7 @@ fn push_number(text: &mut Text, label: &str, number: usize)
     text.push_str(digits.format(number));
 }
 
-/// Appends to `text` the name of the reason why pairs are refused, such as `BadPair`. `PairCycle`
-/// is followed by a space and the number of its variable. Requires `text` to have at most 12 bytes
-/// before.
+/// Appends the name of the reason why pairs are refused. `PairCycle` is followed by its variable.
 fn push_pairs(text: &mut Text, fault: PairsFault)
     requires { array_string_len text.old ≤ 12 }
     ensures words { text.new.bytes ≡ text.old.bytes ++ pairs_kind fault }
@@ -101,8 +96,7 @@ fn push_pairs(text: &mut Text, fault: PairsFault)
     }
 }
 
-/// Appends to `text` the words that name `fault`, such as `TooLong`, or `line 3: BadNumber` with
-/// the number of the faulty line. Requires `text` to have at most 12 bytes before.
+/// Appends the words that name `fault`, such as `TooLong` or `line 3: BadNumber`.
 fn push_fault(text: &mut Text, fault: Fault)
     requires { array_string_len text.old ≤ 12 }
     ensures words { text.new.bytes ≡ text.old.bytes ++ fault_words fault }
@@ -128,8 +122,7 @@ fn push_fault(text: &mut Text, fault: Fault)
     }
 }
 
-/// The line that a program writes to standard error for a fault: its name, a colon and a space, the
-/// words that name the fault, and a line feed.
+/// The line on a fault: the program's name, a colon, and the words that name the fault.
 #[tactic(auto, unfolding(crate::specs::Messages::fault_line))]
 pub(crate) fn fault_line(program: Program, fault: Fault) -> Text
     ensures { result.bytes ≡ line_of program fault }

@@ -73,7 +73,6 @@ impl Outcome {
 impl From<PlaError> for Fault {
     ghost from_gives = { λ error fault. fault ≡ refusal_of error };
 
-    /// The fault of a run that could not read its PLA file, for the reason `error`.
     fn from(error: PlaError) -> Fault {
         match error {
             PlaError::Line(line, fault) => Fault::Line(line, fault),
@@ -87,7 +86,6 @@ impl From<PlaError> for Fault {
 impl From<CertFault> for Fault {
     ghost from_gives = { λ error fault. fault ≡ certificate_refusal error };
 
-    /// The fault of a run that could not read its certificate, for the reason `error`.
     fn from(error: CertFault) -> Fault {
         match error {
             CertFault::Line(line, fault) => Fault::CertificateLine(line, fault),

@@ -11,8 +11,7 @@ use std::alloc::{AllocError, Global};
 use std::thread::Threads;
 use truth_table::Tables;
 
-/// The level counts of a cover's functions under the file order, top first, counted in the truth
-/// tables. The threads of `rt` share the work of making these.
+/// The level counts of a cover's functions under the file order, counted in the truth tables.
 fn file_order_counts<R: Threads + Sync>(
     rt: &R,
     alloc: Global,

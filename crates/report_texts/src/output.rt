@@ -17,8 +17,7 @@ pub struct RunTexts {
     pub certificate: Option<String>,
 }
 
-/// Writes `text`, that of a certificate, to the writer `cert`, or nothing if either is None. Err if
-/// a write failed; then a part of the text may have been written.
+/// Writes the certificate's text, if there are both. After an error a part may have been written.
 fn write_certificate<C: CountedWrite>(
     cert: &mut Option<C>,
     text: &Option<String>,

@@ -1,4 +1,5 @@
-//! The texts that the programs write, each made whole before its first byte goes out.
+//! The texts that the programs write, each made whole before its first byte goes out. If memory is
+//! refused, `text` may have got a part of what is appended.
 
 ghost use Rattle.std.specs.Prelude.{◌≡◌, ◌<◌, ◌≤◌, ◌++◌, length, map, string_bytes, IfOk, OnOk};
 ghost use Rattle.std.specs.List.{All};
@@ -10,12 +11,11 @@ use order_model::{VarIx, total};
 use std::alloc::{AllocError, Global};
 use std::fmt::Write;
 
-/// How many bytes are reserved for a report, or for that of `--count`, besides those for the names
-/// of its inputs. They suffice for the fixed words and at most 51 numbers.
+/// The bytes reserved for a report besides those for names. They suffice for the fixed words and at
+/// most 51 numbers.
 const LONGEST: usize = 1024;
 
-/// Appends `numbers` to `text`, each after a space. If memory is refused, a part may have been
-/// appended.
+/// Appends `numbers`, each after a space.
 fn push_spaced(text: &mut String, numbers: &[u32]) -> Result<(), AllocError>
     ensures { OnOk result
         (string_bytes text.new ≡ string_bytes text.old ++ each_spaced numbers.now) }
@@ -26,8 +26,7 @@ fn push_spaced(text: &mut String, numbers: &[u32]) -> Result<(), AllocError>
     Ok(())
 }
 
-/// Appends `numbers` to `text`, with one space between each two. If memory is refused, a part may
-/// have been appended.
+/// Appends `numbers`, with one space between each two.
 fn push_numbers(text: &mut String, numbers: &[u32]) -> Result<(), AllocError>
     ensures { OnOk result (string_bytes text.new ≡ string_bytes text.old ++ spaced numbers.now) }
 {
@@ -39,8 +38,7 @@ fn push_numbers(text: &mut String, numbers: &[u32]) -> Result<(), AllocError>
     Ok(())
 }
 
-/// Appends `variables`, as numbers, to `text`, each after a space. If memory is refused, a part may
-/// have been appended.
+/// Appends `variables`, each after a space.
 fn push_spaced_variables(text: &mut String, variables: &[VarIx]) -> Result<(), AllocError>
     ensures { OnOk result
         (string_bytes text.new ≡ string_bytes text.old ++ each_spaced variables.now) }
@@ -51,8 +49,7 @@ fn push_spaced_variables(text: &mut String, variables: &[VarIx]) -> Result<(), A
     Ok(())
 }
 
-/// Appends `variables`, as numbers, to `text`, with one space between each two. If memory is
-/// refused, a part may have been appended.
+/// Appends `variables`, with one space between each two.
 fn push_variables(text: &mut String, variables: &[VarIx]) -> Result<(), AllocError>
     ensures { OnOk result (string_bytes text.new ≡ string_bytes text.old ++ spaced variables.now) }
 {
@@ -64,8 +61,7 @@ fn push_variables(text: &mut String, variables: &[VarIx]) -> Result<(), AllocErr
     Ok(())
 }
 
-/// Appends to `text` the name of `variable`, the entry of `names` at this index. Requires `names`
-/// to have such an entry. If memory is refused, a part may have been appended.
+/// Appends the name of `variable`.
 fn push_name(text: &mut String, names: &[String], variable: VarIx) -> Result<(), AllocError>
     requires { variable < length names.now }
     ensures { OnOk result
@@ -76,9 +72,7 @@ fn push_name(text: &mut String, names: &[String], variable: VarIx) -> Result<(),
     Ok(())
 }
 
-/// Appends to `text` the names of `variables`, each after a space. Entry x of `names` is the name
-/// of variable x. Requires a name for each of these variables. If memory is refused, a part may
-/// have been appended.
+/// Appends the names of `variables`, each after a space.
 fn push_spaced_names(
     text: &mut String,
     names: &[String],
@@ -96,9 +90,7 @@ fn push_spaced_names(
     Ok(())
 }
 
-/// Appends to `text` the names of `variables`, with one space between each two. Entry x of `names`
-/// is the name of variable x. Requires a name for each of these variables. If memory is refused, a
-/// part may have been appended.
+/// Appends the names of `variables`, with one space between each two.
 fn push_names(text: &mut String, names: &[String], variables: &[VarIx]) -> Result<(), AllocError>
     requires { All (λ x. x < length names.now) variables.now }
     ensures { OnOk result
@@ -113,9 +105,7 @@ fn push_names(text: &mut String, names: &[String], variables: &[VarIx]) -> Resul
     Ok(())
 }
 
-/// Appends the two lines of an order to `text`: `order:` with the numbers of its variables, top
-/// first, and `names:` with their names. Entry x of `names` is the name of variable x. Requires a
-/// name for each of these variables. If memory is refused, a part may have been appended.
+/// Appends the lines `order:`, the variables top first, and `names:`, their names.
 fn push_order(text: &mut String, names: &[String], order: &[VarIx]) -> Result<(), AllocError>
     requires { All (λ x. x < length names.now) order.now }
     ensures { OnOk result
@@ -130,8 +120,7 @@ fn push_order(text: &mut String, names: &[String], order: &[VarIx]) -> Result<()
     Ok(())
 }
 
-/// Appends two lines to `text`: `levels:` with the level counts `levels`, top first, and `nodes:`
-/// with their sum. Requires at most 16 levels. If memory is refused, a part may have been appended.
+/// Appends the lines `levels:`, top first, and `nodes:`, their sum.
 fn push_counts(text: &mut String, levels: &[u32]) -> Result<(), AllocError>
     requires { length levels.now ≤ 16 }
     ensures { OnOk result
@@ -161,10 +150,7 @@ pub struct Report<'a> {
     pub file_size: u64,
 }
 
-/// Appends three lines of `report` to `text`: `sifted order:` with the numbers of the sifted
-/// order's variables, top first, `sifted nodes:` with the number of nodes under it, and
-/// `file order nodes:` with the number of nodes under the file order. If memory is refused, a part
-/// may have been appended.
+/// Appends the lines `sifted order:`, `sifted nodes:` and `file order nodes:`.
 fn push_sizes(text: &mut String, report: &Report<'_>) -> Result<(), AllocError>
     ensures { OnOk result
         (string_bytes text.new ≡ string_bytes text.old
@@ -185,8 +171,7 @@ fn push_sizes(text: &mut String, report: &Report<'_>) -> Result<(), AllocError>
     Ok(())
 }
 
-/// The two lines of the report of `--count`: the level counts `levels`, top first, and their sum.
-/// Requires at most 16 levels.
+/// The two lines of the report of `--count`.
 pub(crate) fn count_text(alloc: Global, levels: &[u32]) -> Result<String, AllocError>
     requires { length levels.now ≤ 16 }
     ensures { IfOk result (λ text. string_bytes text ≡ counts_lines levels.now) }
@@ -196,8 +181,7 @@ pub(crate) fn count_text(alloc: Global, levels: &[u32]) -> Result<String, AllocE
     Ok(text)
 }
 
-/// The number of bytes that `names` take with a space after each, or the greatest usize if there
-/// are more.
+/// The bytes that `names` take with a space after each, or the greatest usize.
 fn names_room(names: &[String]) -> usize {
     let mut room: usize = 0;
     for name in names {

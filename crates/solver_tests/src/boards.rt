@@ -15,7 +15,6 @@ use std::thread;
 use std::thread::Threads;
 use subset_layers::{Cell, Layer};
 
-/// The parity of four variables.
 fn parity_problem(rt: &impl Abort, alloc: Global) -> Problem
     ensures { result ≡ parity.problem }
 {
@@ -23,7 +22,6 @@ fn parity_problem(rt: &impl Abort, alloc: Global) -> Problem
     Problem::from_words(4, 1, words)
 }
 
-/// One word.
 fn words(rt: &impl Abort, alloc: Global, word: u64) -> Vec<u64>
     ensures { result.items ≡ word ∷ [] }
 {
@@ -54,7 +52,6 @@ fn parity_cell(problem: &Problem, mask: Mask, cost: u32, pairs: &Pairs) -> CellR
     CellResult::new(problem, limit(7), mask, Cell { cost, variable: 0 }, pairs)
 }
 
-/// The only seat of a board.
 fn only_seat(rt: &impl Abort, board: &Board, mut seats: Vec<BoardSeat>) -> BoardSeat
     requires { All (λ s. s ≡ first_seat board.now) seats.items }
     ensures { result.board ≡ board.now }
@@ -103,7 +100,6 @@ fn board_of_twos(
 /// A place, how many sets its block has, and the first of them.
 type BlockRow = (usize, usize, Mask);
 
-/// Whether a claim is of this block.
 fn is_of_block(claim: &Claim, row: &BlockRow) -> bool {
     let (place, count, first) = row;
     let block = claim.block();
@@ -376,7 +372,6 @@ fn draw_by_two<R: Abort + Threads + Sync>(
     draw_all(rt, &board, seats)
 }
 
-/// Whether each of six blocks was drawn by one of two workers.
 fn are_shared(drawn: &[u64]) -> bool {
     drawn.len() == 2 && drawn[0] | drawn[1] == 63 && drawn[0] & drawn[1] == 0
 }

@@ -71,7 +71,6 @@ static TWO: [Row; 3] = [
 
 static THREE: [Row; 1] = [(0x0007, [0, 0, 1], 3, 2)];
 
-/// The cell of a row.
 fn cell_of(row: &Row) -> Cell {
     let (_, _, cost, variable) = row;
     Cell {
@@ -80,7 +79,6 @@ fn cell_of(row: &Row) -> Cell {
     }
 }
 
-/// The cells of rows.
 fn cells_of(rt: &impl Abort, alloc: Global, rows: &[Row]) -> Vec<Cell> {
     let mut cells = Vec::new(alloc);
     for row in rows {

@@ -24,7 +24,6 @@ static MULTIPLEXER: &[u8] = b".i 3\n.o 1\n1-0 1\n-11 1\n.e\n";
 
 static ALL_ONES: &[u8] = b".i 16\n.o 1\n1111111111111111 1\n.e\n";
 
-/// The truth tables of a cover's text.
 pub(crate) fn tables_of<R: Abort + Threads + Sync>(rt: &R, alloc: Global, text: &[u8]) -> Tables {
     let cover = read_cover(alloc, &mut Counting::new(text)).expect(rt, "a cover");
     Tables::of_cover(rt, alloc, &cover).expect(rt, "memory")
@@ -42,7 +41,6 @@ pub(crate) fn manager_of(rt: &impl Abort, alloc: Global, tables: &Tables) -> Man
     Manager::of(alloc, diagram).expect(rt, "memory")
 }
 
-/// The sifted order of some functions.
 fn sifted_of(rt: &impl Abort, alloc: Global, tables: &Tables) -> Sifted
     ensures { result.problem ≡ tables.now }
 {
@@ -85,17 +83,14 @@ fn widths_that_are_taken_are_counted(rt: HostRuntime) {
     assert!(rt; widths_of(&rt, rt.alloc(), MULTIPLEXER) == 8);
 }
 
-/// Whether an optimum is this one.
 fn is_optimum(found: &SizedOrder, order: &[VarIx], levels: &[u32], total: u32) -> bool {
     found.order.variables() == order && found.levels.as_slice() == levels && found.total == total
 }
 
-/// Whether an optimum is that of the words below.
 fn is_of_words(found: &SizedOrder) -> bool {
     is_optimum(found, &[0, 1, 2], &[1, 2, 2], 5)
 }
 
-/// Whether the calling thread solves the words.
 fn solves_words(rt: &impl Abort, alloc: Global, tables: &Tables) -> bool {
     let sifted = sifted_of(rt, alloc, tables);
     let solved = solve_alone(alloc, tables.problem(), sifted).expect(rt, "memory");

@@ -16,7 +16,6 @@ static INTERLEAVED: &[u8] = b".i 6\n.o 1\n1--1-- 1\n-1--1- 1\n--1--1 1\n.e\n";
 static SUM: &[u8] =
     b".i 4\n.o 3\n10-- 100\n01-- 100\n1100 010\n1111 010\n0-10 010\n-010 010\n0-01 010\n-001 010\n--11 001\n111- 001\n11-1 001\n.e\n";
 
-/// The manager of a cover's functions under the file order.
 fn managed<R: Abort + Threads + Sync>(rt: &R, alloc: Global, text: &[u8]) -> Manager {
     manager_of(rt, alloc, &tables_of(rt, alloc, text))
 }
@@ -34,7 +33,6 @@ static STEPS: [Step; 6] = [
     (5, [10, 10, 8, 8, 6, 6], [0, 3, 4, 1, 5, 2]),
 ];
 
-/// The manager after the swap of a level with the next one.
 fn swapped(rt: &impl Abort, alloc: Global, manager: Manager, level: usize) -> Manager
     requires { level < 16 }
 {

@@ -83,7 +83,6 @@ fn first_cells(
     cells_by_one(rt, alloc, instance, layer, &start, prepared)
 }
 
-/// The costs of the sets of one variable.
 fn first_costs(
     rt: &impl Abort,
     alloc: Global,
@@ -98,7 +97,6 @@ fn first_costs(
     Costs::of(layer, cells)
 }
 
-/// A layer's first set, and its cell.
 fn first_of(rt: &impl Abort, instance: &Instance<'_>, layer: &Layer, cells: &[Cell]) -> (Mask, Cell)
     requires { map pair_of cells.now ≡ map (cell_for instance.now) (masks_of layer.now) }
     ensures { pair_of result.1 ≡ cell_for instance.now result.0 }
@@ -277,7 +275,6 @@ fn closes_with_fours(alloc: Global, board: Board, seat: BoardSeat) -> bool
     }
 }
 
-/// Whether there are six cells, each of cost 4.
 fn are_six_fours(cells: &[Cell]) -> bool {
     cells.len() == 6 && cells.iter().all(|cell: &Cell| cell.cost == 4)
 }

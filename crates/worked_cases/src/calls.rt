@@ -1,5 +1,4 @@
-//! Calls minorder and ordercheck for worked cases, and compares what they do with what the case
-//! says.
+//! Calls minorder and ordercheck for worked cases, and compares what they do with the cases.
 
 use crate::cases::{Case, Place};
 use anyhow::{Context, Result, bail, ensure};
@@ -10,14 +9,13 @@ use std::fs;
 use std::rt::Files;
 use std::thread::Threads;
 
-/// How many calls were made, and how many of them did something else than their case says.
+/// How many calls were made, and how many differed from their case.
 #[derive(Default, Drop)]
 pub struct Tally {
     pub calls: u32,
     pub differ: u32,
 }
 
-/// What a call did: its exit status, and what it wrote to standard output and standard error.
 #[derive(Drop)]
 struct Seen {
     status: u8,
@@ -25,9 +23,8 @@ struct Seen {
     errors: Vec<u8>,
 }
 
-/// Calls minorder or ordercheck, whichever `line` begins with, with the line's other words, and
-/// returns its status and what it wrote. Single spaces separate words. An error if the line begins
-/// with another word.
+/// Calls the program that `line` begins with, with the line's other words. Single spaces separate
+/// words.
 fn call<R: Files + AllocGlobal + Threads + Sync>(rt: &R, line: &str) -> Result<Seen> {
     let words: Vec<&str> = line.split(' ').collect(rt.alloc())?;
     let mut output = Counting::new(Vec::<u8>::new(rt.alloc()));
@@ -44,15 +41,13 @@ fn call<R: Files + AllocGlobal + Threads + Sync>(rt: &R, line: &str) -> Result<S
     })
 }
 
-/// Writes `bytes` to a new file `name`. An error if there is a file with that name already, or it
-/// can't be written.
+/// Writes a new file. An error if there is one with that name already.
 fn put_file<R: Files>(rt: &R, name: &str, bytes: &[u8]) -> Result<()> {
     ensure!(!fs::exists(rt, name)?, "{name} is there");
     fs::write(rt, name, bytes).context(format_args!("putting {name} there"))
 }
 
-/// Writes the files that are there before a call of `case`, each cut to `length` bytes if it is
-/// longer. An error if one of them exists already, or can't be written; those before it stay.
+/// Writes the files that are there before a call, each cut to `length` bytes if it is longer.
 fn put_files<R: Files>(rt: &R, case: &Case<'_>, length: usize) -> Result<()> {
     for text in case.texts.iter() {
         if let Place::File(name) = text.place {
@@ -71,9 +66,8 @@ fn remove_files<R: Files>(rt: &R, case: &Case<'_>) {
     }
 }
 
-/// Whether `got`, which a call wrote to `stream`, is as the case says: the case's text for the
-/// stream, or empty if it has none. If the case says that clap, the parser of the command line,
-/// writes to the stream, any text is right but the empty one.
+/// Whether a call wrote to `stream` what the case says. Where clap writes, any text but the empty
+/// one is right.
 fn agrees(case: &Case<'_>, stream: Place<'_>, got: &[u8]) -> bool {
     if case.by_clap == Some(stream) {
         return !got.is_empty();
@@ -84,8 +78,7 @@ fn agrees(case: &Case<'_>, stream: Place<'_>, got: &[u8]) -> bool {
     }
 }
 
-/// Whether the file `name` has exactly these bytes. False if there is no such file or it can't be
-/// read.
+/// Whether the file `name` has exactly these bytes. False if it can't be read.
 fn holds<R: Files + AllocGlobal>(rt: &R, name: &str, bytes: &[u8]) -> bool {
     match fs::read(rt, name) {
         Ok(held) => held.as_slice() == bytes,
@@ -93,9 +86,7 @@ fn holds<R: Files + AllocGlobal>(rt: &R, name: &str, bytes: &[u8]) -> bool {
     }
 }
 
-/// Whether each file that `case` gives for after the call has its bytes, and each that it calls
-/// absent is not there. False if a file that it gives can't be read. An error if it can't be tested
-/// whether a file is absent.
+/// Whether the files after the call are as the case says. False if one can't be read.
 fn has_files<R: Files + AllocGlobal>(rt: &R, case: &Case<'_>) -> Result<bool> {
     for text in case.texts.iter() {
         let is_well = match text.place {
@@ -110,9 +101,7 @@ fn has_files<R: Files + AllocGlobal>(rt: &R, case: &Case<'_>) -> Result<bool> {
     Ok(true)
 }
 
-/// The name of the first part of `seen` that is not as `case` says: status, standard output,
-/// standard error, or else a file. None if all is as it says. An error if it can't be tested
-/// whether a file is absent.
+/// The name of the first part of `seen` that is not as the case says.
 fn difference<R: Files + AllocGlobal>(
     rt: &R,
     case: &Case<'_>,
@@ -131,8 +120,6 @@ fn difference<R: Files + AllocGlobal>(
     })
 }
 
-/// Prints that the call `line` differs from `case` in `part`, with the status and the output of
-/// `seen`.
 fn print_difference<R: AllocGlobal + Print>(
     rt: &R,
     case: &Case<'_>,
@@ -149,10 +136,8 @@ fn print_difference<R: AllocGlobal + Print>(
     Ok(())
 }
 
-/// Makes the call `line` of `case`, with the case's files cut to `length` bytes, and then removes
-/// the files. Adds the call to `tally`, and prints a line if the call does something else than the
-/// case says, which is no error. An error if the call can't be made or compared; then files may
-/// stay.
+/// Makes the call `line`, and then removes the case's files. A call that differs from the case is
+/// counted and printed, and no error; after an error files may stay.
 fn carry_out_call<R: Files + AllocGlobal + Threads + Sync + Print>(
     rt: &R,
     case: &Case<'_>,
@@ -171,10 +156,7 @@ fn carry_out_call<R: Files + AllocGlobal + Threads + Sync + Print>(
     Ok(())
 }
 
-/// Makes each call of `case` once for each length from the first to the last of `case.lengths`,
-/// with the case's files cut to this length. Adds the calls to `tally`, and prints a line for each
-/// that does something else than the case says, which is no error. An error if a call can't be made
-/// or compared; then files may stay, and no further call is made.
+/// Makes each call of `case` for each of its lengths, until one can't be made or compared.
 pub fn carry_out<R: Files + AllocGlobal + Threads + Sync + Print>(
     rt: &R,
     case: &Case<'_>,

@@ -1,8 +1,6 @@
 //! Carries out worked cases of both programs, and reports each call that does something else than
-//! its case says.
-//!
-//! The words are a folder, which becomes the current one, and the names of files of cases there.
-//! README.md in data/ has the format of these files.
+//! its case says. The words are a folder, which becomes the current one, and the names of files of
+//! cases there. README.md in data/ has the format of these files.
 #![tactic(auto)]
 
 mod calls;
@@ -15,8 +13,6 @@ use std::rt::Files;
 use std::thread::Threads;
 use std::{env, fs};
 
-/// Makes the calls of the cases in the file `file`, and adds them to `tally`. An error if the file
-/// can't be read, or a call can't be made or compared.
 fn carry_out_file<R: Files + AllocGlobal + Threads + Sync + Print>(
     rt: &R,
     file: &str,
@@ -30,9 +26,7 @@ fn carry_out_file<R: Files + AllocGlobal + Threads + Sync + Print>(
     Ok(())
 }
 
-/// Makes the calls of worked cases, and prints how many they are and how many did something else
-/// than their case says; an error if any did. The command line names a folder, which becomes the
-/// current one, and the files of cases there.
+/// Prints how many calls were made and how many differed; an error if any did.
 fn main(rt: HostRuntime) -> Result<()> {
     let mut words = env::args(&rt)?.skip(1);
     let folder = words.next().context("the words are FOLDER FILE..")?;
