@@ -62,7 +62,6 @@ no_more line lines = omega (arith, length-append (line ++ 10 ∷ []) (with_feeds
 enough_lines : (count : ℕ) (text : List ℕ) → take count (whole_lines text) ≡ whole_lines text → length (said text) ≤ count
 enough_lines count text all = omega (arith, length-map (whole_lines text) words, ap length all, length-take count (whole_lines text))
 
--- the words of lines, joined again
 joined_back : (lines : List (List ℕ)) → flat_map text_line (map words lines) ≡ with_feeds lines
 unfolding text_line words
 joined_back [] = refl
@@ -230,7 +229,6 @@ faultless text none =
       both_empty [] ys e = (refl, e)
       both_empty (x ∷ xs) ys e = absurd (cc e)
 
--- a text has a fault, or is a spelling
 pub spelled_or_faulty : (text : List ℕ) → ((cert : Certificate) × Spells text cert) ⊎ ((line : ℕ) × (fault : LineFault) × FirstCertFault text line fault)
 spelled_or_faulty text = by (faults text) refl where
   by : (fs : List (ℕ × LineFault)) → faults text ≡ fs →
@@ -242,6 +240,5 @@ spelled_or_faulty text = by (faults text) refl where
 pub spelled_not_faulty : (text : List ℕ) (cert : Certificate) (line : ℕ) (fault : LineFault) → Spells text cert → FirstCertFault text line fault → ⊥
 spelled_not_faulty text cert line fault spells first = grind (arith, no_fault)
 
--- one first fault
 pub one_first_fault : (text : List ℕ) (i j : ℕ) (e f : LineFault) → FirstCertFault text i e → FirstCertFault text j f → (i ≡ j) × (e ≡ f)
 one_first_fault text i j e f a b = grind arith

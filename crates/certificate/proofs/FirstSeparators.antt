@@ -41,7 +41,6 @@ drop_next zero xs = refl
 drop_next (suc k) [] = ap (λ n. drop n []) (let e : suc (k + 1) ≡ suc k + 1 = omega arith in e)
 drop_next (suc k) (x ∷ xs) = drop_next k xs ∙ ap (λ n. drop n (x ∷ xs)) (let e : suc (k + 1) ≡ suc k + 1 = omega arith in e)
 
--- a byte that is found parts the text at its place
 pub cut_at : (byte : ℕ) (text : List ℕ) (found : Option ℕ) (k : ℕ) → found ≡ position (λ b. b == byte) text → found ≡ Some k →
     Cuts byte text (take k text) (drop (k + 1) text)
 cut_at byte text found k place is =

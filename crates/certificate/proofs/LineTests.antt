@@ -83,7 +83,6 @@ decimals_are least most (w ∷ ws) e =
     let b = both_are (is_decimal least most w) (list_all (is_decimal least most) ws) e in
     grind (arith, decimal_is, decimals_are least most ws b.1)
 
--- masks
 pub mask_passes : (n mask : ℕ) → n ≤ 16 → mask < 2 ^ n - 1 → 2 ^ n ≤ 65536 → is_mask n (hex4 mask) ≡ true
 mask_passes n mask small within top = grind (arith, hex_back, same_self)
 

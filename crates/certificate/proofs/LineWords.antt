@@ -10,7 +10,6 @@ use Rattle.certificate.specs.Parsing.{Lacks, Cuts}
 use Rattle.certificate.proofs.LineTests.{same_is, same_self, all_same_is}
 use Rattle.std.proofs.lemmas.Bool.{false_from_ne_true}
 
--- the words of a line that a space parts
 pub cut_words : (line front behind : List ℕ) → Cuts 32 line front behind → words line ≡ front ∷ words behind
 unfolding words
 cut_words line front behind (parts, lacks) = ap (slice_split (λ b. b == 32)) parts ∙ slice_split_at (λ b. b == 32) front 32 behind lacks refl
@@ -24,7 +23,6 @@ pub some_word : (line : List ℕ) → 0 < length (words line)
 unfolding words
 some_word line = omega (arith, length-slice_split (λ b. b == 32) line)
 
--- a line is its words
 pub words_join : (line : List ℕ) → join_with_byte 32 (words line) ≡ line
 unfolding words
 words_join line = join_with_byte-slice_split 32 line

@@ -45,7 +45,6 @@ digit_at word e (suc (suc zero)) within = (mask_of word / 16 ^ 1 % 16, omega ari
 digit_at word e (suc (suc (suc zero))) within = (mask_of word / 16 ^ 0 % 16, omega arith, ap (λ w. get_or w 3 0) e)
 digit_at word e (suc (suc (suc (suc i)))) within = absurd (omega arith)
 
--- a word of four bytes
 pub four_bytes : (word : List ℕ) (a b c d : ℕ) → length word ≡ 4 → get_or word 0 0 ≡ a → get_or word 1 0 ≡ b → get_or word 2 0 ≡ c →
     get_or word 3 0 ≡ d → word ≡ a ∷ b ∷ c ∷ d ∷ []
 four_bytes [] a b c d long ea eb ec ed = absurd (omega arith)

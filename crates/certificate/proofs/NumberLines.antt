@@ -27,7 +27,6 @@ module _ (p : List ℕ → Bool) where
   pub last_fails : (rest : List ℕ) → Lacks 32 rest → p rest ≡ false → list_all p (words rest) ≡ false
   last_fails rest lacks e = rw (whole_word rest lacks) (rw e refl)
 
--- one number more
 pub cut_numbers : (old new : List ℕ) (rest word more : List ℕ) → Cuts 32 rest word more → new ≡ old ++ number_of word ∷ [] →
     new ++ map number_of (words more) ≡ old ++ map number_of (words rest)
 cut_numbers old new rest word more cuts e = grind (arith, append_assoc, cut_words)

@@ -37,7 +37,6 @@ pub step : (number : ℕ) (judge : LineTest) (js : List LineTest) (text line res
 unfolding outcome line_faults
 step number judge js text line rest cuts passes = grind (arith, said_first, trails)
 
--- it has a fault
 pub stop : (number : ℕ) (judge : LineTest) (js : List LineTest) (text line rest : List ℕ) (fault : LineFault) → Cuts 10 text line rest →
     judge (words line) ≡ Some fault →
     (others : List (ℕ × LineFault)) × (outcome number (judge ∷ js) text ≡ (number, fault) ∷ others)
@@ -45,13 +44,11 @@ unfolding outcome line_faults
 stop number judge js text line rest fault cuts fails =
     (line_faults (number + 1) js (said rest) ++ trailing_from number (suc (length js)) text, rw (said_first text line rest cuts) (rw fails refl))
 
--- it is missing
 pub missing : (number : ℕ) (judge : LineTest) (js : List LineTest) (text : List ℕ) → Lacks 10 text →
     (others : List (ℕ × LineFault)) × (outcome number (judge ∷ js) text ≡ (number, MissingLine) ∷ others)
 unfolding outcome line_faults
 missing number judge js text lacks = (line_faults (number + 1) js [] ++ trailing_from number (suc (length js)) text, rw (said_none text lacks) refl)
 
--- the end
 pub ended : (number : ℕ) → outcome number [] [] ≡ []
 unfolding outcome line_faults
 ended number = refl

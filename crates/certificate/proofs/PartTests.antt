@@ -46,7 +46,6 @@ cell_told n c e = grind arith
 cell_tells : (n : ℕ) (c : ListedCell) → IsCell n (listed c) → is_cell_of n c ≡ true
 cell_tells n c is = grind arith
 
--- pairs that fit, and listed sets
 pub pairs_fit_is : (n : ℕ) (ps : List Pair) → fit (is_pair_of n) pair_key None ps ≡ true →
     All (IsPair n) ps × AllPairs (λ (p q : Pair). pair_key p < pair_key q) ps
 pairs_fit_is n ps e =

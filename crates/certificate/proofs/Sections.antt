@@ -76,7 +76,6 @@ module _ {E : Type 0} (write : E → List (List ℕ)) (read : List (List ℕ) �
   read_back [] all = refl
   read_back (e ∷ es) (here, all) = rw (kind.back e here) (rw (read_back es all) refl)
 
-  -- entries that are read
   pub read_entries : (before : Option ℕ) (ws : List (List (List ℕ))) → AreEntries is_entry key before ws →
       (map write (map read ws) ≡ ws) × AllByRecursion Is (map read ws) × RiseFrom key_of before (map read ws)
   read_entries before [] are = (refl, tt, tt)

@@ -24,7 +24,6 @@ from_zero : (most : ℕ) (ns : List ℕ) → AllByRecursion (λ n. n ≤ most) n
 from_zero most [] all = tt
 from_zero most (n ∷ ns) (here, all) = ((omega arith, here), from_zero most ns all)
 
--- the words of pairs and of listed sets are plain
 pairs_plain : (n : ℕ) (ps : List Pair) → n ≤ 16 → AllByRecursion (IsPair n) ps → AllPlain (map pair_words ps)
 pairs_plain n [] few all = tt
 pairs_plain n (p ∷ ps) few ((above, below), all) = ((decimal_plain p.0 (omega arith), (decimal_plain p.1 (omega arith), tt)), tt, pairs_plain n ps few all)
@@ -194,7 +193,6 @@ module _ (cert : Certificate) (has : HasSpelling cert) where
       (list_word (codes "cells") refl, tt) (cells_plain cert.inputs cert.cells all_cells))
       ((list_word (codes "end") refl, tt), tt, tt))))
 
-  -- the words of the lines of a spelling
   pub spelling_said : said (spelling cert) ≡ word_lines cert
   spelling_said = unfold spelling in said_back (word_lines cert) all_plain
 
@@ -278,6 +276,5 @@ module _ (cert : Certificate) (has : HasSpelling cert) where
     same : cert_of (word_lines cert) ≡ cert
     same = by_parts _ _ _ _ _ _ _ _ _ _ _ _ _ _ _ _ format_is inputs_are outputs_back orders leveled total_back pairs_are_back cells_are_back
 
--- a text is the spelling of one certificate at most
 pub one_form : (a b : Certificate) → HasSpelling a → HasSpelling b → spelling a ≡ spelling b → a ≡ b
 one_form a b first second same = sym (spelling_says a first) ∙ ap (λ text. cert_of (said text)) same ∙ spelling_says b second

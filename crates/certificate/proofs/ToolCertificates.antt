@@ -140,7 +140,6 @@ module _ (n : ℕ) (F : List Function) (P : List Pair) (order : List ℕ) (some 
   unfolding listed_masks
   cells_few = search (kept_few, length-map)
 
-  -- the certificate that the tool writes has a spelling
   pub tool_spelled : HasSpelling (certificate_of n F P order)
   unfolding certificate_of
   tool_spelled = record {

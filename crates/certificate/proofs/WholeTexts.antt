@@ -16,7 +16,6 @@ use Rattle.certificate.specs.declared.certificate.CertificateParts.{CertificateP
 use Rattle.certificate.proofs.Spellings.{by_parts}
 use Rattle.certificate.proofs.Faultless.{Faultless, faultless}
 
--- the parts that are read
 abbrev pub parts_read : Head → Option (Vec Pair Global) → Vec ListedCell Global → CertificateParts
 parts_read head pairs cells = record {
   inputs = head.inputs;

@@ -63,7 +63,6 @@ unfolding whole_lines
 line_first [] text none = refl
 line_first (b ∷ line) text (here, none) = rw here (ap (onto_line b) (line_first line text none))
 
--- a text without a line feed has no whole line
 pub no_line : (text : List ℕ) → HasNoFeed text → whole_lines text ≡ []
 unfolding whole_lines
 no_line [] none = refl
@@ -105,7 +104,6 @@ all_words_back (ws ∷ lines) (plain, filled, more) = rw (words_back ws plain fi
 pub said_back : (lines : List (List (List ℕ))) → AllPlain lines → said (flat_map text_line lines) ≡ lines
 said_back lines plain = ap (map words) (lines_back lines plain) ∙ all_words_back lines plain
 
--- digits are plain
 digit_plain : (c : ℕ) → 48 ≤ c → ((c == 32) ≡ false) × ((c == 10) ≡ false)
 digit_plain c low = (grind arith, grind arith)
 

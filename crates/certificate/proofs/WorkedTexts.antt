@@ -7,11 +7,9 @@ use Rattle.certificate.specs.declared.faults.LineFault.TheVariants.{MissingLine,
 use Rattle.certificate.specs.Spelling.{hex4, word_lines, text_line, spelling}
 use Rattle.certificate.specs.Faults.{whole_lines, words, judges, line_faults, trailing, faults}
 
--- the first fault of a text, if it has one
 abbrev first_of : List ℕ → Option (ℕ × LineFault)
 first_of text = slice_get (faults text) 0
 
--- a certificate of the multiplexer in format 1
 abbrev multiplexer : Certificate
 multiplexer = record {
   format = 1;

@@ -39,7 +39,6 @@ module _ (built app : App) (is : built ≡ app) (simple : is_simple app ≡ true
   unfolding value_of
   value_matched = ap (first_of id) (sym ((h (ap is_simple is ∙ simple)).0 ∙ ap (λ a. matches_of a words) is)) ∙ sym (first_value-rows (found_of m) id)
 
-  -- and as it is read
   pub read_matched : read_of app words id ≡ one_text (found_of m) id
   unfolding read_of
   read_matched = ap (one_of id) (sym ((h (ap is_simple is ∙ simple)).0 ∙ ap (λ a. matches_of a words) is)) ∙ sym (one_text-rows (found_of m) id)

@@ -96,7 +96,6 @@ unfolding product_functions
 outputs_are cover t are = ap length are.tables
     ∙ (length-map (functions_of cover) (table cover.inputs) ∙ length-map-range_with_len (product_function cover.products) 0 cover.outputs)
 
--- the cover's terms give the functions of its truth tables
 pub terms_give : KeepsFunctions → (cover : NamedCover) (t : TruthTables) (terms : List Term) → AreTablesOf cover t
     → map (product_of cover.inputs cover.outputs) terms ≡ cover.products → (j : ℕ) → j < outputs_of t →
     SameFunction t.inputs (product_function (products_of t terms) j) (output_at t j)

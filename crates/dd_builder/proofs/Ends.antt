@@ -33,13 +33,11 @@ part_found s s' store q id f h low there =
     let level : part_level s.store.plan ≤ depth_in s' part.id = omega arith in
     subst (λ k. part_level store.plan ≤ depth_in s' k) is (subst (λ (z : StoreId). part_level z.plan ≤ depth_in s' part.id) h.same level)
 
--- one more root
 pub root_more : (s s' : Knowledge) (roots output place id : ℕ) → Follows s s' →
     ((j : ℕ) → j < output → slice_index s.pieces (roots + j) ≢ 0) → place ≡ roots + output → HasPiece s' place id → (j : ℕ) →
     j < output + 1 → slice_index s'.pieces (roots + j) ≢ 0
 root_more s s' roots output place id f known at here j low empty = grind (arith, cases_lt, slice_index)
 
--- one more part of a worker's share
 pub share_more : (s s' : Knowledge) (piece workers k : ℕ) → Follows s s' → ((q : ℕ) → q < piece → q % workers ≡ k → HasPart s q) →
     HasPart s' piece → (q : ℕ) → q < piece + 1 → q % workers ≡ k → HasPart s' q
 share_more s s' piece workers k f built here q low e = grind (arith, cases_lt, part_follows)
@@ -78,7 +76,6 @@ pub joined_first : (s : Knowledge) (workers left : ℕ) → 0 < workers → left
     q < s.store.plan.roots → left ≤ q % workers → HasPart s q
 joined_first s workers left some all h q low past = grind arith
 
--- with one more worker's share
 pub joined_more : (s t joint : Knowledge) (workers left k : ℕ) → Follows s joint → Follows t joint → s.store ≡ t.store → left + 1 ≡ k →
     ((q : ℕ) → q < s.store.plan.roots → k ≤ q % workers → HasPart s q) → HasShare t workers left
     → (q : ℕ) → q < joint.store.plan.roots → left ≤ q % workers → HasPart joint q

@@ -85,7 +85,6 @@ module _ (n : ℕ) where
       (parts_small (tail (length vs)) (tail (length vs)) (code vs (restrict v false g)) (code vs (restrict v true g))
       (code_small vs (restrict v false g)) (code_small vs (restrict v true g)))
 
-  -- the same function has the same number
   code_alike : (vs : List ℕ) (g h : Function) → SameFunction n g h → code vs g ≡ code vs h
   unfolding SameFunction
   code_alike [] g h s = ap weight (s zeros (length-replicate n false))
@@ -93,7 +92,6 @@ module _ (n : ℕ) where
       code_alike vs (restrict v false g) (restrict v false h) (restrict_same n v false g h s) i * tail (length vs)
       + code_alike vs (restrict v true g) (restrict v true h) (restrict_same n v true g h s) i
 
-  -- a variable set to its own value
   own_value : (v : ℕ) (b : Bool) (g : Function) (p : Point) → bit p v ≡ b → restrict v b g (set p v false) ≡ g p
   unfolding restrict
   own_value v b g p e = ap g (set-set p v false b ∙ (ap (λ z. set p v z) (sym e) ∙ set-get_or p v false))

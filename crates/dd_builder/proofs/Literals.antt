@@ -101,7 +101,6 @@ numbered_literals : (term : Term) (p : Point) (len a : ℕ)
 numbered_literals term p zero a = refl
 numbered_literals term p (suc len) a = ap (λ b. literal_holds p (a, literal_in term a) && b) (numbered_literals term p len (a + 1))
 
--- all literals of an order are those of the product
 literals_match : (order : List ℕ) (term : Term) (n m : ℕ) (p : Point) → IsOrder n order → literals_from order term 0 p ≡ matches (product_of n m term) p
 unfolding literals_from matches product_of
 literals_match order term n m p is =

@@ -85,14 +85,12 @@ unfolding part_function
 part_restriction Restrictions order t q h = refl
 part_restriction (Products terms) order t q h = absurd h
 
--- a piece of the parts
 pub part_piece : (b : Plan) (q : ℕ) → q < b.roots → piece_function b q ≡ part_function b.kind (order_of b) b.problem.value q
 unfolding piece_function
 part_piece b q short =
     ap (λ (c : Bool). if c then part_function b.kind (order_of b) b.problem.value q else output_at b.problem.value (q - b.roots))
     (lt-ltb q b.roots short)
 
--- an output with the variables on top fixed is a piece
 pub restriction_piece : (b : Plan) (q count top_assignments' output path : ℕ) → AreRestrictions b.kind → q < b.roots →
     count ≡ length (top_variables (order_of b)) → top_assignments' ≡ 2 ^ count → output ≡ q / top_assignments' → path ≡ q % top_assignments'
     → fixed (take count (order_of b)) path (output_at b.problem.value output) ≡ piece_function b q

@@ -32,7 +32,6 @@ pub means_at : (s : Knowledge) (id : ℕ) (f : Function) (p : Point) → Means s
 unfolding SameFunction
 means_at s id f p m l = m.function p l
 
--- the terminals
 pub function_zero : (s : Knowledge) (p : Point) → function_in s 0 p ≡ false
 unfolding function_of
 function_zero s p = value_terminal (levels_of s.store.plan) s.seen 0 _ (omega arith)

@@ -51,7 +51,6 @@ pub half_first : (from s s' : Knowledge) (k : ℕ) → HasHalf from k s → s'.s
     s'.made ≡ s.made → HasHalf from (k + 1) s'
 half_first from s s' k h store stake seen made = grind (arith, half_more)
 
--- two that are joined
 pub share_joined : (source : Source) (from one two joint : Knowledge) (k : ℕ) → IsShareOf source from (k + 1) one → IsShareOf source from (k + 1) two →
     Follows one joint → Follows two joint → joint.stake ≡ joined one.stake two.stake → joint.made ≡ one.made ++ two.made
     → IsShareOf source from k joint

@@ -21,7 +21,6 @@ use Rattle.dd_builder.proofs.Shares.{share_last, terms_part, none}
 use Rattle.std.proofs.Math.Bool.{or-false}
 use Rattle.definitions.proofs.Lists.Ranges.{range_append}
 
--- one part
 pub part_union : (s : Knowledge) (b : Plan) (output first count id : ℕ) → count ≡ 1 → Means s id (piece_function b (output * 64 + first)) →
     Means s id (shares_union b output first count)
 unfolding shares_union
@@ -102,7 +101,6 @@ module _ (output : ℕ) (p : Point) where
       next : suc i ≡ i + 1
       next = omega arith
 
-  -- the parts of an output by terms are the output
   parts_output : (kind : PieceKind) (order : List ℕ) (t : TruthTables) → AreOfTerms kind → AreTermsOf kind t → output < outputs_of t → length p ≡ t.inputs
       → list_any (λ share. part_function kind order t (output * 64 + share) p) (range_with_len 0 64) ≡ output_at t output p
   unfolding SameFunction
@@ -125,7 +123,6 @@ terms_count : (kind : PieceKind) (order : List ℕ) (t : TruthTables) → AreOfT
 terms_count Restrictions order t some = absurd some
 terms_count (Products own) order t some = refl
 
--- the union of all parts by terms is the output
 pub parts_all : (s : Knowledge) (b : Plan) (output id : ℕ) → IsPlan b → AreOfTerms b.kind → output < outputs_of b.problem.value →
     levels_of s.store.plan ≡ levels_of b → Means s id (shares_union b output 0 64) → Means s id (output_at b.problem.value output)
 unfolding shares_union

@@ -69,7 +69,6 @@ module _ (n : ℕ) (P : List Pair) (values : List ℕ) (sources : List Bool) whe
   }
 
   module _ (x S : ℕ) (judged : List ℕ) (are : AreMarked n P values sources x S judged) where
-    -- one more edge
     pub marked_more : x < 16 → S + 2 ^ x < 2 ^ n → IsEdgeInto n P values sources (S + 2 ^ x) x →
         AreMarked n P values sources x (S + 1) (set judged (S + 2 ^ x) (bit_or (slice_index judged (S + 2 ^ x)) (1 * 2 ^ x % 65536)))
     marked_more small inside edge = record {
@@ -129,7 +128,6 @@ module _ (n : ℕ) (P : List Pair) (values : List ℕ) (sources : List Bool) whe
     all = λ T y less e before. are.all T y less e (grind (arith, cases_eq));
   }
 
-  -- all edges
   pub marked_all : (judged : List ℕ) → AreMarked n P values sources n 0 judged → AreEdges n P values sources judged
   marked_all judged are = record {
     long = are.long;

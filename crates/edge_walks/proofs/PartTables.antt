@@ -17,6 +17,5 @@ module _ (root : TableOf) (part x y : ℕ) (next : y ≡ x + 1) where
   pub part_skip : (t : TableOf) → bit_at part x ≡ 0 → IsPartTable root part y t → IsPartTable root part x t
   part_skip t h is = grind (arith, part_same)
 
-  -- it is, and the table has one more
   pub part_with : (t u : TableOf) → bit_at part x ≡ 1 → u ≡ rows_with t x → IsPartTable root part y t → IsPartTable root part x u
   part_with t u one made is = grind (arith, bit_or, part_more)

@@ -77,7 +77,6 @@ module _ {E : Type 0} (parts : List (Result (Option (ℕ × ℕ)) E)) where
       (each : (k : ℕ) (d : Result (Option (ℕ × ℕ)) E) → k < length parts →
       IfOk (get_or parts k d) (IsFirstEdge (FailsWithin n F values judged (part_at end k * 2 ^ (n - end)) (n - end))))
       (few : end < 7) (le : end ≤ n) (all : length judged ≡ 2 ^ n) where
-    -- what a part found fails
     found_fails : (sound : All (λ part. IsTrue (is_ok part)) parts) (S x : ℕ) → IsEdgeFound parts S x → EdgeFails n F values judged S x
     found_fails sound S x f =
         (subst (λ r. IfOk r (IsFirstEdge (FailsWithin n F values judged (part_at end f.0 * 2 ^ (n - end)) (n - end)))) f.2

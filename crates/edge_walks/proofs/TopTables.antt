@@ -25,6 +25,5 @@ module _ (P : TruthTables) (x y made : ℕ) where
     long = omega arith;
   }
 
-  -- with one more
   pub tops_more : (t : TableOf) (tops : List TableOf) → AreTopsTo P x y made tops → StandsAt P x t → AreTopsTo P x y made (tops ++ t ∷ [])
   tops_more t tops are stands = grind (arith, get_or_append_left, cases_lt, length_push, get_or_at)

@@ -30,7 +30,6 @@ module _ (P : TruthTables) where
   pub stands_start : (y : ℕ) (t : TableOf) → y ≡ P.inputs → t ≡ table_at P 0 P.inputs → StandsAt P y t
   stands_start y t all made = grind (arith, zero-mul, multiple, pow_pos)
 
-  -- a table with shorter rows
   pub stands_shorter : (y : ℕ) (t u : TableOf) → StandsAt P y t → u ≡ rows_at t y → StandsAt P y u
   stands_shorter y t u stands made = grind arith
 
@@ -51,7 +50,6 @@ module _ (P : TruthTables) where
   upper_set x y t u next stands made =
       ap (λ (v : TableOf). v.set) made ∙ high_or t.set x (ap (λ k. t.set % 2 ^ k) (sym next) ∙ stands.block.aligned)
 
-  -- its table
   pub stands_upper : (x y : ℕ) (t u : TableOf) → y ≡ x + 1 → StandsAt P y t → u ≡ rows_with t x → StandsAt P x u
   stands_upper x y t u next stands made =
       let set = upper_set x y t u next stands made in
@@ -69,11 +67,9 @@ module _ (P : TruthTables) where
         };
       }
 
-  -- the set of a part's table
   pub part_set : (part end : ℕ) (root t : TableOf) → IsBlock P.inputs part end → IsPartTable root part end t → t.set ≡ part
   part_set part end root t block is = grind (arith, div-add-mod')
 
-  -- the table of a part
   pub stands_part : (part end : ℕ) (root t : TableOf) → IsBlock P.inputs part end → end ≤ P.inputs → root.problem ≡ P → IsPartTable root part end t →
       StandsAt P end t
   stands_part part end root t block inside same is = grind (arith, part_set)

@@ -131,7 +131,6 @@ depth_grows levels xs ys g id known = ⊎_elim
     two_or_less : (a : ℕ) → (2 ≤ a) ⊎ (a < 2)
     two_or_less a = grind arith
 
--- an id that lies below a level
 pub below_depth : (levels : ℕ) (ws : List ℕ) (level id : ℕ) → IsKnown ws id → level < depth levels ws id → IsBelow ws level id
 below_depth levels ws level id known less two = (known two, (let e = depth_node levels ws id two in omega arith))
 

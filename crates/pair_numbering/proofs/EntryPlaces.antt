@@ -115,11 +115,9 @@ module _ {R : Type 0} (now : R → List (ℕ × ℕ)) where
       ∙ ap (λ z. get_or (laid_out now (Some ns) numbers (2 ^ rank)) z 0)
       (omega arith)
 
--- a pair is one of a block
 pub pair_block : (numbers : List ℕ) (rank j : ℕ) → IsPaired numbers rank → j < length numbers / 2 → j / 2 ^ rank < length numbers / 2 / 2 ^ rank
 pair_block numbers rank j p h = grind (arith, div-mul-add, pow_pos, div-lt_iff_lt-mul)
 
--- the strips of pairs of names, as a table
 pub strip_table : (names : List (ℕ × ℕ)) (numbers : List ℕ) (bits classes : ℕ) → ArePairedStrips names numbers bits classes →
     IsPairTable (unrolled (names_of names) numbers (2 ^ bits)) bits classes
 strip_table names numbers bits classes strips = grind (arith, length_named, length_names_of, two_strips, unrolled_below, pow_pos)

@@ -33,7 +33,6 @@ module _ (masks : List ℕ) (x : ℕ) (ps : List (ℕ × ℕ)) (numbers joined :
       let j = place_of (0, 0) ps q b in
       (λ e. sym i.1.1 ∙ t.apart i.0 j.0 i.1.0 j.1.0 (ap t.name i.1.1 ∙ e ∙ sym (ap t.name j.1.1)) ∙ j.1.1, ap t.name)
 
-  -- the names are numbered as the pairs are
   pub names_ranked : ranks nat_eq numbers ≡ ranks same_pair ps
   names_ranked = ap (ranks nat_eq) t.numbers_are ∙ ranks_alike nat_eq nat_decides same_pair pair_decides t.name (λ p. p) ps names_apart
       ∙ ap (ranks same_pair) (map-id ps)
@@ -86,7 +85,6 @@ names_numbered masks x ps numbers joined small h = record {
   few = omega (arith, distinct_count-le same_pair ps);
 }
 
--- joined keys are names
 pub names_joined : (masks : List ℕ) (x : ℕ) (cs : List ℕ) (r : ℕ) → IsPairTable cs r (length masks) → length masks ≤ 256 → (numbers joined : List ℕ) →
     numbers ≡ map (joined_key (length masks)) (pairs cs (2 ^ r)) →
     joined ≡ map (joined_key_mask masks x) (range_with_len 0 (length masks * length masks)) →

@@ -92,7 +92,6 @@ pub unrepeated_type : (known : Option LogicalType) (late : Bool) (given : List (
 unrepeated_type None late given e = refl
 unrepeated_type (Some x) late given e = absurd cc
 
--- names wait for their count
 pub names_wait : (names : Option (List (List ℕ))) (old new : Option ℕ) → old ≡ None → IfSome names (λ ns. old ≡ Some (length ns)) →
     IfSome names (λ ns. new ≡ Some (length ns))
 names_wait None old new e counted = tt
@@ -103,7 +102,6 @@ no_terms_yet : (s : State) → IsSoundState s → (s.inputs ≡ None) ⊎ (s.out
 no_terms_yet s sound (inl none) = sound.no_terms (rw none refl)
 no_terms_yet s sound (inr none) = sound.no_terms (rw none (and-false (is_some s.inputs)))
 
--- after a line that gives nothing
 pub after_nothing : (before : List Line) (s : State) (line : Line) → input_count line ≡ None → output_count line ≡ None →
     input_naming line ≡ None → output_naming line ≡ None →
     type_words line ≡ None → row_bytes line ≡ None → Agrees before s → Agrees (before ++ line ∷ []) s
@@ -120,7 +118,6 @@ rows_of_none before s line n m agrees e none =
 all_of_none : (n m : ℕ) (terms : List Term) → terms ≡ [] → All (Fits n m) terms
 all_of_none n m terms none = rw none (All-nil (Fits n m))
 
--- after the number of inputs
 pub after_inputs : (before : List Line) (s : State) (given : List (List ℕ)) (d : ℕ) → Agrees before s → s.inputs ≡ None →
     first_number given ≡ Some d → 1 ≤ d → d ≤ 16 →
     Agrees (before ++ Inputs given ∷ []) (record s { inputs = Some d })
@@ -141,7 +138,6 @@ after_inputs before s given d agrees none number some few = let terms = no_terms
   };
 }
 
--- after the number of outputs
 pub after_outputs : (before : List Line) (s : State) (given : List (List ℕ)) (d : ℕ) → Agrees before s → s.outputs ≡ None →
     first_number given ≡ Some d → 1 ≤ d → d ≤ 16 →
     Agrees (before ++ Outputs given ∷ []) (record s { outputs = Some d })
@@ -162,17 +158,14 @@ after_outputs before s given d agrees none number some few = let terms = no_term
   };
 }
 
--- after the names of the inputs
 pub after_input_names : (before : List Line) (s : State) (given : List (List ℕ)) → Agrees before s → s.input_names ≡ None → s.inputs ≡ Some (length given) →
     Agrees (before ++ InputNames given ∷ []) (record s { input_names = Some given })
 after_input_names before s given agrees none counted = search (none_behind, first_given, unwrap_or)
 
--- after the names of the outputs
 pub after_output_names : (before : List Line) (s : State) (given : List (List ℕ)) → Agrees before s → s.output_names ≡ None → s.outputs ≡ Some (length given) →
     Agrees (before ++ OutputNames given ∷ []) (record s { output_names = Some given })
 after_output_names before s given agrees none counted = search (none_behind, first_given, unwrap_or)
 
--- after a logical type
 pub after_type : (before : List Line) (s : State) (given : List (List ℕ)) (kind : LogicalType) → Agrees before s → s.logical_type ≡ None →
     words_of kind ≡ given →
     Agrees (before ++ TypeLine given ∷ []) (record s { logical_type = Some kind })
@@ -194,11 +187,9 @@ after_type before s given kind agrees none said = record {
   };
 }
 
--- one more term fits
 all_more : (n m : ℕ) (terms : List Term) (term : Term) → All (Fits n m) terms → Fits n m term → All (Fits n m) (terms ++ term ∷ [])
 all_more n m terms term all one = All-append (Fits n m) terms (term ∷ []) all (search rules)
 
--- after a term
 pub after_row : (before : List Line) (s : State) (n m : ℕ) (bytes : List ℕ) (term : Term) → Agrees before s → s.inputs ≡ Some n →
     s.outputs ≡ Some m → product_of n m term ≡ term_of n bytes → Fits n m term →
     Agrees (before ++ Row bytes ∷ []) (record s { terms = s.terms ++ term ∷ [] })

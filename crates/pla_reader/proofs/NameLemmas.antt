@@ -11,7 +11,6 @@ use Rattle.pla_reader.specs.Text.{is_name}
 use Rattle.pla_reader.specs.Covers.{numbered_names}
 use Rattle.definitions.proofs.Lists.Ranges.{range_append}
 
--- a word that may be a name is ASCII
 pub ascii_name : (word : List ℕ) → is_name word ≡ true → IsAscii word
 ascii_name [] e = IsAscii-nil
 ascii_name (b ∷ bs) e = let parts = and_parts (is_ascii_graphic b) (is_name bs) e in IsAscii-cons b bs (grind (arith, nat_tests)) (ascii_name bs parts.1)

@@ -61,7 +61,6 @@ next_place start text rest word after gone blanks places places' so_far t r w mo
     ∙ ap (λ (v : List ℕ). at places ++ v ∷ words after) (word_at front text back gone rest blanks word after start f t r)
     ∙ ap (λ (ws : List (List ℕ)). at places ++ ws) (sym w) ∙ so_far front back f
 
--- it lies inside the text
 pub next_inside : (start : ℕ) (text rest word after gone blanks : List ℕ) (places places' : List TextPlace) →
     All (LiesIn start (start + length text)) places → text ≡ gone ++ rest → rest ≡ blanks ++ word ++ after →
     places' ≡ places ++ record { start = start + (length text - length after - length word); length = length word } ∷ [] →
@@ -79,11 +78,9 @@ pub inside_more : (start end start' end' : ℕ) (places : List TextPlace) → st
 inside_more start end start' end' places s e all =
     All-weaker (LiesIn start end) (LiesIn start' end') (λ p h. (omega (arith, h.0, h.1), omega (arith, h.0, h.1))) places all
 
--- there are none
 pub none_inside : (start end : ℕ) (places : List TextPlace) → places ≡ [] → All (LiesIn start end) places
 none_inside start end places none = subst (All (LiesIn start end)) (sym none) (All-nil (LiesIn start end))
 
--- one line more
 pub lines_more : (bytes rest line after : List ℕ) (before : List (List ℕ)) → lines_of bytes ≡ before ++ lines_of rest →
     lines_of rest ≡ line ∷ lines_of after → (before' : List (List ℕ)) × (lines_of bytes ≡ before' ++ lines_of after)
 lines_more bytes rest line after before ls l =

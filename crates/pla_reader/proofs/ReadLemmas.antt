@@ -125,7 +125,6 @@ unfolding faults
 end_is_found lines before stated none =
     rw stated (ap (λ found. found ++ end_faults lines) (none_in_range (judged before) 0 (length before) (λ k low high. none k (omega arith))))
 
--- the end of a description without a fault
 ending : (lines before : List Line) (number : ℕ) (s : State) → description lines ≡ before → min (length before + 1) (length lines) ≡ number →
     ((k : ℕ) → k < length before → judged before k ≡ None) → Agrees before s →
     faults lines ≡ cond (is_some s.inputs && is_some s.outputs) [] ((number, MissingHead) ∷ [])

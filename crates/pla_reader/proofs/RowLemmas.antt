@@ -134,7 +134,6 @@ long_fails taken n m line i k old here inside e behind = sym (front_fault taken 
 abbrev is_one : ℕ → Bool
 is_one = in_on_set
 
--- at the end of the line
 end_fault : (taken : Bool) (n m : ℕ) (line : List ℕ) (i k : ℕ) (term : Masks) → IsAt taken n m line i k term → length line ≤ i →
     cond (nat_lt k (n + m)) (Some ShortTerm) None ≡ term_fault taken n m (positions line)
 end_fault taken n m line i k term here over = sym (ap (rest_fault taken n m k) (positions_end line i over)) ∙ here.fault

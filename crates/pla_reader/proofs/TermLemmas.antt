@@ -103,7 +103,6 @@ pub record HoldsFirst (n m k : ℕ) (bytes : List ℕ) (term : Masks) : Type 0 w
 pub holds_none : (n m : ℕ) (bytes : List ℕ) → HoldsFirst n m 0 bytes (record { care = 0; value = 0; outs = 0 })
 holds_none n m bytes = grind (arith, bit_at-zero, pow_pos)
 
--- the literal in masks is that of two bits
 literal_same : (a b : Masks) (i : ℕ) → bit_at a.care i ≡ bit_at b.care i → bit_at a.value i ≡ bit_at b.value i → literal_at a i ≡ literal_at b i
 literal_same a b i care value = rw care (rw value refl)
 

@@ -93,7 +93,6 @@ no_names : (xs : Option (List (List ℕ))) → is_some xs ≡ false → xs ≡ N
 no_names None e = refl
 no_names (Some x) e = absurd cc
 
--- where a count is missing there are no rows
 no_rows : (i o i' o' : Option ℕ) (rows : List (List ℕ)) → (is_some i && is_some o) ≡ false → All (FitsCounts i o) rows → All (FitsCounts i' o') rows
 no_rows i o i' o' rows missing all = λ k d inside. absurd (let both = (all k d inside).0 in cc)
 
@@ -281,7 +280,6 @@ unfolding numbered_names
 names_length n front None list e counted = rw e (length-map-range_with_len (λ i. front ++ decimal i) 0 n)
 names_length n front (Some ns) list e counted = rw e (let same : length ns ≡ n = cc in same)
 
--- products of the rows
 all_products : (n m : ℕ) (rows : List (List ℕ)) → All (FitsCounts (Some n) (Some m)) rows → All (IsProductOf n m) (map (term_of n) rows)
 unfolding term_of
 all_products n m rows all = λ k d inside.
@@ -309,7 +307,6 @@ formed lines (Some n) (Some m) xs ys known e =
       products = all_products n m (filter_map row_bytes lines) known.rows;
     }))
 
--- lines with both counts
 formed_behind : (lines : List Line) → Sound lines → (comes input_count lines && comes output_count lines) ≡ true → IsCover (cover_of lines)
 formed_behind lines sound both =
     let known = sound.known in

@@ -108,7 +108,6 @@ directives : map after_heads (
 unfolding lines_of words positions directive meaning line_said said description inputs_of outputs_of term_fault fault_of judged end_faults faults
 directives = refl
 
--- one line alone, and no line
 counts : map first_line_alone (
     codes ".i 17" ∷
     codes ".i 0" ∷

@@ -37,7 +37,6 @@ has_fewest_same n F G P order s h = record {
   fewest = (h.fewest.0, represents_same n F G order h.fewest.0 s h.fewest.1, fewest_same n F G P (length h.fewest.0.nodes) s h.fewest.2);
 }
 
--- the first order of the fewest nodes that keeps the pairs
 pub first_same : (n : ℕ) (F G : List Function) (P : List Pair) (order : List ℕ) → AllSame n F G → IsFirstKeeping n F P order → IsFirstKeeping n G P order
 first_same n F G P order s h = record {
   fewest = has_fewest_same n F G P order s h.fewest;
@@ -58,7 +57,6 @@ module _ (n : ℕ) (F G : List Function) (P : List Pair) (s : AllSame n F G) whe
   unfolding sifting_order
   sifting_order_same order = λ i. fold (λ ys x. insert_by_count (λ y. level_count_same n F G s order (place_in order y) i) x ys) [] (variables n)
 
-  -- the sifted order
   pub sifted_same : (order : List ℕ) → sifted n F P order ≡ sifted n G P order
   unfolding sifted
   sifted_same order = λ i. fold (λ o x. best_same o x i) order (sifting_order_same order i)

@@ -36,7 +36,6 @@ true_at [] k h = absurd (omega arith)
 true_at (r ∷ cut) zero h = refl
 true_at (r ∷ cut) (suc k) h = true_at cut k (omega arith)
 
--- one level more at the bottom of a path
 path_more : (levels : List (List Children)) (xs : List ℕ) (L : List Children) (x k : ℕ) (p : Point) → length levels ≡ length xs →
     place_below (levels ++ L ∷ []) (xs ++ x ∷ []) k p ≡ child (bit p x) (at L (place_below levels xs k p))
 unfolding place_below
@@ -121,7 +120,6 @@ module _ (order : List ℕ) (o : IsOrder (length order) order) (d : Graph) (ok :
       root_is : (j : ℕ) → j < length d.roots → ref_at cut (get_or numbers j 0) ≡ ref_at d.roots j
       root_is j h = at_is (get_or numbers j 0) (n.first.inside j h) ∙ ap ref_named (n.first.numbered j h) ∙ ref_code (ref_at d.roots j)
 
-  -- one level more
   pub built_more : (done : ℕ) (levels : List (List Children)) (cut next : List Ref) (L : List Children) → done < length order →
       Built order d numbers done levels cut → Splits d.nodes (get_or order done 0) cut L next →
       Built order d numbers (done + 1) (levels ++ L ∷ []) next
@@ -156,7 +154,6 @@ module _ (order : List ℕ) (o : IsOrder (length order) order) (d : Graph) (ok :
       codes_same : (j k : ℕ) → j < length s.codes → k < length s.codes → ref_at next j ≡ ref_at next k → get_or s.codes j 0 ≡ get_or s.codes k 0
       codes_same j k a c e = sym (code_ref (get_or s.codes j 0)) ∙ ap code_of (sym (at_is j a) ∙ e ∙ at_is k c) ∙ code_ref (get_or s.codes k 0)
 
-      -- a child's ref
       child_is : (k : ℕ) → k < length cut → (c : Bool) →
           (child c (at L k) < length s.codes)
           × (ref_at next (child c (at L k)) ≡ half c (split_ref d.nodes (get_or order done 0) (ref_at cut k)))
@@ -224,7 +221,6 @@ module _ (order : List ℕ) (o : IsOrder (length order) order) (d : Graph) (ok :
       own : (x : ℕ) → has order x ≡ true → place_in order x < length order
       own x there = (own_place x order o.once there).1
 
-  -- all levels
   pub built_all : (levels : List (List Children)) (cut : List Ref) → Built order d numbers (length order) levels cut →
       IsBuilt order d.nodes d.roots numbers levels (map is_true cut)
   unfolding SameFunction function_at

@@ -243,7 +243,6 @@ distinct_behind (x ∷ xs) ys d = distinct_behind xs ys d.1
 below_behind : (n : ℕ) (above order : List ℕ) → IsOrder n (above ++ order) → Below n order
 below_behind n above order o = below_from_has n order (λ y h. (o.all y).0 (has_append above order y ∙ or_right (has above y) _ h))
 
--- the counts of the levels are the level counts
 pub counts_below : (n most : ℕ) (T : List Bool) (F : List Function) (levels : List (List Children)) (above order : List ℕ) →
     IsOrder n (above ++ order) → AreTerminals T → length levels ≡ length order → AreLevels most T levels →
     Covers n (reach F above) levels T order → map (level_count n F (above ++ order)) (range_with_len (length above) (length order)) ≡ map branching levels
@@ -279,7 +278,6 @@ place_among [] j d h = absurd (omega arith)
 place_among (g ∷ F) zero d h = inl refl
 place_among (g ∷ F) (suc j) d h = inr (place_among F j d (omega arith))
 
--- the functions of the roots
 pub roots_cover : (n : ℕ) (levels : List (List Children)) (T : List Bool) (order roots : List ℕ) (F : List Function) →
     AreRoots (places levels T) roots → length F ≡ length roots →
     ((j : ℕ) (g : Function) → j < length roots → SameFunction n (get_or F j g) (function_at levels T order (get_or roots j 0))) →

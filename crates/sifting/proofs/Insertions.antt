@@ -12,7 +12,6 @@ module _ {K : Type 0} (d : K) (p : K) (keys : List K) where
   pub inserted_again : (i : ℕ) → i < length keys → get_or keys i d ≡ p → Inserted d keys keys p i
   inserted_again i there here = grind arith
 
-  -- it is new
   pub inserted_new : ((k : ℕ) → k < length keys → get_or keys k d ≢ p) → Inserted d keys (keys ++ p ∷ []) p (length keys)
   inserted_new absent = grind (arith, length_push, get_or_at, get_or_append_left, cases_eq)
 

@@ -234,7 +234,6 @@ module _ (levels : List Level) (T : List Bool) (order roots : List ℕ) (kept : 
   pub lower_is : (d : Level) → get_or (nodes_of levels) (suc i) [] ≡ (get_or levels (i + 1) d).nodes.items
   lower_is d = ap (λ k. get_or (nodes_of levels) k []) (sym (add-one i)) ∙ nodes_get levels (i + 1) d level_inside.1
 
-  -- the nodes of the upper level are few
   pub upper_few : (upper : List Children) → get_or (nodes_of levels) i [] ≡ upper → 4 * length upper ≤ 4294967296
   upper_few upper e =
       let a = length-nodes levels in

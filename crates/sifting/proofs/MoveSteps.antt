@@ -19,13 +19,11 @@ moved_none place m = record { moves = λ others x h e. e; functions_stay = refl;
 swap_long : (order : List ℕ) (i : ℕ) → i + 1 < length order → length (swap order i (i + 1)) ≡ length order
 swap_long order i h = ap length (crossed_is order i h) ∙ length_crossed order i
 
--- one place up
 pub moved_up : (place other : ℕ) (from m to : Managed) → 0 < other → other < length from.order → place < length from.order → IsMoved place other from m →
     to.order ≡ swap m.order (other - 1) (other - 1 + 1) → to.problem ≡ m.problem → to.pairs ≡ m.pairs → IsMoved place (other - 1) from to
 unfolding Moves
 moved_up place other from m to some inside within moved e f g = grind (arith, length-placed, crossed_is, crossed, crossed_up, swap_long)
 
--- one place down
 pub moved_down : (place other : ℕ) (from m to : Managed) → other + 1 < length from.order → place < length from.order → IsMoved place other from m →
     to.order ≡ swap m.order other (other + 1) → to.problem ≡ m.problem → to.pairs ≡ m.pairs → IsMoved place (other + 1) from to
 unfolding Moves
@@ -54,7 +52,6 @@ module _ (m cur : Managed) (place from to best least size : ℕ) (found : FindsB
       Keeps m.pairs (insert others i x)
   keeps_lower others x h e i a b = grind (arith, cases_eq, keeps_here)
 
-  -- a smaller size
   pub finds_smaller : size < least → FindsBest m place from (to + 1) (to + 1) size
   finds_smaller lt = grind (arith, keeps_lower, size_here, cases_eq)
 
@@ -157,7 +154,6 @@ smallest_is m d place from to best least found others x h e =
 
 -- ---- the way back
 
--- an order with one variable taken out
 pub taken_out : (order : List ℕ) (i : ℕ) → i < length order → (others : List ℕ) × (x : ℕ) × (order ≡ insert others i x)
 taken_out [] i h = absurd (omega arith)
 taken_out (x ∷ order) zero h = (order, x, refl)

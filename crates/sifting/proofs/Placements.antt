@@ -106,7 +106,6 @@ not_below x y (z ∷ others) (suc i) (suc j) lt le e d h =
     let parts = or_parts (nat_eq x z) (has others x) h in
     ap (λ c. cond c (has (insert others i x) y) (is_above x y (insert others i x))) parts.0 ∙ not_below x y others i j (omega arith) (omega arith) e d.1 parts.1
 
--- an order that breaks a pair
 pub breaks : (P : List Pair) (a b : ℕ) (order : List ℕ) → has_pair P a b ≡ true → is_above a b order ≡ false → keeps P order ≡ false
 unfolding keeps
 breaks [] a b order h k = absurd (false≢true h)

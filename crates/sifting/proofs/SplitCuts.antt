@@ -37,7 +37,6 @@ abbrev pub Stands : List ℕ → Graph → ℕ → Ref → Type 0
 Stands order d i r = IsBefore (length d.nodes) r × StandsFrom order d.nodes i r
 
 module _ (n : ℕ) (order : List ℕ) (d : Graph) (ok : IsDiagram n d) (ordered : IsOrdered order d) where
-  -- its value is that of the half that the point takes
   pub split_value : (x : ℕ) (p : Point) (r : Ref) → value d.nodes r p ≡ value d.nodes (half (bit p x) (split_ref d.nodes x r)) p
   unfolding split_ref
   split_value x p (Terminal b) = grind arith

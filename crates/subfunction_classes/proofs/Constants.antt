@@ -97,7 +97,6 @@ long_point : (n j : ℕ) → length (point_of n j) ≡ n
 unfolding point_of
 long_point n j = length-map-range_with_len (λ x. eqb (bit_at j x) 1) 0 n
 
--- the values of the functions at all points, function by function
 unfoldable pub all_values : ℕ → List Function → List Bool
 all_values n F = flat_map (λ f. map (λ j. f (point_of n j)) (range_with_len 0 (2 ^ n))) F
 
@@ -110,7 +109,6 @@ values_reached n F =
     ∙ map_ranges (λ j. value_of n (fixed n j f)) (λ j. f (point_of n j)) (2 ^ n) 0 0
     (λ i lt. fixed_value n (0 + i) f (point_of n 0) (long_point n 0))) F
 
--- each function reached is constant
 pub reached_constant : (n : ℕ) (F : List Function) (g : Function) → Among g (reach F (reverse (variables n))) → (p : Point) → length p ≡ n → g p ≡ value_of n g
 unfolding reach
 reached_constant n F g a p l =

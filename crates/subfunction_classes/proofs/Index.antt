@@ -27,7 +27,6 @@ low_place_is rank j h =
 pub pair_within : (step blocks len j : ℕ) → 0 < step → len ≡ blocks * (2 * step) → j < len / 2 → low_place step j + step < len
 pair_within step blocks len j some e h = grind arith
 
--- one more pair
 pub pairs_more : (cs : List ℕ) (step j : ℕ) → j < length cs / 2 → take (j + 1) (pairs cs step) ≡ take j (pairs cs step) ++ pair_at cs step j ∷ []
 unfolding pairs
 pairs_more cs step j h =
@@ -79,7 +78,6 @@ pub all_done : (cs : List ℕ) (step j : ℕ) → length cs / 2 ≤ j → map (r
 unfolding ranks
 all_done cs step j h = ap (map (rank same_pair (pairs cs step))) (take_all j (pairs cs step) (omega (arith, length-pairs cs step)))
 
--- the listed pair
 pub pair_listed : (cs : List ℕ) (step i : ℕ) → i < length cs / 2 → get_or (pairs cs step) i (0, 0) ≡ pair_at cs step i
 unfolding pairs
 pair_listed cs step i h = get_or-map-range_with_len (pair_at cs step) 0 (length cs / 2) i i (0, 0) h (omega arith)

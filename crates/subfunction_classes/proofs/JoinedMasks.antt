@@ -87,7 +87,6 @@ module _ {M : Type 0} (none : M) (ps : List (ℕ × ℕ)) (join : ℕ × ℕ →
       alike [] g = refl
       alike (q ∷ qs) g = λ i. g 0 (omega arith) i ∷ alike qs (λ k lt. g (suc k) (omega arith)) i
 
--- the number of a pair
 pub number_at : (ps : List (ℕ × ℕ)) (numbered : List ℕ) (j : ℕ) → numbered ≡ ranks same_pair ps → j < length ps →
     get_or numbered j 0 ≡ rank same_pair ps (get_or ps j (0, 0))
 unfolding ranks
@@ -107,6 +106,5 @@ pub pair_classes : (cs : List ℕ) (rank classes j : ℕ) → ((blocks : ℕ) ×
     ((pair_at cs (2 ^ rank) j).0 < classes) × ((pair_at cs (2 ^ rank) j).1 < classes)
 pair_classes cs rank classes j whole small h = grind arith
 
--- the place of a number is that of a pair
 pub numbered_place : (cs numbered : List ℕ) (rank : ℕ) → numbered ≡ ranks same_pair (pairs cs (2 ^ rank)) → length numbered ≡ length cs / 2
 numbered_place cs numbered rank e = length-ranks (pairs cs (2 ^ rank)) numbered e ∙ length-pairs cs (2 ^ rank)

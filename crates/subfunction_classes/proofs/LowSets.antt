@@ -28,7 +28,6 @@ low_same mask y e = grind (arith, shr_and_one, low_bits)
 pub low_new : (n mask y : ℕ) → has (members n (mask % 2 ^ y)) y ≡ false
 low_new n mask y = grind (arith, has_members, low_free)
 
--- a bit of a mask, and its member
 pub bit_unset : (n mask y : ℕ) → bit_and (mask / 2 ^ y) 1 ≡ 0 → has (members n mask) y ≡ false
 bit_unset n mask y e = grind (arith, shr_and_one, has_members)
 

@@ -117,7 +117,6 @@ module _ (t : ClassesOf) (x : ℕ) (inside : x < t.problem.inputs) (new : has (s
       same_pairs : pairs numbers (2 ^ free_below t.set x) ≡ pairs (class_numbers t.problem.inputs (functions_of t) (set_of t)) (step_of (set_of t) x)
       same_pairs = ap₂ pairs h.classes step_is
 
--- classes are below the number of masks
 pub class_below : (t : ClassesOf) (numbers masks : List ℕ) → HoldsClasses t numbers masks → (i : ℕ) → i < length numbers → get_or numbers i 0 < length masks
 unfolding class_numbers class_of rank
 class_below t numbers masks h i lt =

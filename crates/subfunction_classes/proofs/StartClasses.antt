@@ -58,7 +58,6 @@ rank_value first bs b = ap (distinct_count beq) (take_while-cons (λ u. not (beq
         (λ u h. elim h [ inl s ↦ inl s | inr a ↦ inl (same bs e u a) ])
         (λ u h. elim h [ inl s ↦ inl s | inr a ↦ absurd a ])
 
--- the numbers of the values
 pub ranks_values : (first : Bool) (bs : List Bool) → ranks beq (first ∷ bs) ≡ map (number_of first) (first ∷ bs)
 unfolding ranks
 ranks_values first bs = grind (arith, rank_value)
@@ -171,7 +170,6 @@ start_masks n F first rest e masks zeros l = record {
 
 -- ---- the values of truth tables
 
--- the number of the point with a number
 number-point_of : (n k : ℕ) → k < 2 ^ n → number (point_of n k) ≡ k
 unfolding number point_of
 number-point_of zero k h = omega arith

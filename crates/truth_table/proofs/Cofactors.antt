@@ -54,7 +54,6 @@ cofactor_more n x care value t old new b m v e l s =
     ∙ sym (ap (table n)
     (ap (λ xs. fixed xs value (from_table t)) (members_more x care m) ∙ fixed_last (members x care) x value (from_table t)))
 
--- the words of the output
 pub cofactor_start : (t now : TruthTables) (n output care value : ℕ) (slice words : List ℕ) → t ≡ now → n ≡ t.inputs →
     length slice ≡ words_per_table t.inputs → table_in t.inputs slice ≡ table_at t output →
     IsClean t.inputs slice → words ≡ slice →

@@ -68,7 +68,6 @@ fixed_inside n x true k small h = elim (zero_or_one k x) [
 ]
 fixed_inside n x false k small h = omega arith
 
--- fixing a bit twice is fixing it once
 fixed_twice : (x : ℕ) (b : Bool) (k : ℕ) → fixed_bit x b (fixed_bit x b k) ≡ fixed_bit x b k
 fixed_twice x b k = grind (arith, up_zero, up_one, flip, down_zero, down_one)
 
@@ -103,7 +102,6 @@ pub row_rest : (old now : List ℕ) (i v : ℕ) → ((j : ℕ) → i ≤ j → g
     get_or (set now i v) j 0 ≡ get_or old j 0
 row_rest old now i v rest j l = get_or-set_other now i j v 0 (omega arith) ∙ rest j (omega arith)
 
--- the number of a point with a variable set
 pub number-fixed : (p : Point) (x : ℕ) (b : Bool) → x < length p → number (set p x b) ≡ fixed_bit x b (number p)
 number-fixed p x b h = by (get_or p x false) refl b
   where

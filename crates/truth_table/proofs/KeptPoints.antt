@@ -12,7 +12,6 @@ use Rattle.truth_table.proofs.TermWords.{masked_bits}
 module _ (n m : ℕ) (words items : List ℕ) (mask : ℕ) (masks : (b : ℕ) → b < 64 → eqb (bit_at mask b) 1 ≡ ltb b (2 ^ n))
     (narrow : mask < 2 ^ 64) (long : length words ≡ m * words_per_table n)
     (same : length items ≡ length words) (laid : (i : ℕ) → i < length words → get_or items i 0 ≡ bit_and (get_or words i 0) mask) where
-  -- the bits of a word that is kept
   kept_bit : (i b : ℕ) → i < length words → b < 64 → eqb (bit_at (get_or items i 0) b) 1 ≡ (eqb (bit_at (get_or words i 0) b) 1 && ltb b (2 ^ n))
   kept_bit i b h l = grind (arith, masked_bits)
 

@@ -149,7 +149,6 @@ number-laid n xs all k small p l =
     same_from_bits_below n (number (laid xs k p)) k (subst (λ (z : ℕ). number (laid xs k p) < 2 ^ z) long (number-small (laid xs k p))) small
     (λ y h. bit-number (laid xs k p) y (omega arith) ∙ ap weight (bit-laid xs k p y (omega arith) (all y h)) ∙ weight_bit (bit_at k y) (bit_at-lt k y))
 
--- a function with all variables fixed is a constant
 fixed_constant : (n : ℕ) (xs : List ℕ) → ((y : ℕ) → y < n → has xs y ≡ true) → (k : ℕ) → k < 2 ^ n → (t : List Bool) →
     SameFunction n (fixed xs k (from_table t)) (λ p. get_or t k false)
 unfolding SameFunction from_table
@@ -245,7 +244,6 @@ values_more ks tables j h =
     ∙ flat_map-append (λ t. map (value_number t) ks) (take j tables) (get_or tables j [] ∷ [])
     ∙ ap (λ us. flat_map (λ t. map (value_number t) ks) (take j tables) ++ us) (append-nil (map (value_number (get_or tables j [])) ks))
 
--- the values that the words of a table have at points
 pub values_packed : (n : ℕ) (words : List ℕ) (t : List Bool) (ks : List ℕ) → table_in n words ≡ t → All (λ k. k < 2 ^ n) ks →
     map (λ k. cond (packed_bit words k) 1 0) ks ≡ map (value_number t) ks
 values_packed n words t [] e h = refl

@@ -102,7 +102,6 @@ module _ (n : ℕ) (fs : List Function) (order : List ℕ) (level x : ℕ) (o : 
   place_x : place_in order x ≡ level
   place_x = ap (place_in order) at_level ∙ place_get order level o.once inside
 
-  -- the refs below
   below_before : (k : ℕ) → k < length below → IsBefore (length old) (ref_named (get_or below k 0))
   below_before k h =
       subst (IsBefore (length old)) (get_or-map ref_named below k 0 (Terminal false) h)

@@ -22,7 +22,6 @@ use mathlib.Core.List.{map-map}
 use Rattle.definitions.proofs.Widths.Parts.{reach_parts}
 use Rattle.definitions.proofs.Widths.SizeBounds.{length-subfunctions}
 
--- each function restricted by x both ways
 abbrev pub both_restricted : ℕ → Function → List Function
 both_restricted x g = restrict x false g ∷ restrict x true g ∷ []
 
@@ -191,7 +190,6 @@ module _ (n : ℕ) (F : List Function) (order : List ℕ) (level : ℕ) (h : lev
     unfolding level_count
     level_counted unequal e = e ∙ sym (dependents_are_pairs n (get_or order level 0) (reach F (take level order)) cs below)
 
--- one more count
 pub counts_more : (count : ℕ → ℕ) (counts : List ℕ) (level top unequal : ℕ) → level < length counts → unequal ≡ count level →
     ((i : ℕ) → level + 1 ≤ i → i < top → get_or counts i 0 ≡ count i) → (i : ℕ) → level ≤ i → i < top → get_or (set counts level unequal) i 0 ≡ count i
 counts_more count counts level top unequal h e done i l k = grind (arith, get_or-set_same, get_or-set_other)
@@ -210,7 +208,6 @@ few_blocks k h = grows k (16 - k) (omega arith)
         let s = pow-add 2 a b in
         grind arith
 
--- the classes of a level are few
 pub few_classes : (n : ℕ) (F : List Function) (order : List ℕ) (level : ℕ) (cs : List ℕ) → length F ≤ 16 → length order ≤ 16 →
     level ≤ length order → Tells n (reach F (take level order)) cs → length cs < 4294967296
 few_classes n F order level cs m o l t = grind (arith, length-reach, length-take-le, few_blocks)

@@ -165,7 +165,6 @@ output_is n m term j h = get_or-map-range_with_len (output_in term) 0 m j j fals
 pub and_turned : (a b : Bool) → (a && b) ≡ (b && a)
 and_turned a b = grind arith
 
--- the function of the products of terms
 pub product_is : (n m : ℕ) (terms : List Term) (j : ℕ) (p : Point) → n ≤ 16 → j < m → length p ≡ n → All (Fits n m) terms →
     product_function (map (product_of n m) terms) j p ≡ covered terms j (number p)
 unfolding product_function covered

@@ -53,7 +53,6 @@ among_any u (k ∷ ks) h = elim h [
     by true e = refl
     by false e = e
 
--- the place of a key
 place : List Pair → Pair → ℕ
 place keys u = position_or_len (same_pair u) keys
 

@@ -102,7 +102,6 @@ or_false : (b : Bool) → b ≡ (b || false)
 or_false true = refl
 or_false false = refl
 
--- the cover's value with one more term
 pub covered_more : (terms : List Term) (i : ℕ) → i < length terms → (term : Term) → term ≡ get_or terms i term → (output k : ℕ) →
     covered (take (i + 1) terms) output k ≡ (covered (take i terms) output k || covers term output k)
 unfolding covered
@@ -141,7 +140,6 @@ place_added term group place initial words new done left stays here p low = grin
 
 -- ---- truth tables
 
--- the entry of a truth table at a point's number
 entry_at : (n : ℕ) (g : Function) (p : Point) → length p ≡ n → get_or (table n g) (number p) false ≡ g p
 unfolding SameFunction from_table
 entry_at n g p l = same_from_table n (from_table (table n g)) g (table-from_table n (table n g) (table_long n g)) p l

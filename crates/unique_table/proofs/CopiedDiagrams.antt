@@ -103,7 +103,6 @@ module _ (order ws numbers : List ℕ) (nodes : List Node) (is : IsOrder (length
   place_of_node k node f = ap (λ (z : Node). place_in order z.variable) (sym f.is_copy)
       ∙ place_get order (level_of (get_or ws f.place 0)) is.once (small_level f.place f.copied.full)
 
-  -- a child's place, by its ref
   child_place : (id q j : ℕ) → IsKnown numbers id → ref_of numbers id ≡ Place j → get_or numbers q 0 ≡ j + 1 → (2 ≤ id) × (q ≡ id - 2)
   child_place id q j known e number = grind (arith, ⊎_elim, ref_place, ref_terminal, le_or_lt)
 

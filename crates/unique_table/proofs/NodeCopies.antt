@@ -32,7 +32,6 @@ ref_place numbers id h = refuse (nat_lt id 2) (Terminal (id == 1)) (Place (get_o
 pub ref_grows : (xs ys : List ℕ) (id : ℕ) → Grows xs ys → IsKnown xs id → ref_of ys id ≡ ref_of xs id
 ref_grows xs ys id g known = grind (arith, ⊎_elim, ref_place, ref_terminal, le_or_lt)
 
--- a ref of an earlier copy is before
 pub ref_before : (numbers : List ℕ) (p id : ℕ) → IsEarlier numbers p id → IsBefore (get_or numbers p 0 - 1) (ref_of numbers id)
 ref_before numbers p id e = grind (arith, ⊎_elim, ref_place, ref_terminal, le_or_lt)
 

@@ -33,7 +33,6 @@ made_only s K made word w is same g = subst (λ (z : ℕ). GainsOnly K.made made
 pub store_is : (t : store.Inside) (T : StoreId) (seat : Sitting) → store_id t ≡ T → IsSeatOf t.table.shared seat → (seated seat).store ≡ T
 store_is t T seat is fits = (λ i. record { table = fits.table i; plan = fits.plan i }) ∙ is
 
--- ids are unique
 pub unique_ids : (t : store.Inside) → IsStore t → (seat : Sitting) → IsSeatOf t.table.shared seat → HasUniqueIds (seated seat)
 unique_ids t kt seat sits id other f a b =
     one_id (order_of seat.me.0.plan) seat.me.0.seen sits.good.nodes sits.good.unequal id other f

@@ -17,7 +17,6 @@ use Rattle.unique_table.specs.Invariant.{nodes_of, pieces_of}
 use Rattle.unique_table.specs.Closing.{ClosedStoreOf, AreFinal, AreFilled, HasAllRoots, SessionsLackWhatIsEmpty, root_word, root_id, root_functions, roots_count}
 use Rattle.std.proofs.lemmas.Bool.{cases_lt}
 
--- one more id
 pub more_ids : (c : ClosedStoreOf) (ids ids' : List ℕ) (j x word : ℕ) → ids ≡ map (root_id c) (range_with_len 0 j) →
     word ≡ root_word c j → x ≡ word - 1 → ids' ≡ ids ++ x ∷ [] → ids' ≡ map (root_id c) (range_with_len 0 (j + 1))
 more_ids c ids ids' j x word old word_is x_is new =
@@ -26,7 +25,6 @@ more_ids c ids ids' j x word old word_is x_is new =
 pub more_filled : (c : ClosedStoreOf) (j word : ℕ) → AreFilled c j → word ≡ root_word c j → word ≢ 0 → AreFilled c (j + 1)
 more_filled c j word all is full i low = grind (arith, ⊎_elim, cases_lt)
 
--- the function of a root's piece
 pub root_function : (b : Plan) (j : ℕ) → piece_function b (b.roots + j) ≡ output_at b.problem.value j
 unfolding piece_function
 root_function b j = grind (arith, nat_lt, le-ltb)
@@ -34,7 +32,6 @@ root_function b j = grind (arith, nat_lt, le-ltb)
 -- ---- the roots
 
 module _ (c : ClosedStoreOf) (f : AreFinal c) where
-  -- the word of a root, as a piece
   root_piece : (j : ℕ) → root_word c j ≡ get_or (pieces_of c.plan c.words) (c.plan.roots + j) 0
   root_piece j = grind (arith, get_or-drop)
 

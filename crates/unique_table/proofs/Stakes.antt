@@ -134,7 +134,6 @@ module _ (views : List View) (id : ℕ) (v : View) (at : get_elem? views id ≡ 
       let d = ap (amount k) sum_is ∙ both k v.stake w.stake (omega (arith, h, h', e, e', two, large)) in
       let old = within k (omega (arith, h, h', e, e', large)) in omega (arith, a, a', d, ap (amount k) none ∙ zero-mul (2 ^ (k - 0)), old)
 
-  -- beside the whole no other view has a part
   pub no_other : (other : ℕ) (w left : View) → left.stake ≡ record { units = 0; halvings = 0 } → other ≢ id → get_elem? views other ≡ some w →
       0 < v.stake.units → IsWhole w.stake → ⊥
   no_other other w left none ne at' some_part w_whole =

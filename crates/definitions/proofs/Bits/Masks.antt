@@ -23,7 +23,6 @@ pub distinct_members : (n mask : ℕ) → IsDistinct nat_eq (members n mask)
 unfolding members
 distinct_members n mask = distinct_filter (λ x. eqb (bit_at mask x) 1) (variables n) (distinct_variables n)
 
--- the bits of a mask without a member
 bit_without : (mask x : ℕ) → bit_at mask x ≡ 1 → (bit_at (mask - 2 ^ x) x ≡ 0) × ((y : ℕ) → y ≢ x → bit_at (mask - 2 ^ x) y ≡ bit_at mask y)
 bit_without mask x e = (gone, others)
   where
@@ -52,7 +51,6 @@ bit_without mask x e = (gone, others)
 is_one_lem : (b : ℕ) → eqb b 1 ≡ true → b ≡ 1
 is_one_lem b e = eqb-true b 1 e
 
--- the members of a mask without one
 pub members_without : (n mask x : ℕ) → has (members n mask) x ≡ true → (y : ℕ) → has (members n (mask - 2 ^ x)) y ≡ has (without x (members n mask)) y
 members_without n mask x h y =
     has_members n (mask - 2 ^ x) y ∙ middle ∙ sym (has_without x (members n mask) y ∙ ap (λ b. b && not (nat_eq x y)) (has_members n mask y))
@@ -82,7 +80,6 @@ members_full n y = grind (arith, has_members, bit_at_ones, has_variables)
 
 -- ---- the mask of a list
 
--- the bits of a mask are the variables of the list
 pub bit-mask_of : (xs : List ℕ) → IsDistinct nat_eq xs → (y : ℕ) → bit_at (mask_of xs) y ≡ cond (has xs y) 1 0
 unfolding mask_of IsDistinct
 bit-mask_of [] d y = bit_at-zero y
@@ -121,7 +118,6 @@ mask_of_small n xs d small =
     ]) in
     omega arith
 
--- the mask of the members of a mask
 pub mask_of_members : (n mask : ℕ) → mask < 2 ^ n → mask_of (members n mask) ≡ mask
 mask_of_members n mask lt =
     same_from_bits (mask_of (members n mask)) mask

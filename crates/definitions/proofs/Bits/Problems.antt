@@ -36,7 +36,6 @@ length-table_in n words = length-map-range_with_len (packed_bit words) 0 (2 ^ n)
 pub block_inside : (W m j : ℕ) → j < m → j * W + W ≤ m * W
 block_inside W m j h = grind arith
 
--- each point of a table lies in one of its words
 pub point_inside : (n k : ℕ) → k < 2 ^ n → k / 64 < words_per_table n
 point_inside n k h = omega arith
 

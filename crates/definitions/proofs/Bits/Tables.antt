@@ -22,7 +22,6 @@ value_at_word words i b h = grind arith
 pub same_bit : (a b : ℕ) → a < 2 → b < 2 → eqb a 1 ≡ eqb b 1 → a ≡ b
 same_bit a b h k l = grind arith
 
--- from 6 variables on a table fills its words
 pub whole_words : (n : ℕ) → ((6 ≤ n) × (2 ^ n ≡ 64 * 2 ^ (n - 6)) × (words_per_table n ≡ 2 ^ (n - 6))) ⊎ ((n < 6) × (words_per_table n ≡ 1))
 whole_words n = elim (cases_lt n 6) [ inl h ↦ inr (h, few n h) | inr h ↦ inl (h, whole h, fill h) ]
   where

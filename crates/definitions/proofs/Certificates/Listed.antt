@@ -12,7 +12,6 @@ use Rattle.definitions.specs.Certificates.{listed_masks}
 use Rattle.definitions.proofs.Widths.Cells.{within_from, cost_open, cost_known}
 
 module _ (n : ℕ) (F : List Function) (P : List Pair) (bound total : ℕ) (le : total ≤ bound) where
-  -- a listed set's cost is its cell's
   pub listed_cost : (mask : ℕ) → is_lawful P (members n mask) ≡ true →
       least n F P (members n mask) + essentials_outside n F (members n mask) ≤ bound →
       cell_cost n F P Variables bound mask ≡ least n F P (members n mask)

@@ -168,11 +168,9 @@ good_is_fewest n F cert good =
       no_fewer = λ other d o k rep. no_diagram_is_smaller n F cert good other d o k rep;
     }
 
--- no reason applies to a good certificate
 pub good_has_no_reason : (n : ℕ) (F : List Function) (cert : Certificate) → IsGood n F cert → (reason : Reason) → Applies n F cert reason → ⊥
 good_has_no_reason n F cert h reason k = grind arith
 
--- its order keeps its pairs, and has its total
 pub good_order : (n : ℕ) (F : List Function) (cert : Certificate) → IsGood n F cert →
     IsOrder n cert.order × Keeps cert.pairs cert.order × (size_under n F cert.order ≡ cert.total)
 unfolding size_under

@@ -108,7 +108,6 @@ module _ (n : ℕ) (F : List Function) (P : List Pair) (order : List ℕ) (best 
         ]
       ]
 
-  -- and a listed set's is its least cost
   value_listed : (m : ℕ) → Listed m → set_value n F cert m ≡ least n F P (members n m)
   unfolding Listed
   value_listed m h =

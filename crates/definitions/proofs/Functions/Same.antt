@@ -11,7 +11,6 @@ use Rattle.definitions.specs.Levels.{subfunctions, reach, dependents, level_coun
 use Rattle.definitions.proofs.Functions.Tables.{restrict_same, same_from_table, table_same, depends_same}
 use Rattle.definitions.proofs.Bits.Points.{table-from_table, point_count}
 
--- function by function the same
 abbrev pub AllSame : ℕ → List Function → List Function → Type 0
 AllSame n F G = AllZip (SameFunction n) F G
 

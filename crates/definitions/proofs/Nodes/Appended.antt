@@ -24,7 +24,6 @@ get_cases [] ys k z e = inr (k, sym (zero-add k), e)
 get_cases (x ∷ xs) ys zero z e = inl e
 get_cases (x ∷ xs) ys (suc k) z e = elim (get_cases xs ys k z e) [ inl a ↦ inl a | inr b ↦ inr (b.0, omega arith, b.2) ]
 
--- a list of nodes, with no root
 abbrev pub graph_of : List Node → Graph
 graph_of nodes = record { nodes = nodes; roots = [] }
 

@@ -43,7 +43,6 @@ reach_more F above x b g h =
     let from = among_from_flat_map (subfunctions above) g F h in
     among_flat_map (subfunctions (above ++ x ∷ [])) from.0 F (restrict x b g) from.1 (subfunctions_more x b above from.0 g from.2)
 
--- a function is its restriction by the point's own value
 pub own_restriction : (x : ℕ) (g : Function) (p : Point) → restrict x (bit p x) g p ≡ g p
 unfolding restrict
 own_restriction x g p = ap g (set-get_or p x false)
@@ -110,7 +109,6 @@ record Made (n : ℕ) (old : List Node) (x : ℕ) (g : Function) (node : Node) :
   low : SameFunction n (value old node.low) (restrict x false g)
   high : SameFunction n (value old node.high) (restrict x true g)
 
--- a node for a function with the table
 abbrev Stands : ℕ → List Node → ℕ → Node → List Bool → Type 0
 Stands n old x node t = (g : Function) × (t ≡ table n g) × Made n old x g node
 
@@ -235,7 +233,6 @@ module _ (n : ℕ) (F : List Function) (order : List ℕ) (o : IsOrder n order) 
   both_low : (k : ℕ) (node : Node) → slice_get both k ≡ Some node → length above ≤ place_in order node.variable
   both_low k node e = grind (arith, node_at_both, old_place, new_place)
 
-  -- a child is an old node
   old_child : (j k : ℕ) (child : Node) → slice_get both j ≡ Some child → j < length rest.nodes → slice_get rest.nodes j ≡ Some child
   unfolding both
   old_child j k child e lt = sym (get_left rest.nodes more j lt) ∙ e
@@ -244,7 +241,6 @@ module _ (n : ℕ) (F : List Function) (order : List ℕ) (o : IsOrder n order) 
   unfolding IsOrdered
   both_ordered j k child parent cj pk is = grind (arith, node_at_both, slice_get_within, new_node, old_place, new_place)
 
-  -- a new node denotes its function
   new_value : (j : ℕ) (node : Node) → slice_get more j ≡ Some node → (g : Function) → Made n rest.nodes x g node →
       SameFunction n (value both (Place (length rest.nodes + j))) g
   unfolding SameFunction both

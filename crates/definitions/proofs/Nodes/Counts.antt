@@ -6,11 +6,9 @@ use Rattle.std.proofs.lemmas.List.Sums.{count_by_more_no, count_by_more_yes}
 use Rattle.definitions.specs.declared.refs.Node.{Node}
 use Rattle.definitions.specs.Diagrams.{variable_count}
 
--- the first i nodes are counted
 abbrev pub CountsFirst : List Node → ℕ → List ℕ → Type 0
 CountsFirst nodes i counts = (x : ℕ) → x < 16 → get_or counts x 0 ≡ variable_count (take i nodes) x
 
--- one node more
 pub counts_more : (nodes : List Node) (i : ℕ) (counts : List ℕ) (d : Node) → length counts ≡ 16 → i < length nodes →
     CountsFirst nodes i counts → (get_or nodes i d).variable < 16 →
     CountsFirst nodes (i + 1) (set counts (get_or nodes i d).variable (get_or counts (get_or nodes i d).variable 0 + 1))

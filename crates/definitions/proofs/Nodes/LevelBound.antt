@@ -127,7 +127,6 @@ module _ (n : ℕ) (order : List ℕ) (d : Graph) (ok : IsDiagram n d) (ordered 
 
 -- ---- counting
 
--- a root of the function
 pub root_of : (R : Ref → Function → Type 0) (P : Ref → Type 0) (roots : List Ref) (F : List Function) → AllZip R roots F →
     AllByRecursion P roots → (f : Function) → Among f F → (r : Ref) × R r f × P r
 root_of R P [] [] z a f h = absurd h
@@ -145,7 +144,6 @@ pub count_enumerated : {X : Type 0} (p : X → Bool) (xs : List X) (s : ℕ) →
 count_enumerated p [] s = refl
 count_enumerated {X} p (x ∷ xs) s = grind (arith, count_enumerated p xs (s + 1))
 
--- each level has at least its count of nodes
 pub level_bound : (n : ℕ) (F : List Function) (order : List ℕ) (d : Graph) → IsOrder n order → Represents n F order d → (i : ℕ) → i < length order →
     level_count n F order i ≤ nodes_at d (slice_index order i)
 unfolding level_count dependents reach nodes_at IsOf

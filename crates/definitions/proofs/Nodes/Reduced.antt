@@ -35,7 +35,6 @@ before_split : (k : ℕ) (r : Ref) → IsBefore (suc k) r → IsBefore k r ⊎ (
 before_split k (Terminal b) h = inl tt
 before_split k (Place j) h = elim (cases_eq j k) [ inl e ↦ inr (ap Place e) | inr ne ↦ inl (omega arith) ]
 
--- a point
 zeros : ℕ → Point
 zeros n = replicate n false
 
@@ -63,11 +62,9 @@ module _ (n : ℕ) (order : List ℕ) (d : Graph) (ok : IsDiagram n d) (ordered 
       ∙ sym (free n order d ok ordered (suc (place_in order x)) x (omega arith) true p r before stands)
 
   module _ (reduced : IsReduced d) (inj : (x y : ℕ) → x < n → y < n → place_in order x ≡ place_in order y → x ≡ y) where
-    -- refs before k with one function are equal
     abbrev pub Canonical : ℕ → Type 0
     Canonical k = (r s : Ref) → IsBefore k r → IsBefore k s → SameFunction n (value d.nodes r) (value d.nodes s) → r ≡ s
 
-    -- then a node at k depends on its variable
     node_depends : (k : ℕ) → Canonical k → (node : Node) → slice_get d.nodes k ≡ Some node →
         SameFunction n (restrict node.variable false (value d.nodes (Place k))) (restrict node.variable true (value d.nodes (Place k))) → ⊥
     node_depends k can node e same =

@@ -11,7 +11,6 @@ use Rattle.definitions.specs.Pairs.{Pair, has_pair, Leads}
 use Rattle.definitions.specs.Pairs.Leads.{by_one, by_more}
 use Rattle.definitions.specs.KeptPairs.{HasBit, IsJoined}
 
--- pairs lead from a to b, and on to c
 pub leads_on : {P : List Pair} {a b c : ℕ} → Leads P a b → Leads P b c → Leads P a c
 leads_on (by_one h) r = by_more h r
 leads_on (by_more h l) r = by_more h (leads_on l r)

@@ -79,7 +79,6 @@ greedy_start n P xs kept long = record {
   long = long;
 }
 
--- one member fewer
 one_fewer : (n mask x : ℕ) → has (members n mask) x ≡ true → suc (length (members n (mask - 2 ^ x))) ≡ length (members n mask)
 one_fewer n mask x h =
     let e = length-from_same_keys nat_eq_equiv (members n (mask - 2 ^ x)) (without x (members n mask)) (distinct_members n (mask - 2 ^ x))

@@ -124,7 +124,6 @@ pub are_lawful_nil : (P : List Pair) → are_lawful P [] ≡ true
 unfolding are_lawful
 are_lawful_nil P = refl
 
--- the whole of a lawful list is a lawful set
 pub lawful_whole : (P : List Pair) (xs : List ℕ) → are_lawful P xs ≡ true → is_lawful P xs ≡ true
 lawful_whole P [] h = lawful_from P [] (λ p m a. absurd (false≢true a))
 lawful_whole P (x ∷ xs) h = (are_lawful_parts P x xs h).0

@@ -75,7 +75,6 @@ sorted_by n P = refl
 pub has_in : (n : ℕ) (below : List ℕ) (a b : ℕ) → (has_pair (pairs_in n below) a b ≡ true) ↔ ((a < n) × (b < n) × HasBit below a b)
 has_in n below a b = grind (arith, in_by, has_by)
 
--- each pair of the list
 pub among_in : (n : ℕ) (below : List ℕ) (p : Pair) → Among p (pairs_in n below) → (p.0 < n) × (p.1 < n) × HasBit below p.0 p.1
 among_in n below p m =
     let r = among_by n (bit_test below) p (subst (Among p) (in_by n below) m) in (r.0, r.1, eqb-true (bit_at (get_or below p.0 0) p.1) 1 r.2)
@@ -83,7 +82,6 @@ among_in n below p m =
 pub below_in : (n : ℕ) (below : List ℕ) → AreBelow n (pairs_in n below)
 below_in n below k d h = let s = among_in n below _ (among_at (pairs_in n below) k d h) in (s.0, s.1)
 
--- pairs below n, one by one
 pub below_from : (n : ℕ) (P : List Pair) → ((a b : ℕ) → has_pair P a b ≡ true → (a < n) × (b < n)) → AreBelow n P
 below_from n P f k d h = f _ _ (among_pair P _ (among_at P k d h))
 
@@ -174,7 +172,6 @@ small_mask n m low =
     ]) in
     omega arith
 
--- the masks within n variables are below 2 ^ n
 pub row_small : (n : ℕ) (below : List ℕ) → AreWithin n below → (a : ℕ) → get_or below a 0 < 2 ^ n
 row_small n below w a = small_mask n (get_or below a 0) (λ b h. (w a b h).1)
 

@@ -70,11 +70,9 @@ number_none word f =
     find_none (λ j. pointwise nat_eq word (decimal j)) (variables 16)
     (λ j t m. f j ((has_variables 16 j).0 m) (same_text word (decimal j) (sym t)))
 
--- the decimals of 10 to 15
 decimal_teen : (k : ℕ) → 10 ≤ k → k < 16 → decimal k ≡ 49 ∷ (38 + k) ∷ []
 decimal_teen k h l = grind (arith, decimal_step, decimal_digit)
 
--- a word of one digit
 pub number_digit : (word : List ℕ) → length word ≡ 1 → 48 ≤ get_or word 0 0 → get_or word 0 0 < 58 → variable_of word ≡ Some (get_or word 0 0 - 48)
 number_digit [] e l h = absurd (omega arith)
 number_digit (d ∷ []) e l h =
@@ -109,7 +107,6 @@ pair_small part a b e =
     let s = both_parts (variable_of (before_first (λ x. eqb x 44) part)) (variable_of (after_first (λ x. eqb x 44) part)) a b e in
     ((number_parts (before_first (λ x. eqb x 44) part) a s.0).0, (number_parts (after_first (λ x. eqb x 44) part) b s.1).0)
 
--- a part without a comma has no pair
 pub pair_without_comma : (part : List ℕ) → None ≡ position (λ x. eqb x 44) part → pair_of part ≡ None
 pair_without_comma part e = grind (arith, drop_all, number_refused)
 
@@ -143,7 +140,6 @@ pairs_of-fails [] k d h e = absurd (omega arith)
 pairs_of-fails (x ∷ xs) zero d h e = ap (λ o. with_pair o (pairs_of xs)) e
 pairs_of-fails (x ∷ xs) (suc k) d h e = grind (arith, pairs_of-fails xs k d (omega arith) e)
 
--- one pair more
 has_pair-more : (P : List Pair) (p : Pair) (a b : ℕ) → has_pair (P ++ p ∷ []) a b ≡ (has_pair P a b || (nat_eq a p.0 && nat_eq b p.1))
 has_pair-more [] p a b = last (nat_eq a p.0 && nat_eq b p.1)
   where

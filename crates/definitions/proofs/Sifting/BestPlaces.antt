@@ -81,7 +81,6 @@ module _ (n : ℕ) (F : List Function) (p : List ℕ → Bool) (f : ℕ → List
           ]
       by false e rest = grind arith
 
--- the best order has the variable at its best place
 pub best_at_best_place : (n : ℕ) (F : List Function) (P : List Pair) (order : List ℕ) (x : ℕ) → IsOrder n order → Keeps P order → x < n →
     (i : ℕ) × IsBestPlace n F P order x i × (best n F P order x ≡ moved order x i)
 unfolding best placements

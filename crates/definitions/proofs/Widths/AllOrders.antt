@@ -72,7 +72,6 @@ orders_listed n P order = (
       h.1),
 )
 
--- each once
 pub orders_once : (n : ℕ) (P : List Pair) → AllPairs (λ xs ys. xs ≢ ys) (all_orders n P)
 unfolding all_orders
 orders_once n P = apart_by_places (filter (keeps P) (arrangements n (variables n)))
@@ -101,12 +100,10 @@ lists_none P S d u =
           | inr f ↦ f
         ]
 
--- the empty set has the empty list
 pub lists_empty : (P : List Pair) → lawful_lists P [] ≡ [] ∷ []
 unfolding lawful_lists arrangements are_lawful
 lists_empty P = refl
 
--- the lists of S with x on top
 abbrev pub lists_with_top : List Pair → List ℕ → ℕ → List (List ℕ)
 lists_with_top P S x = map (λ xs. x ∷ xs) (lawful_lists P (without x S))
 
@@ -200,7 +197,6 @@ module _ (P : List Pair) (S : List ℕ) (z : ℕ) (d : IsDistinct nat_eq S) (l :
                   | inr f ↦ ap (λ b. cond b 1 0) f
                 ])
 
-    -- the sum of the costs
     pub total_recur : cost_total n F P S ≡ sum_by (cost_total_with_top n F P S) (tops P S)
     unfolding cost_total
     total_recur =
@@ -265,7 +261,6 @@ members_less n mask x h =
         ≡ filter (λ y. nat_eq (bit_at mask y) 1 && not (nat_eq x y)) (variables n)
     twice = filter_twice (λ y. nat_eq (bit_at mask y) 1) (λ y. not (nat_eq x y)) (variables n)
 
--- the members of the mask of all variables are all variables
 pub members_all : (n : ℕ) → members n (2 ^ n - 1) ≡ variables n
 unfolding members
 members_all n =

@@ -140,7 +140,6 @@ module _ (n : ℕ) (F : List Function) (P : List Pair) (base : List ℕ) (o : Is
   pub cell_member : has (members n mask) (cell_of n F P r bound mask).1 ≡ true
   cell_member = grind (arith, open_cell, closed_cell, first_has)
 
--- the parts of a cell within the bound
 pub cell_cost_is : (n : ℕ) (F : List Function) (P : List Pair) (r : LowerBound) (bound mask : ℕ) → is_within n F P r bound (members n mask) ≡ true →
     (cell_of n F P r bound mask).0 ≡ least n F P (members n mask)
 cell_cost_is n F P r bound mask h = ap (λ (c : ℕ × ℕ). c.0) (open_is n F P r bound mask h)
@@ -181,7 +180,6 @@ pub members_zero : (n : ℕ) → members n 0 ≡ []
 unfolding members
 members_zero n = filter_none (λ x. eqb (bit_at 0 x) 1) (variables n) (λ y. ap (λ b. eqb b 1) (bit_at-zero y))
 
--- within the bound a set's cost is its least cost
 pub cost_open : (n : ℕ) (F : List Function) (P : List Pair) (r : LowerBound) (bound mask : ℕ) → is_within n F P r bound (members n mask) ≡ true →
     cell_cost n F P r bound mask ≡ least n F P (members n mask)
 unfolding cell_cost
@@ -328,7 +326,6 @@ module _ (n : ℕ) (F : List Function) (P : List Pair) (base : List ℕ) (o : Is
         grind (arith, sum_lem, never_empty)
   ])
 
-  -- the cell follows from the costs and widths
   pub cell_from_is : (z : ℕ) → has (members n mask) z ≡ true →
       cell_from n P bound (nodes_above n F r (members n mask)) mask costs widths ≡ cell_of n F P r bound mask
   unfolding cell_from left firsts

@@ -125,7 +125,6 @@ widths_bound n F P r bound =
     few : (mask : ℕ) → length (wanted n F P r bound mask) ≤ length (members n mask)
     few mask = wanted_few n F P r bound mask
 
--- the members of the mask of the essential variables
 pub essential_members : (n : ℕ) (F : List Function) → members n (essential_mask n F) ≡ essential n F
 unfolding members essential_mask essential
 essential_members n F = filter_same (λ x. eqb (bit_at (mask_of (essential n F)) x) 1) (λ x. list_any (λ f. depends n f x) F) (variables n) at

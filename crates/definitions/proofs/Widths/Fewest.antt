@@ -14,7 +14,6 @@ use Rattle.definitions.proofs.Nodes.LevelBound.{size_bound}
 use Rattle.definitions.proofs.Widths.Recurrence.{IsArrangement, IsLawfulList, IsLawfulSet, least_is_least, distinct_variables}
 use Rattle.definitions.proofs.Nodes.Construction.{exact_diagram}
 
--- an order is an arrangement of all variables
 pub arrangement_from_order : (n : ℕ) (order : List ℕ) → IsOrder n order → IsArrangement (variables n) order
 arrangement_from_order n order o = grind (arith, has_variables)
 
@@ -29,7 +28,6 @@ ground n P order o k = record { once = o.once; keeps = k }
 pub lawful_from_order : (n : ℕ) (P : List Pair) (order : List ℕ) → IsOrder n order → Keeps P order → IsLawfulList P (variables n) order
 lawful_from_order n P order o k = search (arrangement_from_order, lawful_below, keeps_at)
 
--- all variables are a lawful set
 pub all_lawful : (n : ℕ) (P : List Pair) (order : List ℕ) → IsOrder n order → Keeps P order → IsLawfulSet P order (variables n)
 all_lawful n P order o k = record {
   once = distinct_variables n;

@@ -22,7 +22,6 @@ by_four x y a b c d p = cond (bit p x) (cond (bit p y) d c) (cond (bit p y) b a)
 bools : List Bool
 bools = false ∷ true ∷ []
 
--- all functions of x and y
 of_two : ℕ → ℕ → List Function
 of_two x y = flat_map (λ a. flat_map (λ b. flat_map (λ c. map (λ d. by_four x y a b c d) bools) bools) bools) bools
 

@@ -154,7 +154,6 @@ bounded_step n F Widths T y new small =
     (λ x m.
     omega (arith, asked_step n F T x y m new small, asked_bounded n F (y ∷ T) x (or_right (nat_eq x y) _ m)))
 
--- the lower bound above all variables is 0
 pub bounded_all : (n : ℕ) (F : List Function) (r : LowerBound) (S : List ℕ) → ((y : ℕ) → y < n → has S y ≡ true) → nodes_above n F r S ≡ 0
 bounded_all n F Variables S h = bounded_variables n F S ∙ essentials_all n F S h
 bounded_all n F Widths S h = grind (arith, essentials_all, bounded_least, asked_all)

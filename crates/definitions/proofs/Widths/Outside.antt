@@ -22,7 +22,6 @@ bit_has n mask y lt = has_members n mask y ∙ ap (λ b. b && eqb (bit_at mask y
 both_bits : (a b : ℕ) → a < 2 → b < 2 → eqb (min a (1 - b)) 1 ≡ (eqb a 1 && not (eqb b 1))
 both_bits a b h k = grind arith
 
--- the mask of the essential variables is one of all variables
 pub essential_small : (n : ℕ) (F : List Function) → essential_mask n F < 2 ^ n
 unfolding essential_mask essential
 essential_small n F = grind (arith, mask_of_small, distinct_essential, has_variables, has_filter)

@@ -240,7 +240,6 @@ module _ (n : ℕ) (F : List Function) (P : List Pair) (whole : List ℕ) (groun
           among_filter (are_lawful P) xs (arrangements (length S) S)
           (subst (λ k. Among xs (arrangements k S)) (length_arrangement S xs set.once a.arrangement) (arranged xs S a.arrangement)) a.lawful
 
-  -- the set without a top
   pub without_top : (S : List ℕ) (x : ℕ) → IsLawfulSet P whole S → is_lawful P (without x S) ≡ true → IsLawfulSet P whole (without x S)
   without_top S x set l = grind (arith, distinct_without, has_without)
 

@@ -93,7 +93,6 @@ module _ (n : ℕ) (F : List Function) (P : List Pair) where
   unfolding orders_of_size size_total
   sizes_add_up limit h = weighed (λ s. s) (size_under n F) limit (all_orders n P) (λ order m. omega (arith, sizes_over order m, h))
 
-  -- a size that an order has is counted
   counted : (order : List ℕ) → Among order (all_orders n P) → (s : ℕ) → size_under n F order ≡ s → 0 < orders_of_size n F P s
   unfolding orders_of_size
   counted order m s e = go (all_orders n P) m
@@ -109,7 +108,6 @@ module _ (n : ℕ) (F : List Function) (P : List Pair) where
             | inr r ↦ omega (arith, step, go xss r)
           ]
 
-  -- a size that no order has is not
   not_counted : (s : ℕ) → ((order : List ℕ) → Among order (all_orders n P) → size_under n F order ≢ s) → orders_of_size n F P s ≡ 0
   unfolding orders_of_size
   not_counted s h =

@@ -86,7 +86,6 @@ unfolding points restrict table depends subfunctions reach dependents level_coun
     certificate_of
 above_certificate = refl
 
--- the sifted orders, from the first orders that keep the pairs
 above_sifted : sifted 3 (mux ∷ []) first_above_last (0 ∷ 1 ∷ 2 ∷ []) ≡ 0 ∷ 2 ∷ 1 ∷ []
 unfolding points restrict table depends subfunctions reach dependents level_count level_counts size_under without placements smallest_order
     smallest_of keeps is_above best insert_by_count sifting_order sifted place_in

@@ -10,7 +10,6 @@ use Rattle.definitions.specs.Problems.{functions}
 use Rattle.certificate.proofs.OrderParts.{parts_same}
 use Rattle.certificate.proofs.order_certificates.certificate_text.Goals as goal
 
--- a text that spells a certificate
 stated : (cert own : Certificate) (r : Result (String Global) AllocError) → own ≡ cert → HasSpelling own →
     IfOk r (λ text. string_bytes text ≡ spelling own) → IfOk r (λ text. Spells (string_bytes text) cert)
 stated cert own (Ok text) e has is = subst (Spells (string_bytes text)) e (record { has = has; text_is = is })

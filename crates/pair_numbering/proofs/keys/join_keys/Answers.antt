@@ -59,7 +59,6 @@ keys_below : (cs : List ℕ) (rank base j : ℕ) → IsPaired cs rank → AllBel
 keys_below cs rank base j paired below l low high e =
     subst (λ (p : ℕ × ℕ). (p.0 < base) × (p.1 < base)) (sym e) (listed_classes cs rank base j paired.whole below l)
 
--- and so their key fits
 key_fits : (low high base : ℕ) → low < base → high < base → base ≤ 256 → (high * base < 2 ^ 32) × (low + high * base < 2 ^ 32)
 key_fits low high base l h b =
     let m = mul-le-mul (let s : high ≤ 256 = omega arith in s) b in

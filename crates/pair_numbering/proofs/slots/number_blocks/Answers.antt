@@ -128,7 +128,6 @@ loop-block-preserved c =
     subst (Slotted (places.pairs cs (2 ^ rank)) (home_of (4 * (length cs / 2))) c.args.pairs.now.counts.now c.loop-i.slots c.loop-i.keys c.loop-i.out
     c.loop-i.count) all c.loop-i.invariant
 
--- a place among the pairs is small
 place_small : (cs : List ℕ) (step n place : ℕ) → place < n → n ≡ length (places.pairs cs step) → length cs ≤ 2 ^ 16 → place < 2 ^ 16
 place_small cs step n place l e f = omega (arith, length-pairs cs step)
 
