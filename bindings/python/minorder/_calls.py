@@ -53,11 +53,12 @@ class Result(_Sized):
     """An order, top first, its level counts, top first, and its size, which is their sum. Those of ``exact`` and ``sift`` know
     their tables: a notebook shows their diagram. ``levels``, ``sift`` and ``diagram`` take a result as its order."""
     _functions: Optional[Functions] = None
+    _inputs: Optional[Tuple[str, ...]] = None
 
     @property
     def names(self) -> Tuple[str, ...]:
-        """The names of the order's variables, top first: x0, x1, .. if its tables have none, or if it doesn't know them."""
-        names = numbered_names("x", len(self.order)) if self._functions is None else self._functions.names[0]
+        """The names of the order's variables, top first: x0, x1, .. if its tables have none, or if it comes from elsewhere."""
+        names = self._inputs or numbered_names("x", len(self.order))
         return tuple(names[variable] for variable in self.order)
 
     @cached_property
@@ -132,7 +133,7 @@ def variables_of(order: Order, inputs: Optional[int]) -> Tuple[int, ...]:
 
 def _result_of(functions: Functions, order: Iterable[int], levels: Iterable[int], total: int) -> Result:
     found = Result(tuple(order), tuple(levels), total)
-    found._functions = functions
+    found._functions, found._inputs = functions, functions.names[0]
     return found
 
 

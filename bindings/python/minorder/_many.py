@@ -3,13 +3,13 @@ from array import array
 from concurrent.futures import Executor
 from ctypes import c_uint8, c_uint32, c_uint64
 from struct import Struct
-from typing import Dict, Iterable, Iterator, List, Mapping, Optional, Sequence
+from typing import Dict, Iterable, Iterator, List, Mapping, Optional, Sequence, Tuple
 
 from ._arguments import checked_inputs, native, shown
 from ._calls import Result, done
 from ._errors import BadArgument, BadShape, MinorderError
 from ._library import library
-from ._tables import Pla, Tables, inputs_said, listed, no_inputs, words_of
+from ._tables import Pla, Tables, inputs_said, listed, names_said, no_inputs, words_of
 from ._threads import Crew, workers_of
 
 # of a chunk: inputs, outputs, and how many functions
@@ -22,8 +22,7 @@ def exact_many(
         tables: Iterable[Tables], inputs: Optional[int] = None, workers: Optional[int] = None,
         executor: Optional[Executor] = None,
 ) -> List[Result]:
-    """What ``exact`` gives for each of many functions, in their order, but that these results don't know their tables: their
-    ``names`` are x0, x1, .., and a notebook shows no diagram.
+    """What ``exact`` gives for each of many functions, in their order, but that a notebook shows no diagram of these results.
 
     Each is given as ``exact`` takes it, and all have as many inputs and tables as the first. They are done by
     ``workers`` threads, as many as there are processors if that is left out, or by an executor of ``concurrent.futures``, which
@@ -41,9 +40,14 @@ def exact_many(
         raise _of_function(0, error) from None
     inputs, outputs = checked_inputs(inputs), len(first)
     size = max(1, min(MOST_POINTS >> inputs, -(-len(each) // (4 * workers_of(workers)))))
-    chunks = chunks_of(each, inputs, outputs, size)
+    names: List[Optional[Tuple[str, ...]]] = []
+    chunks = chunks_of(each, inputs, outputs, size, names)
     with Crew[int](exact_chunk, workers, executor) as crew:
-        return _results_by(crew, chunks, inputs)
+        results = _results_by(crew, chunks, inputs)
+    for result, known in zip(results, names):
+        if known is not None:
+            result._inputs = known
+    return results
 
 
 def _results_by(crew: Crew[int], chunks: Iterable[bytes], inputs: int) -> List[Result]:
@@ -74,24 +78,32 @@ def _of_function(number: int, error: MinorderError) -> MinorderError:
     return type(error)(f"tables: function {number}: {said[len('tables: '):] if said.startswith('tables: ') else said}")
 
 
-def chunks_of(functions: Sequence[Tables], inputs: int, outputs: int, size: int) -> Iterator[bytes]:
+def chunks_of(
+        functions: Sequence[Tables], inputs: int, outputs: int, size: int, names: List[Optional[Tuple[str, ...]]],
+) -> Iterator[bytes]:
+    """The functions, so many in a chunk. Appends the names of each one's variables to ``names``, None for a plain number."""
     for start in range(0, len(functions), size):
         part = functions[start:start + size]
-        yield HEAD.pack(inputs, outputs, len(part)) + b"".join(_words_of_each(part, start, inputs, outputs))
+        yield HEAD.pack(inputs, outputs, len(part)) + b"".join(_words_of_each(part, start, inputs, outputs, names))
 
 
-def _words_of_each(functions: Sequence[Tables], start: int, inputs: int, outputs: int) -> Iterator[bytes]:
+def _words_of_each(
+        functions: Sequence[Tables], start: int, inputs: int, outputs: int, names: List[Optional[Tuple[str, ...]]],
+) -> Iterator[bytes]:
     length, top = max(8, (1 << inputs) // 8), (1 << (1 << inputs)) - 1
     for number, function in enumerate(functions, start):
         # a table that is a plain number needs no more looking at
         if outputs == 1 and type(function) is int and 0 <= function <= top:
+            names.append(None)
             yield function.to_bytes(length, "little")
             continue
         try:
             each = listed(function)
             if len(each) != outputs:
                 raise BadShape(f"tables: {len(each)} tables where the first function has {outputs}")
-            yield words_of(each, inputs)
+            words = words_of(each, inputs)
+            names.append(names_said(each, inputs))
+            yield words
         except MinorderError as error:
             raise _of_function(number, error) from None
 

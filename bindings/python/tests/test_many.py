@@ -83,8 +83,18 @@ class Functions(unittest.TestCase):
         mixed = [0b0110, b"\x08", minorder.TruthTable(6, 2), lambda a, b: a and b, [7]]
         self.assertEqual([it.total for it in minorder.exact_many(mixed, 2)], [3, 2, 3, 2, 2])
         self.assertEqual(minorder.exact_many(array.array("Q", [6, 8]), 2), minorder.exact_many([6, 8], 2))
-        [found] = minorder.exact_many(minorder.variables("a b")[:1])
-        self.assertEqual((found.names, found._repr_html_()), (("x0", "x1"), None))
+
+    def test_names(self):
+        a, b = minorder.variables("a b")
+        both = [a & b, [a], 8, minorder.TruthTable(6, 2), lambda c, d: c and not d, lambda *them: 1]
+        for workers in (1, 3):
+            found = minorder.exact_many(both, workers=workers)
+            self.assertEqual([it.names for it in found], [minorder.exact(it, 2).names for it in both])
+            self.assertEqual([sorted(it.names) for it in found], [
+                ["a", "b"], ["a", "b"], ["x0", "x1"], ["x0", "x1"], ["c", "d"], ["x0", "x1"]])
+            self.assertTrue(all(it._repr_html_() is None for it in found))
+        with self.assertRaisesRegex(minorder.BadShape, "^tables: function 1: "):
+            minorder.exact_many([[a, b], [a, minorder.variables("c d")[0]]])
 
     def test_what_is_refused(self):
         for functions in (6, "6", b"6", {6}, {6: 1}, None, lambda a: a, minorder.read_pla(f"{TOP}/examples/mux2.pla")):

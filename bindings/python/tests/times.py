@@ -32,7 +32,7 @@ def main(workers):
     for inputs in (3, 4, 5, 6, 8, 10, 12, 14):
         count = {3: 20_000, 4: 20_000, 5: 10_000, 6: 10_000, 8: 2_000, 10: 400, 12: 80, 14: 16}[inputs]
         functions = [draw.getrandbits(1 << inputs) for _ in range(count)]
-        chunk, = _many.chunks_of(functions, inputs, 1, count)
+        chunk, = _many.chunks_of(functions, inputs, 1, count, [])
         rates = (
             rate(lambda functions: _many.exact_chunk(chunk), functions),
             rate(lambda functions: [minorder.exact(it, inputs) for it in functions], functions),
