@@ -1,2 +1,3 @@
 pub mod CountedFirsts
+pub mod MoreClasses
 pub mod PairChains

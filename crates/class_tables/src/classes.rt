@@ -6,11 +6,11 @@ ghost use Rattle.definitions.specs.Widths.{class_numbers, width as width_over};
 ghost use Rattle.subfunction_classes.specs.Table.{free_below};
 ghost use Rattle.class_tables.specs.Scratch.{most_entries};
 
-use crate::indexed_pairs::number_by;
+use crate::indexed_pairs::number_pairs_by_index;
 use crate::scratch::Scratch;
 use compaction::Tally;
 use order_model::{Mask, Problem, VarIx, contains};
-use pair_numbering::{EntryPairs, MaskedPairs};
+use pair_numbering::{EntryPairs, MaskedNumbers, MaskedPairs, PairMemory, number_with_masks};
 use std::alloc::{AllocError, Global};
 use std::marker::Model;
 use subfunction_classes::{count_with, no_dependence, rank_of, value_numbers};
@@ -39,7 +39,7 @@ impl<'a> Model for Classes<'a> {
 }
 
 impl<'a> Classes<'a> {
-    ghost use Rattle.subfunction_classes.specs.Table.{set_of, functions_of, with_variable, classes_of};
+    ghost use Rattle.subfunction_classes.specs.Table.{HoldsClasses, set_of, functions_of, with_variable, classes_of};
 
     /// The class table of the empty set, for the functions of `problem`.
     pub fn of_problem(alloc: Global, problem: &'a Problem) -> Result<Classes<'a>, AllocError>
@@ -120,13 +120,7 @@ impl<'a> Classes<'a> {
         ensures tally { tally.new ≡ tally.old + 1 }
         ensures scratch { scratch.new ≡ scratch.old }
     {
-        let rank = rank_of(self.set, x);
-        let pairs = MaskedPairs {
-            entries: EntryPairs::of_table(&self.numbers, rank),
-            masks: &self.masks,
-            x,
-        };
-        let width = scratch.count_joined(&pairs);
+        let width = scratch.count_joined(&self.pairs_by(x));
         tally.add(1);
         width
     }
@@ -153,7 +147,8 @@ impl<'a> Classes<'a> {
         requires new { IsFalse (has (set_of self.now) x) }
         ensures { IfOk result (λ c. c ≡ with_variable self.now x) }
     {
-        self.compact_by(alloc, x, false)
+        let numbered = number_with_masks(&mut PairMemory::new(alloc), &self.pairs_by(x))?;
+        Ok(self.with_numbers(x, numbered))
     }
 
     /// `compact` by an `IndexSet`: slower, for comparison in tests.
@@ -162,28 +157,38 @@ impl<'a> Classes<'a> {
         requires new { IsFalse (has (set_of self.now) x) }
         ensures { IfOk result (λ c. c ≡ with_variable self.now x) }
     {
-        self.compact_by(alloc, x, true)
+        let numbered = number_pairs_by_index(alloc, &self.pairs_by(x))?;
+        Ok(self.with_numbers(x, numbered))
     }
 
-    /// The class table of the set with `x` added. If `indexed` is true, an `IndexSet` numbers the
-    /// pairs of classes.
-    fn compact_by(&self, alloc: Global, x: VarIx, indexed: bool) -> Result<Classes<'a>, AllocError>
+    /// The pairs of entries that differ in `x` alone, with the masks of the classes.
+    fn pairs_by(&self, x: VarIx) -> MaskedPairs<'_>
         requires inside { x < self.now.problem.inputs }
         requires new { IsFalse (has (set_of self.now) x) }
-        ensures { IfOk result (λ c. c ≡ with_variable self.now x) }
+        ensures classes { HoldsClasses self.now result.entries.numbers result.masks.now }
+        ensures rank { result.entries.rank ≡ free_below self.now.set x }
+        ensures variable { result.x ≡ x }
     {
         let rank = rank_of(self.set, x);
-        let pairs = MaskedPairs {
+        MaskedPairs {
             entries: EntryPairs::of_table(&self.numbers, rank),
             masks: &self.masks,
             x,
-        };
-        let numbered = number_by(alloc, &pairs, indexed)?;
-        Ok(Classes {
+        }
+    }
+
+    /// The class table of the set with `x` added, whose classes `numbered` has.
+    fn with_numbers(&self, x: VarIx, numbered: MaskedNumbers) -> Classes<'a>
+        requires inside { x < self.now.problem.inputs }
+        requires classes { HoldsClasses
+            (with_variable self.now x) numbered.numbers.items numbered.masks.items }
+        ensures { result ≡ with_variable self.now x }
+    {
+        Classes {
             problem: self.problem,
             set: self.set | (1 << x),
             numbers: numbered.numbers,
             masks: numbered.masks,
-        })
+        }
     }
 }

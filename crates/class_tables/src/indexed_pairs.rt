@@ -3,14 +3,11 @@
 ghost use Rattle.std.specs.Prelude.{◌≡◌, ◌*◌, ◌^◌, ◌<◌, ◌≤◌, length, IfOk};
 ghost use Rattle.pair_numbering.specs.MaskedNumbers.{NumbersMasked};
 
-use pair_numbering::{
-    MaskedNumbers, MaskedPairs, NumberedPairs, PairMemory, index_entries, join_masks,
-    number_with_masks,
-};
+use pair_numbering::{MaskedNumbers, MaskedPairs, NumberedPairs, index_entries, join_masks};
 use std::alloc::{AllocError, Global};
 
 /// The number of each pair of classes, and the mask of each number, found by an `IndexSet`.
-fn number_pairs_by_index(
+pub(crate) fn number_pairs_by_index(
     alloc: Global,
     pairs: &MaskedPairs<'_>,
 ) -> Result<MaskedNumbers, AllocError>
@@ -25,20 +22,4 @@ fn number_pairs_by_index(
     let mut masks = Vec::new(alloc);
     join_masks(&distinct, pairs.x, pairs.masks, &mut masks)?;
     Ok(MaskedNumbers { numbers, masks })
-}
-
-/// The number of each pair of classes, and the mask of each number, found by an `IndexSet` or by
-/// `number_with_masks`, with the same result.
-pub(crate) fn number_by(
-    alloc: Global,
-    pairs: &MaskedPairs<'_>,
-    indexed: bool,
-) -> Result<MaskedNumbers, AllocError>
-    ensures { IfOk result (λ v. NumbersMasked pairs.now v.numbers.items v.masks.items) }
-{
-    if indexed {
-        number_pairs_by_index(alloc, pairs)
-    } else {
-        number_with_masks(&mut PairMemory::new(alloc), pairs)
-    }
 }
