@@ -8,13 +8,16 @@ mod problem;
 mod terms;
 mod variables;
 
-// Nodes, sets that certificates list, what prunes a search, and why orders and pairs are refused.
+// Nodes, sets that certificates list, what prunes a search, hashes, and why orders and pairs are
+// refused.
 mod faults;
+mod hashes;
 mod limits;
 mod listed_cells;
 mod refs;
 
 pub use faults::{BadOrder, PairsFault};
+pub use hashes::HASH_MULTIPLIER;
 pub use limits::{Limit, LowerBound};
 pub use listed_cells::ListedCell;
 pub use problem::Problem;

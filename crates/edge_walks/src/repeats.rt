@@ -4,11 +4,8 @@
 ghost use Rattle.std.specs.Prelude.{◌≡◌, ℕ, ◌*◌, ◌^◌, ◌<◌, ◌≤◌, ◌++◌, List, [], length, IfOk, IfSome, IsTrue, OnOk};
 ghost use Rattle.edge_walks.specs.Rows.{AreWholeRows, IsShortened};
 
-use order_model::VarIx;
+use order_model::{HASH_MULTIPLIER, VarIx};
 use std::alloc::{AllocError, Global};
-
-/// The factor of Fibonacci hashing: 2^64 divided by the golden ratio, rounded down.
-const SPREAD: u64 = 0x9E37_79B9_7F4A_7C15;
 
 /// The bucket of `row`: a hash of the entries in whole groups of four. If `buckets` is no power of
 /// two, some stay empty.
@@ -23,10 +20,10 @@ fn bucket_of(row: &[u32], buckets: usize) -> usize
         let [a, b, c, d] = *four;
         let first = u64::from(a) | u64::from(b) << 32;
         let second = u64::from(c) | u64::from(d) << 32;
-        even = (even ^ first).wrapping_mul(SPREAD);
-        odd = (odd ^ second).wrapping_mul(SPREAD);
+        even = (even ^ first).wrapping_mul(HASH_MULTIPLIER);
+        odd = (odd ^ second).wrapping_mul(HASH_MULTIPLIER);
     }
-    let key = (even ^ (odd >> 32)).wrapping_mul(SPREAD);
+    let key = (even ^ (odd >> 32)).wrapping_mul(HASH_MULTIPLIER);
     (key >> 40) as usize & (buckets - 1)
 }
 

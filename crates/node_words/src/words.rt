@@ -5,6 +5,7 @@ ghost use Rattle.node_words.specs.Nodes.{node_word, home, probe, level_of, low_o
 ghost use Rattle.node_words.specs.Entries.{code_of};
 
 use crate::operation::Operation;
+use definitions::HASH_MULTIPLIER;
 
 /// A node: its level, from 0 at the top, and the ids of its children. Ids 0 and 1 are the
 /// terminals, and the node at place p of the store has the id p + 2.
@@ -46,7 +47,7 @@ pub fn start(places: usize, word: u64) -> usize
     ensures is { result ≡ home places word }
     ensures within { result < places }
 {
-    let first = (word ^ (word >> 32)).wrapping_mul(11400714819323198485);
+    let first = (word ^ (word >> 32)).wrapping_mul(HASH_MULTIPLIER);
     let second = (first ^ (first >> 29)).wrapping_mul(13787848793156543929);
     (((second >> 32) * places as u64) >> 32) as usize
 }

@@ -9,6 +9,7 @@ ghost use Rattle.pair_numbering.specs.Numbers.{ArePairsNumbered};
 use crate::entries::{BlockHalves, EntryPairs};
 use crate::lower_classes::{CountedPairs, count_lowers};
 use crate::memory::PairMemory;
+use definitions::HASH_MULTIPLIER;
 use std::alloc::AllocError;
 
 /// The most slots that are tried for a pair.
@@ -16,9 +17,6 @@ const TRIES: usize = 64;
 
 /// Beside the `TRIES` slots at the end.
 const SLOTS_PER_PAIR: usize = 4;
-
-/// The factor of Fibonacci hashing: 2^64 divided by the golden ratio, rounded down.
-const SPREAD: u64 = 0x9E37_79B9_7F4A_7C15;
 
 /// The slot at which the search for a pair begins.
 #[inline(always)]
@@ -29,7 +27,7 @@ fn home(homes: usize, pair: (u32, u32)) -> usize
     ensures within { result < homes }
 {
     let key = (u64::from(pair.0) << 20) + u64::from(pair.1);
-    let high = key.wrapping_mul(SPREAD) >> 32;
+    let high = key.wrapping_mul(HASH_MULTIPLIER) >> 32;
     ((high * homes as u64) >> 32) as usize
 }
 

@@ -2,6 +2,7 @@ ghost use Rattle.std.specs.Prelude.{◌≡◌, [], ◌+◌, ◌*◌, ◌^◌, �
 ghost use Rattle.sifting.specs.NodeTables.{home_of, HasNumber, IsFree, Finds, IsFreeSlot, IsSet, IsNodeTable, Inserted};
 
 use crate::levels::{Children, Level};
+use order_model::HASH_MULTIPLIER;
 use std::alloc::{AllocError, Global};
 use std::mem;
 
@@ -23,9 +24,6 @@ pub(crate) struct NodeTable {
     pub spare: Vec<Children>,
 }
 
-/// The odd multiplier of the hash: its multiples spread over the words of 64 bits.
-const SPREAD: u64 = 11_400_714_819_323_198_485;
-
 /// The slot, from 0 to `homes` inclusive, at which the search for `node` begins.
 #[inline(always)]
 fn home(homes: usize, node: Children) -> usize
@@ -34,7 +32,7 @@ fn home(homes: usize, node: Children) -> usize
     ensures within { result ≤ homes }
 {
     let key = (u64::from(node.0) << 20) + u64::from(node.1);
-    let high = key.wrapping_mul(SPREAD) >> 32;
+    let high = key.wrapping_mul(HASH_MULTIPLIER) >> 32;
     ((high * homes as u64) >> 32) as usize
 }
 
