@@ -109,6 +109,14 @@ impl Problem {
         block(&self.words, words_per_table(self.inputs), output as usize)
     }
 
+    /// The packed truth tables of all functions, one after the other.
+    pub fn all_words(&self) -> &[u64]
+        ensures packed { IsPacked self.now.inputs (outputs_of self.now) result.now }
+        ensures tables { packed_tables self.now.inputs (outputs_of self.now) result.now ≡ self.now }
+    {
+        &self.words
+    }
+
     /// The variables on which some function depends.
     pub fn essential(&self) -> Mask
         ensures { result ≡ essential_mask self.now.inputs (functions self.now) }

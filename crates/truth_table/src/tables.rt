@@ -10,7 +10,8 @@ ghost use Rattle.std.specs.List.{All};
 
 use crate::fixed_variables::fix_variable;
 use crate::kept_points::kept_points;
-use crate::level_classes::{merge, push_values, write_points};
+use crate::level_classes::merge;
+use crate::packed_values::write_packed_values;
 use crate::row::Row;
 use crate::term_points::{packed_words, points_mask};
 use order_model::{Mask, Order, Problem, VarIx, contains};
@@ -111,9 +112,7 @@ impl Tables {
         Ok(Row::new(n, words))
     }
 
-    /// Overwrites `values` with the values of all outputs at all points: first those of output 0,
-    /// with the top variable of `order` changing slowest. `points` is working memory. If memory is
-    /// refused, neither has a meaning.
+    /// Overwrites `values` as `write_packed_values` does.
     pub(crate) fn write_values(
         &self,
         order: &[VarIx],
@@ -124,15 +123,8 @@ impl Tables {
         ensures values { OnOk result (AreValuesUnder self.now order.now values.new.items) }
         ensures few { OnOk result (length values.new.items ≤ 2 ^ 20) }
     {
-        prove!(self.problem.inputs() <= 16);
-        prove!(self.problem.outputs() <= 16);
-        write_points(points, order)?;
-        values.clear();
-        values.reserve((self.problem.outputs() as usize) << self.problem.inputs())?;
-        for output in 0..self.problem.outputs() {
-            push_values(values, self.problem.words(output), points)?;
-        }
-        Ok(())
+        let (n, m) = (self.problem.inputs(), self.problem.outputs());
+        write_packed_values(n, m, self.problem.all_words(), order, points, values)
     }
 
     /// The level counts under `order`, counted in the truth tables, without making the diagram.
