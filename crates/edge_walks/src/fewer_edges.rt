@@ -79,14 +79,14 @@ fn leave_out(edges: Edges, guides: &[Exchange], fewer: &mut Vec<u16>)
 
 /// The sets that exchanges reach, orbit by orbit.
 #[derive(Drop)]
-struct Reached {
+struct ReachedSets {
     /// Whether the set m was reached, in the present orbit or an earlier one.
     seen: Vec<bool>,
     /// The sets of the present orbit that were reached.
     sets: Vec<Mask>,
 }
 
-impl Reached {
+impl ReachedSets {
     /// Appends `set` to the present orbit if it wasn't reached before. If memory is refused, it is
     /// marked but not appended.
     fn add(&mut self, set: Mask) -> Result<(), AllocError>
@@ -112,7 +112,7 @@ fn step_from(
     guides: &[Exchange],
     first: Mask,
     set: Mask,
-    reached: &mut Reached,
+    reached: &mut ReachedSets,
     fewer: &mut Vec<u16>,
 ) -> Result<(), AllocError>
     requires guides { AreAllGuides edges guides.now }
@@ -139,7 +139,7 @@ fn leave_out_orbit(
     edges: Edges,
     guides: &[Exchange],
     first: Mask,
-    reached: &mut Reached,
+    reached: &mut ReachedSets,
     fewer: &mut Vec<u16>,
 ) -> Result<(), AllocError>
     requires guides { AreAllGuides edges guides.now }
@@ -171,7 +171,7 @@ fn leave_out_orbits(
     requires fewer { AreEnough edges fewer.old.items }
     ensures { OnOk result (AreEnough edges.entry fewer.new.items) }
 {
-    let mut reached = Reached {
+    let mut reached = ReachedSets {
         seen: vec![in alloc; false; edges.judged.len()]?,
         sets: Vec::new(alloc),
     };

@@ -13,7 +13,7 @@ use std::alloc::{AllocError, Global};
 
 /// Nodes, each after its children, and a root for each id that was given.
 #[derive(Drop)]
-pub(crate) struct Reached {
+pub(crate) struct ReachedNodes {
     pub nodes: Vec<Node>,
     pub roots: Vec<Ref>,
 }
@@ -26,7 +26,7 @@ pub(crate) fn reached_nodes(
     places: usize,
     order: &[VarIx],
     ids: &[u32],
-) -> Result<Reached, AllocError>
+) -> Result<ReachedNodes, AllocError>
     requires nodes { HasNodes closed.now places (length order.now) }
     requires order { IsOrder (length order.now) order.now }
     requires unequal { AreUnequal (words_in closed.now places) }
@@ -43,5 +43,5 @@ pub(crate) fn reached_nodes(
         let root = copy(closed, places, order, &mut numbers, &mut nodes, *id)?;
         roots.push(root)?;
     }
-    Ok(Reached { nodes, roots })
+    Ok(ReachedNodes { nodes, roots })
 }
