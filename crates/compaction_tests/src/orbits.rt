@@ -1,6 +1,6 @@
 //! Orbits of sets, of which the first ones alone have rows.
 
-use crate::problems::{Tables, problem_of, set_one};
+use crate::problems::{PackedTables, problem_of, set_one};
 use compaction::Preparation;
 use order_model::{Pairs, Problem, Workers};
 use std::alloc::Global;
@@ -8,7 +8,7 @@ use std::process::Abort;
 use symmetries::{Orbits, Renaming};
 
 /// x0 x1 + x2 x3.
-const TWO_PRODUCTS: Tables = (4, &[0xf888]);
+const TWO_PRODUCTS: PackedTables = (4, &[0xf888]);
 
 /// The first set of the orbit of each set.
 const FIRST_SETS: [u16; 16] = [0, 1, 1, 3, 1, 5, 5, 7, 1, 5, 5, 7, 3, 7, 7, 15];

@@ -5,13 +5,13 @@ use std::alloc::Global;
 use std::process::Abort;
 
 /// The number of variables, and the truth table of each function: bit k is the value at point k.
-pub(crate) type Tables = (u8, &'static [u64]);
+pub(crate) type PackedTables = (u8, &'static [u64]);
 
-pub(crate) const MULTIPLEXER: Tables = (3, &[0xca]);
+pub(crate) const MULTIPLEXER: PackedTables = (3, &[0xca]);
 
 /// Parity, three products, no term, a variable and its complement, and-or, one variable of three,
 /// and the multiplexer.
-pub(crate) static PROBLEMS: [Tables; 7] = [
+pub(crate) static PROBLEMS: [PackedTables; 7] = [
     (3, &[0x96]),
     (6, &[0xfefcfaf0eeccaa00]),
     (3, &[0x00]),
@@ -36,7 +36,7 @@ fn set_tables(rt: &impl Abort, problem: &mut Problem, tables: &[u64]) {
     }
 }
 
-pub(crate) fn problem_of(rt: &impl Abort, alloc: Global, tables: Tables) -> Problem {
+pub(crate) fn problem_of(rt: &impl Abort, alloc: Global, tables: PackedTables) -> Problem {
     let (inputs, tables) = tables;
     assert!(rt; inputs > 0 && inputs <= 6 && !tables.is_empty() && tables.len() <= 16);
     let mut problem = Problem::new(alloc, inputs, tables.len() as u8).expect(rt, "memory");
