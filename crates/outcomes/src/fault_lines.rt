@@ -22,7 +22,7 @@ pub enum Program {
 /// name of a fault.
 const LONGEST_LINE: usize = 64;
 
-type Text = ArrayString<LONGEST_LINE>;
+type LineText = ArrayString<LONGEST_LINE>;
 
 fn program_text(program: Program) -> &'static str
     ensures name { result.now ≡ program_name program }
@@ -72,7 +72,7 @@ fn certificate_text(fault: CertificateFault) -> &'static str
 }
 
 /// Appends `label`, and then `number` in decimal, to `text`.
-fn push_number(text: &mut Text, label: &str, number: usize)
+fn push_number(text: &mut LineText, label: &str, number: usize)
     requires { array_string_len text.old + length label.now ≤ 32 }
     ensures words { text.new.bytes ≡ text.old.bytes ++ label.now ++ decimal number }
     ensures short { array_string_len text.new
@@ -84,7 +84,7 @@ fn push_number(text: &mut Text, label: &str, number: usize)
 }
 
 /// Appends the name of the reason why pairs are refused. `PairCycle` is followed by its variable.
-fn push_pairs(text: &mut Text, fault: PairsFault)
+fn push_pairs(text: &mut LineText, fault: PairsFault)
     requires { array_string_len text.old ≤ 12 }
     ensures words { text.new.bytes ≡ text.old.bytes ++ pairs_kind fault }
     ensures short { array_string_len text.new ≤ array_string_len text.old + 30 }
@@ -97,7 +97,7 @@ fn push_pairs(text: &mut Text, fault: PairsFault)
 }
 
 /// Appends the words that name `fault`, such as `TooLong` or `line 3: BadNumber`.
-fn push_fault(text: &mut Text, fault: Fault)
+fn push_fault(text: &mut LineText, fault: Fault)
     requires { array_string_len text.old ≤ 12 }
     ensures words { text.new.bytes ≡ text.old.bytes ++ fault_words fault }
     ensures short { array_string_len text.new ≤ array_string_len text.old + 51 }
@@ -124,10 +124,10 @@ fn push_fault(text: &mut Text, fault: Fault)
 
 /// The line on a fault: the program's name, a colon, and the words that name the fault.
 #[tactic(auto, unfolding(crate::specs::Messages::fault_line))]
-pub(crate) fn fault_line(program: Program, fault: Fault) -> Text
+pub(crate) fn fault_line(program: Program, fault: Fault) -> LineText
     ensures { result.bytes ≡ line_of program fault }
 {
-    let mut text = Text::new();
+    let mut text = LineText::new();
     text.push_str(program_text(program));
     text.push_str(": ");
     push_fault(&mut text, fault);
