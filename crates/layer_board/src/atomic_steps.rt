@@ -6,9 +6,7 @@ ghost use Rattle.layer_board.specs.Views.{fresh};
 use crate::views::{Brief, Knowledge};
 use atomic_table::{Play, Split, TableRule};
 
-/// The invariant of a board's words and seats: they show a right state of the layer's machine. In a
-/// right state each filled cell is the one that the definition gives its mask, and each block whose
-/// place is below the count of claims is claimed by exactly one worker, each other block by none.
+/// The invariant of a board's words and seats: they show a right state of the layer's machine.
 pub struct BoardRule;
 
 impl TableRule<(), Knowledge, Brief> for BoardRule {
@@ -25,18 +23,16 @@ impl Play<(), Knowledge> for Claims {
     ghost then = { claims };
 }
 
-/// The atomic step of a post, at the word of a cell. If the word is 0 (the cell is empty) it
-/// becomes the word of the posted cell, and the seat learns that the cell is filled. Else the word
-/// stays as it is; the seat knew before that the cell was filled.
+/// The atomic step of a post, at the word of a cell: an empty word becomes that of the posted cell.
+/// Either way the seat knows the cell to be filled.
 pub(crate) struct Posts;
 
 impl Play<(), Knowledge> for Posts {
     ghost then = { posts };
 }
 
-/// The atomic step of a read, at the word of a cell. If the word isn't 0 it is that of the right
-/// cell, and the seat learns that the cell is filled. If it is 0 (the cell is empty), the seat
-/// didn't know the cell to be filled.
+/// The atomic step of a read, at the word of a cell: the seat learns that the cell is filled, if it
+/// is.
 pub(crate) struct Reads;
 
 impl Play<(), Knowledge> for Reads {

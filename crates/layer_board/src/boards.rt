@@ -25,19 +25,17 @@ use subset_layers::{Cell, Layer};
 /// Why a posted cell is refused.
 #[derive(Clone, Copy, Debug, PartialEq, Eq)]
 pub enum PostRefused {
-    /// The mask of the cell is not in the layer, or the seat did not claim the mask's block. No
-    /// atomic step is made.
+    /// The layer doesn't have the mask, or the seat did not claim its block. No step is made.
     Stranger,
     /// The cell was filled before, and stays as it was. One atomic step is made.
     Double,
 }
 
-/// The cells of a layer. Threads claim the layer's blocks and fill the cells.
+/// The cells of a layer, which threads fill.
 #[derive(Drop)]
 pub struct Board {
     /// The words that all seats share: the count of claims, and then one word for each cell.
     pub(crate) table: Table<(), Knowledge, Brief, BoardRule, Global>,
-    /// The layer.
     pub(crate) layer: Layer,
 }
 
@@ -54,10 +52,8 @@ impl Model for Board {
 }
 
 impl Board {
-    /// A board for `layer`, with empty cells, and a seat for each worker. A cell may be posted to
-    /// it only if the definition of cells gives it for the set by `problem`, `pairs` and `limit`:
-    /// the upper bound on the size of an order, and the rule of the lower bound. Requires `layer`
-    /// to be of the problem's variables.
+    /// A board for `layer`, with empty cells, and a seat for each worker. Only cells of the
+    /// instance can be posted to it.
     pub fn new(
         alloc: Global,
         problem: &Problem,
@@ -92,8 +88,7 @@ impl Board {
         Ok((board, seats))
     }
 
-    /// Splits `first`, the only seat at the words of this new board, into the seats of `count`
-    /// workers, at least 1, and returns them.
+    /// Splits `first`, the only seat at the words of this new board, into `count` seats.
     fn seats(
         &self,
         alloc: Global,
@@ -116,9 +111,8 @@ impl Board {
         Ok(seats)
     }
 
-    /// Claims the next block that no worker has claimed, and returns it with its place among the
-    /// layer's blocks; `seat`, one of the board's, has it among its claims from then on. None if no
-    /// block is left. A seat that got None gets None ever after, and makes no atomic step for it.
+    /// Claims the next block that no worker has claimed; `seat` has it among its claims from then
+    /// on. None if no block is left: the seat then gets None ever after, without an atomic step.
     pub fn claim(&self, seat: &mut BoardSeat) -> Option<Claim>
         requires { seat.old.board ≡ self.now }
         ensures board { seat.new.board ≡ self.now }
@@ -145,11 +139,8 @@ impl Board {
         }
     }
 
-    /// Fills the cell of a set on the board by `seat`, one of the board's. `cell` has the set's
-    /// mask and what is posted, and must be for the board's problem, pairs and limit. Err is
-    /// `Double` if the cell was filled before, and it stays as it was. After Ok or `Double` the
-    /// seat knows the cell to be filled. Err is `Stranger`, and nothing changes, if the layer
-    /// doesn't have the set or the seat did not claim its block.
+    /// Fills the cell of a set. A cell that was filled before stays as it was, and Err is `Double`.
+    /// Err is `Stranger` if the layer doesn't have the set or the seat did not claim its block.
     pub fn post(&self, seat: &mut BoardSeat, cell: CellResult) -> Result<(), PostRefused>
         requires board { seat.old.board ≡ self.now }
         requires instance { cell.instance ≡ self.now.brief.instance }
@@ -176,8 +167,7 @@ impl Board {
         }
     }
 
-    /// Reads the cell of the set `mask` by `seat`, one of the board's, which then knows it to be
-    /// filled. None if the layer doesn't have the set, or if the cell is empty when it is read.
+    /// The cell of the set `mask`, which `seat` then knows to be filled; None if it is empty.
     pub fn read(&self, seat: &mut BoardSeat, mask: Mask) -> Option<Cell>
         requires { seat.old.board ≡ self.now }
         ensures board { seat.new.board ≡ self.now }
@@ -217,9 +207,8 @@ impl Board {
         }
     }
 
-    /// Closes the board by `seat`, one of its seats, and returns the cells of all masks, in the
-    /// layer's order. Err gives the closed board and the reason: `Missing` with the least mask
-    /// whose cell is empty, or `OutOfMemory`.
+    /// Closes the board, and returns the cells of all masks, in the layer's order. `Missing` has
+    /// the least mask whose cell is empty.
     pub fn close(
         self,
         alloc: Global,
@@ -241,7 +230,6 @@ impl Board {
     }
 }
 
-/// A list of `count` words that are 0.
 fn zeros(alloc: Global, count: usize) -> Result<Vec<u64>, AllocError>
     ensures { IfOk result (λ v. v.items ≡ replicate count 0) }
 {

@@ -8,8 +8,7 @@ ghost use Rattle.layer_board.specs.Invariant.{word_of, IsCellWord};
 use layer_core::CellResult;
 use subset_layers::Cell;
 
-/// The word of the posted cell: 32 * (cost + 1) + variable. It is never 0, the word of an empty
-/// cell.
+/// The word of the posted cell, 32 * (cost + 1) + variable; 0 is that of an empty cell.
 pub(crate) fn word_of_cell(posted: &CellResult) -> u64
     ensures word { result ≡ word_of posted.now.cell }
     ensures cell { IsCellWord result }
@@ -20,8 +19,7 @@ pub(crate) fn word_of_cell(posted: &CellResult) -> u64
     (u64::from(cell.cost) + 1) * 32 + u64::from(cell.variable)
 }
 
-/// The cell of which `word` is the word, 32 * (cost + 1) + variable. Requires the word of a filled
-/// cell, so not 0.
+/// The cell of which `word` is the word, 32 * (cost + 1) + variable.
 pub(crate) fn cell_of_word(word: u64) -> Cell
     requires { IsCellWord word }
     ensures { pair_of result ≡ (word / 32 - 1, word % 32) }

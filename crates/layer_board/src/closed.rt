@@ -15,20 +15,16 @@ use std::marker::Model;
 use std::snapshot::Snapshot;
 use subset_layers::{Cell, Layer};
 
-/// Why a board gives no cells.
 #[derive(Clone, Copy, Debug, PartialEq, Eq)]
 pub enum CloseError {
     /// The cell of this mask is empty. It is the least such mask.
     Missing(Mask),
-    /// An allocation was refused.
     OutOfMemory,
 }
 
 /// A board that was closed: the words that it ended with. No seat writes to them any more.
 pub struct ClosedBoard {
-    /// The words that the board ended with.
     pub(crate) closed: Closed<(), Global>,
-    /// The layer.
     pub(crate) layer: Layer,
     /// The board that was closed, which only contracts see.
     pub(crate) board: Snapshot<Board>,
@@ -59,8 +55,7 @@ impl Drop for ClosedBoard {
 }
 
 impl ClosedBoard {
-    /// The cells of all masks, in the layer's order. Err is `Missing` with the least mask whose
-    /// cell is empty, or `OutOfMemory`.
+    /// The cells of all masks, in the layer's order.
     pub fn cells(&self, alloc: Global) -> Result<Vec<Cell>, CloseError>
         ensures all { IfOk result (λ v. map (λ c. Some (pair_of c)) v.items ≡ self.now.cells) }
         ensures cells { IfOk result
@@ -82,8 +77,7 @@ impl ClosedBoard {
         Ok(cells)
     }
 
-    /// The cell of the mask at place `place` of the layer's masks, counted from 0. None if the cell
-    /// is empty. Requires `place` to be below the number of masks.
+    /// The cell of the mask at place `place`; None if it is empty.
     fn cell_at(&self, place: usize) -> Option<Cell>
         requires { place < length (masks_of self.now.brief.layer) }
         ensures some { IfSome result

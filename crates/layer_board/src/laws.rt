@@ -16,17 +16,15 @@ ghost use Rattle.layer_board.specs.Refusals.{SeatsLackWhatIsEmpty};
 ghost use Rattle.layer_board.specs.Invariant.{Kept, IsCellAt, Sat, cell_in, shows, claims, posts, reads, claim_reply, post_reply, read_reply};
 
 /// Law: between any two atomic steps on a board, its words and its seats show a right state of the
-/// layer's state machine. This means: each filled cell is the one that the definition of cells
-/// gives for its set, each block before the next one to be claimed is claimed by exactly one
-/// worker, and the others by none.
+/// layer's machine: each filled cell is the definition's, each block before the next one to be
+/// claimed is claimed by exactly one worker, and the others by none.
 pub fn tables_show_right_states()
     ensures { (b : BriefOf) (s : State (Unit {0}) SeatView) → Kept b s →
         Right (IsCellAt b.instance) (shows b s) }
 {}
 
-/// Law: the atomic step by which a seat claims a block is a claim at the layer's state machine: the
-/// seat gets the machine's reply, and the board then shows the machine's next state. Requires that
-/// no claim of this seat has found that no block was left.
+/// Law: the atomic step by which a seat claims a block is a claim at the layer's machine: the seat
+/// gets its reply, and the board then shows its next state.
 pub fn claims_are_events()
     ensures { (b : BriefOf) (s : State (Unit {0}) SeatView) (id : ℕ) (v : SeatView) (slots : ℕ)
         (m : Sat) →
@@ -38,9 +36,7 @@ pub fn claims_are_events()
         step (shows b s) (Claim id) }
 {}
 
-/// Law: the atomic step by which a seat posts a cell is a post at the layer's state machine: the
-/// seat gets the machine's reply, and the board then shows the machine's next state. Requires that
-/// the seat has claimed the mask's block.
+/// Law: the atomic step by which a seat posts a cell is a post at the layer's machine.
 pub fn posts_are_events()
     ensures { (b : BriefOf) (s : State (Unit {0}) SeatView) (id : ℕ) (v : SeatView)
         (slots p mask new : ℕ) (cell : ℕ × ℕ) (m : Sat) →
@@ -56,8 +52,7 @@ pub fn posts_are_events()
         step (shows b s) (Post id mask cell) }
 {}
 
-/// Law: the atomic step by which a seat reads a cell of the layer is a read at the layer's state
-/// machine: the seat gets the machine's reply, and the board then shows the machine's next state.
+/// Law: the atomic step by which a seat reads a cell of the layer is a read at its machine.
 pub fn reads_are_events()
     ensures { (b : BriefOf) (s : State (Unit {0}) SeatView) (id : ℕ) (v : SeatView)
         (slots p mask : ℕ) (m : Sat) →

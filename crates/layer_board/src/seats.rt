@@ -34,8 +34,7 @@ impl Model for BoardSeat {
 }
 
 impl BoardSeat {
-    /// The seat of a worker that has made no step, at a board of `blocks` blocks. `seat` is the
-    /// worker's view of the board's words.
+    /// The seat of a worker that has made no step.
     pub(crate) fn first(
         alloc: Global,
         seat: Seat<(), Knowledge>,
@@ -60,7 +59,6 @@ impl BoardSeat {
 pub struct Claim {
     /// The block's place among the layer's blocks, from 0.
     place: usize,
-    /// The block.
     block: Block,
 }
 
@@ -73,7 +71,6 @@ impl Model for Claim {
 }
 
 impl Claim {
-    /// The claim of `block`, which stands at `place` among the layer's blocks, counted from 0.
     pub(crate) fn new(place: usize, block: Block) -> Claim
         ensures { result ≡ record { place = place; block = block } }
     {
@@ -87,7 +84,6 @@ impl Claim {
         self.place
     }
 
-    /// The block that was claimed.
     pub fn block(&self) -> &Block
         ensures { result.now ≡ self.now.block }
     {

@@ -5,20 +5,14 @@ use std::marker::Model;
 use std::snapshot::Snapshot;
 use subset_layers::Layer;
 
-/// What determines a board: the problem instance, the layer whose sets have their cells on it, and
-/// the number of workers.
+/// What determines a board. Only contracts see it.
 #[derive(Drop)]
 pub struct Brief {
-    /// The functions.
     pub(crate) problem: Snapshot<Problem>,
-    /// The pairs that an order must keep.
     pub(crate) pairs: Snapshot<Pairs>,
-    /// The upper bound on the size of an order, and the rule of the lower bound on the nodes above
-    /// a set.
     pub(crate) limit: Limit,
     /// The layer whose sets have their cells on the board.
     pub(crate) layer: Snapshot<Layer>,
-    /// How many workers have a seat.
     pub(crate) workers: Workers,
 }
 

@@ -13,8 +13,7 @@ use order_model::{Mask, Pairs, Problem, VarIx, contains};
 use std::alloc::{AllocError, Global};
 use std::marker::Model;
 
-/// An exchange of variables in pairs: the partner of each variable, which may be itself, and the
-/// image of each set, which has the partners of the set's members.
+/// An exchange of variables in pairs; a variable may be its own partner.
 #[derive(Drop)]
 pub struct Exchange {
     /// `partners[x]` is the partner of the variable x.
@@ -34,9 +33,7 @@ impl Model for Exchange {
 impl Exchange {
     ghost use Rattle.definitions.specs.Problems.{TruthTables};
 
-    /// The exchange of `inputs` variables, at most 16, in which `partners[x]` is the partner of x.
-    /// None unless `partners` has `inputs` entries, each below `inputs`, and each variable is its
-    /// partner's partner.
+    /// None if `partners` lists no exchange.
     pub(crate) fn of(
         alloc: Global,
         inputs: u8,
@@ -54,10 +51,8 @@ impl Exchange {
         Ok(Some(Exchange { partners, images }))
     }
 
-    /// The exchange of `inputs` variables, at most 16, in which `partners[x]` is the partner of x,
-    /// if no function changes under it. None if some function changes, or if `partners` lists no
-    /// exchange. `points[p]` has the values of all functions at point p, as one number, for each p
-    /// below `2^inputs`.
+    /// None if `partners` lists no exchange, or some function changes under it. `points[p]` has the
+    /// values of all functions at point p, as one number.
     fn if_alike(
         alloc: Global,
         inputs: u8,
@@ -78,15 +73,14 @@ impl Exchange {
         Ok(Some(exchange))
     }
 
-    /// The partners of all variables: entry x is the partner of x.
+    /// Entry x is the partner of x.
     pub fn partners(&self) -> &[VarIx]
         ensures { result.now ≡ self.now.partners }
     {
         &self.partners
     }
 
-    /// The images of all sets: entry m is the set of the partners of the members of the set with
-    /// the mask m.
+    /// Entry m has the partners of the members of the set with the mask m.
     pub fn images(&self) -> &[Mask]
         ensures { result.now ≡ self.now.images }
     {
@@ -103,8 +97,7 @@ struct Groups {
 }
 
 impl Groups {
-    /// The groups of variables that `pairs` connect, directly or through other variables. A
-    /// variable in no pair is a group by itself.
+    /// The groups of variables that `pairs` connect, directly or through other variables.
     fn of(pairs: &Pairs) -> Groups {
         let mut groups = Groups {
             representative: [0, 1, 2, 3, 4, 5, 6, 7, 8, 9, 10, 11, 12, 13, 14, 15],
@@ -120,8 +113,7 @@ impl Groups {
         groups
     }
 
-    /// Unites the group of variable x with that of variable y; other groups stay. Requires x and y
-    /// to be below 16.
+    /// Unites the groups of x and y.
     fn join(&mut self, x: VarIx, y: VarIx)
         requires first { x < 16 }
         requires second { y < 16 }
@@ -135,8 +127,7 @@ impl Groups {
         }
     }
 
-    /// Unites the group of each variable with that of its partner. `partners[x]` is the partner of
-    /// x; partners above 15 are ignored.
+    /// Unites the group of each variable with that of its partner.
     fn join_partners(&mut self, partners: &[VarIx; 16]) {
         for x in 0..16 {
             let partner = partners[x as usize];
@@ -146,7 +137,6 @@ impl Groups {
         }
     }
 
-    /// Whether the variables x and y, both below 16, are in different groups.
     fn are_apart(&self, x: VarIx, y: VarIx) -> bool
         requires first { x < 16 }
         requires second { y < 16 }
@@ -154,8 +144,7 @@ impl Groups {
         self.representative[x as usize] != self.representative[y as usize]
     }
 
-    /// Whether two variables below `inputs` that are in different groups have equal marks.
-    /// `marks[x]` is the mark of variable x, a number. Requires `inputs` to be at most 16.
+    /// Whether two variables that are in different groups have equal marks.
     fn have_equal_marks(&self, inputs: u8, marks: &[u32; 16]) -> bool
         requires { inputs ≤ 16 }
     {
@@ -177,20 +166,18 @@ const MOST_FAILURES: u8 = 8;
 #[derive(Drop)]
 struct Search<'a> {
     problem: &'a Problem,
-    /// `points[p]` has the values of all functions at point p, as one number.
+    /// The values of all functions at each point, as one number.
     points: Vec<u16>,
     marks: Marks,
     /// The groups of variables so far. No exchange is sought of two variables in one group.
     groups: Groups,
-    /// How many exchanges were tried under which some function changes.
+    /// How many exchanges were tried that change a function.
     failures: u8,
     ghost long: { length points.items ≡ 2 ^ problem.now.inputs },
     ghost labels: { TellValues problem.now points.items },
 }
 
 impl<'a> Search<'a> {
-    /// A new search for exchanges under which no function of `problem` changes. It seeks no
-    /// exchange of two variables that are in one group of `groups`.
     fn new(alloc: Global, problem: &'a Problem, groups: Groups) -> Result<Search<'a>, AllocError>
         ensures { IfOk result (λ s. s.problem.now ≡ problem.now) }
     {
@@ -205,12 +192,10 @@ impl<'a> Search<'a> {
         })
     }
 
-    /// Looks for an exchange that changes no function and has the variables x and y as partners.
-    /// Guesses at most one, from hashes of variables and of pairs that such an exchange keeps, and
-    /// tests it. If it changes no function, returns it and unites the group of each variable with
-    /// that of its partner; else counts a failure and returns None. None without a test if x and y
-    /// are in one group, after `MOST_FAILURES` failures, or if there is no guess. If memory is
-    /// refused nothing changes.
+    /// Looks for an exchange that changes no function and has x and y as partners: guesses at most
+    /// one from marks, and tests it. If it changes no function, unites the group of each variable
+    /// with that of its partner; else counts a failure. None without a test if x and y are in one
+    /// group, after `MOST_FAILURES` failures, or if there is no guess.
     fn exchange_of(
         &mut self,
         alloc: Global,
@@ -242,9 +227,8 @@ impl<'a> Search<'a> {
 
 /// Exchanges of `problem`'s variables under which no function changes, at most n - 1 for n
 /// variables. Each variable is tried as the partner of each smaller one, the nearest first, unless
-/// `pairs`, or exchanges found before, connect the two, directly or through other variables. Some
-/// exchanges may be missed: the search ends when `MOST_FAILURES` tested ones have changed a
-/// function.
+/// `pairs`, or exchanges found before, connect the two. Some may be missed: the search ends after
+/// `MOST_FAILURES` tests that failed.
 pub fn exchanges_of(
     alloc: Global,
     problem: &Problem,

@@ -1,5 +1,4 @@
-//! Exchanges of variables in pairs: which lists of partners are exchanges, the images of sets, and
-//! whether an exchange changes a function.
+//! Lists of partners that are exchanges, and the images of sets under them.
 
 ghost use Rattle.std.specs.Prelude.{◌≡◌, ℕ, ◌++◌, ◌<◌, ◌≤◌, ◌^◌, bit_or, map, length, slice_index, IfOk, OnOk, IsTrue};
 ghost use Rattle.symmetries.specs.Exchanges.{IsExchange};
@@ -8,8 +7,7 @@ ghost use Rattle.symmetries.specs.Images.{AreImages};
 use order_model::{Mask, VarIx};
 use std::alloc::{AllocError, Global};
 
-/// Whether `partners` lists an exchange of `inputs` variables: it has `inputs` entries, each below
-/// `inputs`, and `partners[y]` is x if `partners[x]` is y.
+/// Whether `partners` lists an exchange of `inputs` variables.
 pub(crate) fn is_exchange(inputs: u8, partners: &[VarIx]) -> bool
     ensures { IsTrue result → IsExchange inputs partners.now }
 {
@@ -25,9 +23,8 @@ pub(crate) fn is_exchange(inputs: u8, partners: &[VarIx]) -> bool
     true
 }
 
-/// Adds a variable x to the images of an exchange. `images` has the image of each set of variables
-/// below x, at the index of its mask, and gets those of the sets with x as their highest member.
-/// `partner` is the partner of x. If memory is refused, some of them may be missing.
+/// Adds a variable x, whose partner is `partner`, to `images`, which has the image of each set of
+/// variables below x at its mask.
 fn add_variable(images: &mut Vec<Mask>, partner: VarIx) -> Result<(), AllocError>
     requires partner { partner < 16 }
     ensures { OnOk result
@@ -41,9 +38,8 @@ fn add_variable(images: &mut Vec<Mask>, partner: VarIx) -> Result<(), AllocError
     Ok(())
 }
 
-/// The images of all sets of `inputs` variables, at most 16, under the exchange in which
-/// `partners[x]` is the partner of x: entry m is the set of the partners of the members of the set
-/// with the mask m. Requires `partners` to list an exchange of these variables.
+/// The images of all sets of `inputs` variables, each at the set's mask, under the exchange in
+/// which `partners[x]` is the partner of x.
 pub(crate) fn images_of(
     alloc: Global,
     inputs: u8,
@@ -61,10 +57,8 @@ pub(crate) fn images_of(
     Ok(images)
 }
 
-/// Whether `values[p]` is `values[images[p]]` for each point p: whether no function changes if each
-/// point takes the place of its image. `values[p]` has the values of all functions at p as one
-/// number, and `images[p]` is the image of p. Requires both to have an entry for each point, and
-/// each image to be a point.
+/// Whether no function changes if each point p takes the place of its image `images[p]`.
+/// `values[p]` has the values of all functions at p as one number.
 pub(crate) fn are_alike(values: &[u16], images: &[Mask]) -> bool
     requires long { length images.now ≡ length values.now }
     requires inside { (p : ℕ) → p < length images.now →

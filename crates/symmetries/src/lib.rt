@@ -2,23 +2,15 @@
 //! function, and what follows of widths.
 #![tactic(auto)]
 
-pub mod laws;
-
-// Exchanges of variables: found by marks, and tested on all points.
 mod exchanges;
 mod images;
+pub mod laws;
 mod marks;
 mod matching;
-mod points;
-
-// Sets that exchanges take to one another.
 mod orbits;
-
-// Problems with exchanged variables.
-mod renaming;
-
-// Pairs of variables in which all functions are symmetric.
 mod pairs;
+mod points;
+mod renaming;
 mod words;
 
 pub use exchanges::{Exchange, exchanges_of};

@@ -11,8 +11,7 @@ use std::alloc::{AllocError, Global};
 /// The factor of the hashes: an odd number whose multiples spread over the numbers of 32 bits.
 const SPREAD: u32 = 0x9E37_79B1;
 
-/// The number of points at which both variable x, below 16, and the function with the packed truth
-/// table `words` are 1.
+/// At how many points both x and the function with the truth table `words` are 1.
 fn ones_with(words: &[u64], x: VarIx) -> u32
     requires { x < 16 }
 {
@@ -32,8 +31,7 @@ fn ones_with(words: &[u64], x: VarIx) -> u32
     count
 }
 
-/// A hash of each variable x of `problem`, at entry x: it combines, over the functions, the numbers
-/// of points at which both the function and x are 1. Entries past the last variable are 0.
+/// A hash of each variable x of `problem`, at entry x, of how often the functions and x are 1.
 pub(crate) fn quick_marks(problem: &Problem) -> [u32; 16] {
     let mut marks = [0u32; 16];
     for output in 0..problem.outputs() {
@@ -46,14 +44,12 @@ pub(crate) fn quick_marks(problem: &Problem) -> [u32; 16] {
     marks
 }
 
-/// A hash of `values`, the values of all functions at one point as one number.
 fn hash_of(values: u16) -> u32 {
     let product = (u32::from(values) + 1).wrapping_mul(SPREAD);
     product ^ (product >> 15)
 }
 
-/// The hash of each point p, at entry p: a hash of `points[p]`, which has the values of all
-/// functions at p as one number.
+/// The hash of each point.
 fn hashes_of(alloc: Global, points: &[u16]) -> Result<Vec<u32>, AllocError>
     ensures { IfOk result (λ v. length v.items ≡ length points.entry.now) }
 {
@@ -64,9 +60,8 @@ fn hashes_of(alloc: Global, points: &[u16]) -> Result<Vec<u32>, AllocError>
     Ok(hashes)
 }
 
-/// Adds `sums[i + half]` to `sums[i]` for each i below `half`; other entries stay. Returns the sum
-/// of all that was added. Sums are modulo 2^32. Requires `sums` to have at least `2 * half`
-/// entries.
+/// Adds `sums[i + half]` to `sums[i]` for each i below `half`. Returns the sum of all that was
+/// added, modulo 2^32.
 fn fold_upper(sums: &mut [u32], half: usize) -> u32
     requires { half + half ≤ length sums.old }
     ensures { length sums.new ≡ length sums.old }
@@ -80,8 +75,7 @@ fn fold_upper(sums: &mut [u32], half: usize) -> u32
     total
 }
 
-/// Copies the `half` entries of `sums` from index `half` on to the front of `upper`, whose other
-/// entries stay. Requires `sums` to have at least `2 * half` entries, and `upper` at least `half`.
+/// Copies the `half` entries of `sums` from index `half` on to the front of `upper`.
 fn copy_upper(sums: &[u32], half: usize, upper: &mut [u32])
     requires sums { half + half ≤ length sums.now }
     requires room { half ≤ length upper.old }
@@ -92,10 +86,9 @@ fn copy_upper(sums: &[u32], half: usize, upper: &mut [u32])
     }
 }
 
-/// The mark of x and y at entry y, for each variable y below x: the sum of the hashes of the points
-/// at which both are 1. A point's hash is one of all functions' values there. Entries from x on are
-/// 0. Requires `sums[i]`, for each i below 2^x, to be the sum of the hashes of the points at which
-/// x is 1 and the variables below x have the values in the bits of i. `sums` is overwritten.
+/// The mark of x and y at entry y, for each variable y below x. `sums[i]`, for each i below 2^x, is
+/// the sum of the hashes of the points at which x is 1 and the variables below x have the values in
+/// the bits of i; it is overwritten.
 fn marks_below(sums: &mut [u32], x: VarIx) -> [u32; 16]
     requires variable { x < 16 }
     requires sums { 2 ^ x ≤ length sums.old }
@@ -120,10 +113,7 @@ pub(crate) struct Marks {
 }
 
 impl Marks {
-    /// The marks of `inputs` variables, at most 16. The mark of a variable, or of two, is the sum
-    /// of a hash of `points[p]` over the points p at which the variable is 1, or both are.
-    /// `points[p]` has the values of all functions at point p as one number, for each p below
-    /// `2^inputs`.
+    /// The marks of `inputs` variables. `points[p]` has the values of all functions at point p.
     pub(crate) fn of(alloc: Global, inputs: u8, points: &[u16]) -> Result<Marks, AllocError>
         requires few { inputs ≤ 16 }
         requires points { length points.now ≡ 2 ^ inputs }
@@ -141,8 +131,7 @@ impl Marks {
         Ok(Marks { own, below })
     }
 
-    /// The mark of x and y, in either order, or of x alone if they are equal: the sum of a hash of
-    /// all functions' values over the points at which both are 1. Requires x and y to be below 16.
+    /// The mark of x and y, or of x alone if they are equal.
     pub(crate) fn of_pair(&self, x: VarIx, y: VarIx) -> u32
         requires first { x < 16 }
         requires second { y < 16 }

@@ -10,7 +10,6 @@ use order_model::{Mask, VarIx, contains};
 /// An exchange of variables in the making: the partners that were found so far.
 #[derive(Clone, Copy)]
 struct Matching {
-    /// The number of variables.
     inputs: u8,
     /// The variables that have a partner, as a mask.
     placed: Mask,
@@ -21,7 +20,6 @@ struct Matching {
 }
 
 impl Matching {
-    /// The matching of `inputs` variables, at most 16, in which none has a partner.
     fn none(inputs: u8) -> Matching
         requires { inputs ≤ 16 }
     {
@@ -32,8 +30,7 @@ impl Matching {
         }
     }
 
-    /// Makes x and y each other's partner. If they are equal, the variable is its own partner. Both
-    /// are below 16, and have no partner yet.
+    /// Makes x and y, which have no partner yet, each other's partner.
     fn place(&mut self, x: VarIx, y: VarIx)
         requires first { x < 16 }
         requires second { y < 16 }
@@ -43,9 +40,8 @@ impl Matching {
         self.placed |= 1 << x | 1 << y;
     }
 
-    /// Whether x and y, both below 16, may be partners by `marks`, hashes of variables and of pairs
-    /// of them: x and y have equal marks, and for each z that has a partner, the pair (x, z) has
-    /// the same mark as the pair (y, partner of z).
+    /// Whether x and y may be partners: they have equal marks, and for each z that has a partner,
+    /// the pair (x, z) has the same mark as the pair (y, partner of z).
     fn keep_marks(&self, marks: &Marks, x: VarIx, y: VarIx) -> bool
         requires first { x < 16 }
         requires second { y < 16 }
@@ -62,9 +58,7 @@ impl Matching {
         true
     }
 
-    /// The possible partners of x, which has no partner yet, as a mask: those variables y without a
-    /// partner for which x and y have equal marks and, for each z that has a partner, the pair
-    /// (x, z) has the same mark as the pair (y, partner of z). The variable x itself may be one.
+    /// The possible partners of x by `keep_marks`, maybe x itself, as a mask.
     fn candidates(&self, marks: &Marks, x: VarIx) -> Mask
         requires { x < 16 }
     {
@@ -78,9 +72,7 @@ impl Matching {
     }
 
     /// The variable without a partner that has the fewest possible partners, the lowest of several,
-    /// and the mask of its possible partners, which may be empty. None if each variable has a
-    /// partner. A variable y is a possible partner of x if it has no partner, x and y have equal
-    /// marks and, for each z that has a partner, so do the pairs (x, z) and (y, partner of z).
+    /// and these partners. None if each variable has a partner.
     fn next(&self, marks: &Marks) -> Option<(VarIx, Mask)>
         ensures { IfSome result (λ r. r.0 < 16) }
     {
@@ -99,8 +91,7 @@ impl Matching {
     }
 }
 
-/// The partner for x from the mask `candidates`: x itself if it is in the mask, else the smallest
-/// member. None if the mask is empty.
+/// The partner for x among `candidates`: x itself if it is there, else the smallest.
 fn chosen(x: VarIx, candidates: Mask) -> Option<VarIx>
     requires { x < 16 }
     ensures { IfSome result (λ y. y < 16) }
@@ -114,10 +105,8 @@ fn chosen(x: VarIx, candidates: Mask) -> Option<VarIx>
     Some(candidates.trailing_zeros() as VarIx)
 }
 
-/// Guesses an exchange of `inputs` variables, at most 16, with x and y, two of these, as partners:
-/// entry z is the partner of z. Each variable has the same mark as its partner, and each two
-/// variables have the same as their partners; yet some function may change under the exchange. None
-/// if the marks of x and y differ, or a variable is left without a possible partner.
+/// Guesses an exchange with x and y as partners: entry z is the partner of z. None if the marks of
+/// x and y differ, or a variable is left without a possible partner.
 pub(crate) fn partners_of(marks: &Marks, inputs: u8, x: VarIx, y: VarIx) -> Option<[VarIx; 16]>
     requires few { inputs ≤ 16 }
     requires first { x < 16 }

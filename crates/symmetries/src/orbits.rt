@@ -1,5 +1,4 @@
-//! Orbits of sets: an orbit has the sets that exchanges under which no function changes take to one
-//! another, so that one row of widths serves all of them.
+//! Orbits of sets under exchanges that change no function: one row of widths serves an orbit.
 
 ghost use Rattle.std.specs.Prelude.{◌≡◌, ◌<◌, ◌≤◌, ◌^◌, ℕ, All, IfOk, IfSome, OnOk, length, slice_index};
 ghost use Rattle.definitions.specs.Problems.{TruthTables};
@@ -18,7 +17,6 @@ pub struct Image {
     pub variables: [VarIx; 16],
 }
 
-/// The list 0, 1, .., 15, in which entry x is x.
 fn own_variables() -> [VarIx; 16]
     ensures { (x : ℕ) → x < 16 → slice_index result x ≡ x }
 {
@@ -29,7 +27,7 @@ fn own_variables() -> [VarIx; 16]
     variables
 }
 
-/// Entry `partners[x]`, which is the partner of x, or 0 if there is no such entry.
+/// The partner of x, or 0 if there is none.
 fn partner_of(partners: &[VarIx], x: VarIx) -> VarIx
     ensures { result ≡ slice_index partners.now x }
 {
@@ -39,8 +37,7 @@ fn partner_of(partners: &[VarIx], x: VarIx) -> VarIx
     }
 }
 
-/// The partners of `variables`: entry i is the partner of `variables[i]`. `partners[x]` is the
-/// partner of x; if there is no such entry, it is 0.
+/// The partner of each of `variables`.
 fn moved(variables: &[VarIx; 16], partners: &[VarIx]) -> [VarIx; 16]
     ensures { (x : ℕ) → x < 16 →
         slice_index result x ≡ slice_index partners.now (slice_index variables.now x) }
@@ -53,7 +50,7 @@ fn moved(variables: &[VarIx; 16], partners: &[VarIx]) -> [VarIx; 16]
 }
 
 impl Image {
-    /// The image of `set` under no exchange: the set itself, and each variable itself.
+    /// The image of `set` under no exchange.
     pub(crate) fn of(set: Mask) -> Image
         ensures set { result.set ≡ set }
         ensures own { (x : ℕ) → x < 16 → slice_index result.variables x ≡ x }
@@ -67,8 +64,7 @@ impl Image {
     }
 
     /// `exchange`, followed by this image: the image of T, if this image is that of S and
-    /// `exchange` takes T to S. T goes where S goes, and each variable goes where this image takes
-    /// its partner. A variable that `exchange` lacks goes where 0 goes.
+    /// `exchange` takes T to S. A variable that `exchange` lacks goes where 0 goes.
     fn through(&self, exchange: &Exchange) -> Image
         ensures set { result.set ≡ self.now.set }
         ensures each { (x : ℕ) → x < 16 →
@@ -86,9 +82,7 @@ impl Image {
         }
     }
 
-    /// This image, followed by `exchange`: `set` becomes its image under the exchange, and each
-    /// entry of `variables` its partner, or 0 if it has none. If the exchange has no image of
-    /// `set`, the result is this image.
+    /// This image, followed by `exchange`; an entry of `variables` without a partner becomes 0.
     pub(crate) fn after(self, exchange: &Exchange) -> Image
         ensures { self.set < length exchange.now.images →
             IsAfter exchange.now self.set self.variables result.set result.variables }
@@ -113,8 +107,7 @@ struct Reached {
 }
 
 impl Reached {
-    /// A record in which no set of `inputs` variables, at most 16, is reached: `sets` is empty, and
-    /// each of the `2^inputs` entries of `seen` is false.
+    /// Nothing is reached.
     fn none(alloc: Global, inputs: u8) -> Result<Reached, AllocError>
         requires { inputs ≤ 16 }
     {
@@ -124,8 +117,7 @@ impl Reached {
         })
     }
 
-    /// Marks `set` as seen, and returns whether it wasn't seen before. If the problem lacks one of
-    /// its variables, marks nothing and returns false.
+    /// Marks `set` as seen, and returns whether it wasn't seen before.
     fn see(&mut self, set: Mask) -> bool {
         match self.seen.get_mut(usize::from(set)) {
             Some(seen) if !*seen => {
@@ -137,8 +129,7 @@ impl Reached {
     }
 }
 
-/// The images of all sets of `inputs` variables, at most 16, under no exchange: at entry m that of
-/// the set with the mask m, which is the set itself, and each variable itself.
+/// The images of all sets under no exchange.
 fn own_images(alloc: Global, inputs: u8) -> Result<Vec<Image>, AllocError>
     requires { inputs ≤ 16 }
     ensures { (p : TruthTables) → p.inputs ≤ 16 →
@@ -151,16 +142,15 @@ fn own_images(alloc: Global, inputs: u8) -> Result<Vec<Image>, AllocError>
     Ok(images)
 }
 
-/// The orbits of a problem's sets under exchanges that change no function, and where the exchanges
-/// take each set: to the first set of its orbit, the one with the fewest high variables, and of
-/// these with the smallest mask. High variables are those from 8 on.
+/// The orbits of a problem's sets under exchanges that change no function. Each set is taken to the
+/// first of its orbit: the one with the fewest high variables (from 8 on), and of these with the
+/// smallest mask.
 #[derive(Drop)]
 pub struct Orbits<'a> {
     problem: &'a Problem,
     /// The exchanges that were found. The number of one is its index.
     exchanges: Vec<Exchange>,
-    /// `images[m]` says where exchanges take the set with the mask m, and each variable along with
-    /// it: to the first set of its orbit.
+    /// Where exchanges take each set: to the first of its orbit.
     images: Vec<Image>,
 }
 
@@ -178,9 +168,8 @@ impl<'a> Model for Orbits<'a> {
 }
 
 impl<'a> Orbits<'a> {
-    /// Looks for exchanges under which no function of `problem` changes, and finds the orbits,
-    /// under these, of the sets that are lawful by `pairs`, with the image of each set: the first
-    /// set of its orbit. A set that isn't lawful is its own image. None if no exchange is found.
+    /// The orbits of the sets that are lawful by `pairs`, under exchanges that change no function
+    /// of `problem`. A set that isn't lawful is its own image. None if no exchange is found.
     pub fn of(
         alloc: Global,
         problem: &'a Problem,
@@ -202,18 +191,15 @@ impl<'a> Orbits<'a> {
         Ok(Some(orbits))
     }
 
-    /// The set to which the exchange with index `number`, counted from 0, takes `set`. None if
-    /// there is no such exchange, or if the problem lacks a variable of `set`.
+    /// The set to which the exchange with index `number` takes `set`.
     fn image(&self, set: Mask, number: usize) -> Option<Mask> {
         let exchange = self.exchanges.get(number)?;
         let image = exchange.images().get(usize::from(set))?;
         Some(*image)
     }
 
-    /// Sets the image of T, the set to which the exchange with index `number`, counted from 0,
-    /// takes `set`. This exchange takes T back to `set`, so T's image becomes the exchange followed
-    /// by the image of `set`. If there is no such exchange, or the problem lacks a variable of
-    /// `set`, nothing changes.
+    /// Sets the image of the set T to which the exchange with index `number` takes `set`: the
+    /// exchange, which takes T back, followed by the image of `set`.
     fn link(&mut self, set: Mask, number: usize)
         ensures { self.new ≡ self.old }
     {
@@ -234,10 +220,8 @@ impl<'a> Orbits<'a> {
         }
     }
 
-    /// Marks as seen in `reached` each set T to which one of the exchanges takes `set`. If T wasn't
-    /// seen before and is lawful by `pairs`, appends it to `reached.sets`, and sets its image: the
-    /// exchange, which takes T back to `set`, followed by the image of `set`. If memory is refused,
-    /// the last set that got an image isn't appended, and further ones aren't visited.
+    /// Links each set T to which one of the exchanges takes `set`, if T is lawful by `pairs` and
+    /// was not seen before, and appends it to `reached.sets`.
     fn step_from(
         &mut self,
         set: Mask,
@@ -258,11 +242,9 @@ impl<'a> Orbits<'a> {
         Ok(())
     }
 
-    /// Follows the exchanges from `first`, set by set, to all sets that are lawful by `pairs` and
-    /// that `reached` has not seen before. Marks the sets that it meets as seen. Each that it
-    /// reaches gets an image: exchanges that take it back to `first`, followed by the image of
-    /// `first`. `reached.sets`, whatever it had, becomes `first` and the sets reached; if memory is
-    /// refused, some are missing.
+    /// Follows the exchanges from `first` to all sets that are lawful by `pairs` and were not seen
+    /// before. Each gets as its image the exchanges that take it back to `first`, followed by the
+    /// image of `first`.
     fn reach_from(
         &mut self,
         first: Mask,
@@ -282,9 +264,7 @@ impl<'a> Orbits<'a> {
         Ok(())
     }
 
-    /// Sets the image of each set that is lawful by `pairs` to the first set of its orbit under the
-    /// exchanges. Expects that each set is its own image before; sets that aren't lawful stay so.
-    /// If memory is refused, some lawful sets may stay so too.
+    /// Sets the image of each set that is lawful by `pairs` to the first set of its orbit.
     fn reach_all(&mut self, alloc: Global, pairs: &Pairs) -> Result<(), AllocError>
         ensures { self.new ≡ self.old }
     {
@@ -302,8 +282,7 @@ impl<'a> Orbits<'a> {
         Ok(())
     }
 
-    /// Whether `set` is the first set of its orbit. True also if the set isn't lawful, or has a
-    /// variable that the problem lacks.
+    /// Whether `set` is the first set of its orbit; true also if it isn't lawful.
     pub fn is_first(&self, set: Mask) -> bool {
         match self.images.get(usize::from(set)) {
             Some(image) => image.set == set,
@@ -311,9 +290,7 @@ impl<'a> Orbits<'a> {
         }
     }
 
-    /// The image of `set`: exchanges take it to the first set of its orbit, and each variable along
-    /// with it. A set that isn't lawful, and each variable with it, stays itself. Requires the
-    /// members of `set` to be variables of the problem.
+    /// Where exchanges take `set`: to the first set of its orbit.
     pub fn first_of(&self, set: Mask) -> Image
         requires { set < 2 ^ self.now.inputs }
         ensures { KeepsWidths self.now set result.set result.variables }
@@ -322,9 +299,7 @@ impl<'a> Orbits<'a> {
         self.first_from(Image::of(set))
     }
 
-    /// The image `from`, followed by the exchanges that take its set to the first set of its orbit:
-    /// `set` becomes that first set, and each entry of `variables` the variable to which they take
-    /// it. If `from.set` has a variable that the problem lacks, the result is `from`.
+    /// The image `from`, followed by the exchanges that take its set to the first set of its orbit.
     pub fn first_from(&self, from: Image) -> Image
         ensures { (p : TruthTables) (S : ℕ) → p.inputs ≤ 16 →
             TakesWidths p self.now S from.set from.variables →

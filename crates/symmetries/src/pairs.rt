@@ -10,9 +10,7 @@ use crate::words::is_symmetric_in;
 use order_model::{Pairs, Problem, VarIx};
 use std::alloc::{AllocError, Global};
 
-/// Whether all functions of `problem` are symmetric in the variables `a` and `b`: exchanging the
-/// two changes none. Requires `a` to be less than `b`, and `b` to be one of the problem's
-/// variables.
+/// Whether all functions of `problem` are symmetric in `a` and `b`.
 fn are_symmetric(problem: &Problem, a: VarIx, b: VarIx) -> bool
     requires first { a < b }
     requires inside { b < problem.now.inputs }
@@ -26,8 +24,7 @@ fn are_symmetric(problem: &Problem, a: VarIx, b: VarIx) -> bool
     true
 }
 
-/// The smallest variable greater than `a` such that all functions are symmetric in `a` and this
-/// variable. None if there is none. Requires `a` to be one of the problem's variables.
+/// The smallest variable above `a` such that all functions are symmetric in both.
 fn next_symmetric(problem: &Problem, a: VarIx) -> Option<VarIx>
     requires few { problem.now.inputs ≤ 16 }
     requires inside { a < problem.now.inputs }
@@ -41,8 +38,7 @@ fn next_symmetric(problem: &Problem, a: VarIx) -> Option<VarIx>
     None
 }
 
-/// For each variable a the pair (a, b) in which b is the smallest variable greater than a such that
-/// all functions are symmetric in both; no pair for a if there is no such b.
+/// For each variable a the pair of a and `next_symmetric` of it, if there is one.
 fn symmetric_pairs(alloc: Global, problem: &Problem) -> Result<Pairs, AllocError>
     ensures inputs { IfOk result (λ p. p.inputs ≡ problem.now.inputs) }
     ensures pairs { IfOk result
@@ -61,10 +57,7 @@ fn symmetric_pairs(alloc: Global, problem: &Problem) -> Result<Pairs, AllocError
     }
 }
 
-/// The pairs that a search keeps if its caller requires those in `asked`: these, if there are any.
-/// Else, for each variable a, the pair (a, b) in which b is the smallest variable greater than a
-/// such that all functions are symmetric in both, if there is one. Requires `asked` to have as many
-/// variables as `problem`.
+/// The pairs that a search keeps: those in `asked`, or if there are none the symmetric pairs.
 pub fn pairs_to_keep(alloc: Global, problem: &Problem, asked: &Pairs) -> Result<Pairs, AllocError>
     requires { asked.now.inputs ≡ problem.now.inputs }
     ensures inputs { IfOk result (λ p. p.inputs ≡ problem.now.inputs) }

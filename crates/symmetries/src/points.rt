@@ -9,10 +9,8 @@ use order_model::Problem;
 use order_model::packed::bit_of;
 use std::alloc::{AllocError, Global};
 
-/// Adds a function's values to `values`: its value at each point p becomes the lowest bit of entry
-/// p, and the entry's other bits move up by one. `words` is the function's packed truth table, with
-/// a bit for each entry. Requires each entry to have at most `before` bits, and `before` to be
-/// below 16.
+/// Adds a function's values to `values`: that at point p becomes the lowest bit of entry p, and the
+/// other bits move up by one.
 fn append_bits(values: &mut Vec<u16>, words: &[u64], before: u8)
     requires few { before < 16 }
     requires long { length values.old.items ≤ 64 * length words.now }
@@ -27,8 +25,7 @@ fn append_bits(values: &mut Vec<u16>, words: &[u64], before: u8)
     }
 }
 
-/// The values of all functions at each point p, at entry p, as one number: the last function's
-/// value is its lowest bit, the one before that the next bit, and so on.
+/// The values of all functions at each point, as one number: the last one's is its lowest bit.
 pub(crate) fn values_by_point(alloc: Global, problem: &Problem) -> Result<Vec<u16>, AllocError>
     ensures long { IfOk result (λ v. length v.items ≡ 2 ^ problem.now.inputs) }
     ensures labels { IfOk result (λ v. TellValues problem.now v.items) }

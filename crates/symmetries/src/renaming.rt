@@ -26,10 +26,7 @@ impl Model for Renamed {
     ghost view = { λ r. record { problem = r.problem; exchange = r.exchange } };
 }
 
-/// Writes function `output`, counted from 0, of `renamed`: its value at each point p becomes that
-/// of the same function of `problem` at `images[p]`. No other function changes. Requires this
-/// function to be 0 everywhere before, both problems to have the same numbers of variables and of
-/// functions, and `images` to have a point for each point.
+/// Function `output` of `renamed` gets at each point p the value of `problem` at `images[p]`.
 fn set_values(renamed: &mut Problem, problem: &Problem, images: &[Mask], output: u8)
     requires inputs { renamed.old.inputs ≡ problem.now.inputs }
     requires outputs { outputs_of renamed.old ≡ outputs_of problem.now }
@@ -53,8 +50,7 @@ fn set_values(renamed: &mut Problem, problem: &Problem, images: &[Mask], output:
     }
 }
 
-/// The problem each of whose functions has at each point p the value that the same function of
-/// `problem` has at `images[p]`. Requires `images` to have a point for each point.
+/// The problem that has at each point p the values of `problem` at `images[p]`.
 fn renamed_problem(alloc: Global, problem: &Problem, images: &[Mask]) -> Result<Problem, AllocError>
     requires long { length images.now ≡ 2 ^ problem.now.inputs }
     requires inside { (k : ℕ) → k < 2 ^ problem.now.inputs →
@@ -72,10 +68,8 @@ fn renamed_problem(alloc: Global, problem: &Problem, images: &[Mask]) -> Result<
     Ok(renamed)
 }
 
-/// An exchange of `inputs` variables, at most 16, by which the k members of `set`, all below
-/// `inputs`, become the k lowest variables: entry x of the result is the partner of x. Each member
-/// from k on is exchanged with a variable below k that is outside the set. All other variables are
-/// their own partners.
+/// The partner of each variable in an exchange by which the k members of `set` become the k lowest
+/// variables: each member from k on changes places with a variable below k outside the set.
 fn partners_to_lower(inputs: u8, set: Mask) -> [VarIx; 16]
     requires { inputs ≤ 16 }
 {
@@ -96,8 +90,7 @@ fn partners_to_lower(inputs: u8, set: Mask) -> [VarIx; 16]
 }
 
 impl Renamed {
-    /// `problem` with variables exchanged in pairs so that the k members of `set` become the k
-    /// lowest variables. `problem` has to have all members of `set`; then the result is never None.
+    /// `problem` with the members of `set` as its lowest variables; None if it lacks one of them.
     fn of(alloc: Global, problem: &Problem, set: Mask) -> Result<Option<Renamed>, AllocError>
         ensures { IfOk result (λ r. IfSome r (IsRenamed problem.now)) }
     {
@@ -113,9 +106,7 @@ impl Renamed {
         }))
     }
 
-    /// The image of `set` under the exchange: the set of its members' partners, and the partner of
-    /// each variable. If the problem lacks a member of `set`, the set and each variable stay
-    /// themselves.
+    /// The set of the partners of the members of `set`, and the partner of each variable.
     fn image_of(&self, set: Mask) -> Image
         ensures { (p : TruthTables) → p.inputs ≤ 16 → IsRenamed p self.now → set < 2 ^ p.inputs →
             TakesWidths p self.now.problem set result.set result.variables }
@@ -144,7 +135,6 @@ impl<'a> Model for Renaming<'a> {
 }
 
 impl<'a> Renaming<'a> {
-    /// The renaming of `problem` that exchanges no variables.
     pub fn none(problem: &'a Problem) -> Renaming<'a>
         ensures problem { result.problem ≡ problem.now }
         ensures own { renamed_of result.problem result.renamed ≡ problem.now }
@@ -155,9 +145,7 @@ impl<'a> Renaming<'a> {
         }
     }
 
-    /// The renaming of `problem` by which the k members of `set`, which have to be variables of the
-    /// problem, become the k lowest variables. Each member from k on is exchanged with a variable
-    /// below k that is outside the set.
+    /// The renaming of `problem` by which the k members of `set` become the k lowest variables.
     pub fn to_lowest(
         alloc: Global,
         problem: &'a Problem,
@@ -171,20 +159,17 @@ impl<'a> Renaming<'a> {
         })
     }
 
-    /// The problem as it was given, before variables were exchanged.
     pub fn problem(&self) -> &'a Problem
         ensures { result.now ≡ self.now.problem }
     {
         self.problem
     }
 
-    /// Whether the renaming has an exchange. This may be one under which each variable is its own
-    /// partner.
+    /// Whether variables are exchanged, maybe each with itself.
     pub fn is_renamed(&self) -> bool {
         self.renamed.is_some()
     }
 
-    /// The problem with exchanged variables, or the problem itself if none were exchanged.
     pub fn renamed(&self) -> &Problem
         ensures { result.now ≡ renamed_of self.now.problem self.now.renamed }
     {
@@ -194,9 +179,7 @@ impl<'a> Renaming<'a> {
         }
     }
 
-    /// Where the renaming takes `set`, and where it takes each variable: to a set of variables, and
-    /// to variables, of the renamed problem. Requires the members of `set` to be variables of the
-    /// problem.
+    /// Where the renaming takes `set` and each variable.
     pub fn image_of(&self, set: Mask) -> Image
         requires { set < 2 ^ self.now.problem.inputs }
         ensures { TakesWidths self.now.problem (renamed_of self.now.problem self.now.renamed) set
@@ -209,8 +192,8 @@ impl<'a> Renaming<'a> {
         }
     }
 
-    /// `pairs` with each variable replaced by the one to which the renaming takes it. If variables
-    /// are exchanged, pairs with a variable that the problem lacks are left out.
+    /// `pairs` with each variable renamed. Pairs with a variable that the problem lacks are left
+    /// out.
     pub fn pairs(&self, alloc: Global, pairs: &Pairs) -> Result<Pairs, AllocError> {
         let Some(renamed) = &self.renamed else {
             return Ok(pairs.copied());

@@ -8,9 +8,8 @@ ghost use Rattle.definitions.specs.Problems.{packed_bit, words_per_table};
 use order_model::VarIx;
 use order_model::packed::lower_half;
 
-/// Whether exchanging variables `a` and `b` changes the function of six variables with the truth
-/// table `word`. Bit k of `word` is the value at point k. Requires `a` to be less than `b`, and `b`
-/// to be below 6.
+/// Whether exchanging `a` and `b` changes the function of six variables with the truth table
+/// `word`.
 #[inline(always)]
 fn changes_inside(word: u64, a: VarIx, b: VarIx) -> bool
     requires first { a < b }
@@ -25,8 +24,7 @@ fn changes_inside(word: u64, a: VarIx, b: VarIx) -> bool
 }
 
 /// Whether exchanging variable `a` with a variable v changes the function of seven variables with
-/// the truth tables `lower` for v = 0 and `upper` for v = 1. Bit k of each is the value at point k
-/// of the other six variables. Requires `a`, one of these, to be below 6.
+/// the truth tables `lower` for v = 0 and `upper` for v = 1.
 #[inline(always)]
 fn changes_across(lower: u64, upper: u64, a: VarIx) -> bool
     requires { a < 6 }
@@ -36,8 +34,7 @@ fn changes_across(lower: u64, upper: u64, a: VarIx) -> bool
     ((lower >> (1u32 << a)) ^ upper) & lower_half(a) != 0
 }
 
-/// Whether the function with the packed truth table `words` is symmetric in the variables `a` and
-/// `b`. Requires `a` to be less than `b`, and `b` to be below 6.
+/// Whether the function is symmetric in `a` and `b`, both below 6.
 fn is_symmetric_inside(words: &[u64], a: VarIx, b: VarIx) -> bool
     requires first { a < b }
     requires low { b < 6 }
@@ -54,9 +51,7 @@ fn is_symmetric_inside(words: &[u64], a: VarIx, b: VarIx) -> bool
     true
 }
 
-/// Whether the function with the packed truth table `words` is symmetric in variable `a` and
-/// variable `s` + 6, which is bit `s` of a word's index. Requires `a` to be below 6, `s` below 10,
-/// and the number of words to be a multiple of `2^(s + 1)` and at most 1024.
+/// Whether the function is symmetric in `a`, below 6, and `s` + 6.
 fn is_symmetric_across(words: &[u64], a: VarIx, s: u8) -> bool
     requires few { length words.now ≤ 1024 }
     requires low { a < 6 }
@@ -76,9 +71,7 @@ fn is_symmetric_across(words: &[u64], a: VarIx, s: u8) -> bool
     true
 }
 
-/// Whether the function with the packed truth table `words` is symmetric in the variables `r` + 6
-/// and `s` + 6, which are bits `r` and `s` of a word's index. Requires `r` to be less than `s`, `s`
-/// to be below 10, and the number of words to be a multiple of `2^(s + 1)` and at most 1024.
+/// Whether the function is symmetric in `r` + 6 and `s` + 6.
 fn is_symmetric_between(words: &[u64], r: u8, s: u8) -> bool
     requires few { length words.now ≤ 1024 }
     requires first { r < s }
@@ -98,9 +91,7 @@ fn is_symmetric_between(words: &[u64], r: u8, s: u8) -> bool
     true
 }
 
-/// Whether the function of `inputs` variables, at most 16, with the packed truth table `words` is
-/// symmetric in the variables `a` and `b`: exchanging the two changes no value. Requires `a` to be
-/// less than `b`, and `b` to be below `inputs`.
+/// Whether the function with the packed truth table `words` is symmetric in `a` and `b`.
 pub(crate) fn is_symmetric_in(words: &[u64], inputs: u8, a: VarIx, b: VarIx) -> bool
     requires few { inputs ≤ 16 }
     requires long { length words.now ≡ words_per_table inputs }
