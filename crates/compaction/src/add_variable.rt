@@ -11,8 +11,7 @@ use std::marker::Model;
 use std::mem;
 
 /// A class table in strips, and the rank of a variable by which its strips are to be paired. The
-/// variable is outside the table's set and above those inside a strip. The name of a strip is its
-/// number.
+/// name of a strip is its number.
 #[derive(Drop)]
 pub(crate) struct StripTable<'a> {
     /// Function by function, for each assignment of the variables that are outside the set and
@@ -45,11 +44,10 @@ impl<'a> Model for StripTable<'a> {
     ghost invariant = { λ t. IsStripTable t.outer.now t.rank t.numbers.now t.bits t.masks.now };
 }
 
-/// Adds the high variable `x` to the set of `table`, a class table in strips. Returns the strip
-/// names of the larger set's class table, and its class numbers with their masks. A new name is the
-/// number, by first occurrence, of a pair of strips that differ in `x` alone. Requires that the set
-/// lacks `x`, that `table.rank` is the number of high variables below `x` outside the set, and that
-/// `x` is below 16. `memory` is working memory.
+/// Adds the high variable `x` to the set of `table`. Returns the strip names of the larger set's
+/// class table, and its class numbers with their masks. A new name is the number, by first
+/// occurrence, of a pair of strips that differ in `x` alone. `table.rank` is the number of high
+/// variables below `x` outside the set.
 pub(crate) fn add_above(
     memory: &mut PairMemory,
     table: &StripTable<'_>,

@@ -1,49 +1,16 @@
 //! The widths of all sets of variables.
 
-ghost use Rattle.std.specs.Prelude.{◌≡◌, ◌^◌, ◌<◌, ◌≤◌, IfOk};
-ghost use Rattle.definitions.specs.AllOrders.{AreAllWidths, AreWidthsIn};
+ghost use Rattle.std.specs.Prelude.{◌≤◌, IfOk};
+ghost use Rattle.definitions.specs.AllOrders.{AreAllWidths};
 ghost use Rattle.definitions.specs.Problems.{functions};
 
-use crate::high_walk::walked_rows;
 use crate::low_choice::renaming_of;
 use crate::preparation::Preparation;
-use crate::request::WidthRequest;
-use crate::shared_tables::SharedTables;
-use crate::strips::members_only;
 use order_model::{Mask, Pairs, Problem, WidthRow, Workers};
-use pair_numbering::PairMemory;
 use std::alloc::{AllocError, Global};
 use std::thread::Threads;
 
-/// The widths of the members of `set` over the other members, found by a walk of its own; 0 at
-/// other variables. Requires all members of `set` to be variables of the problem.
-fn walked_row(alloc: Global, problem: &Problem, set: Mask) -> Result<WidthRow, AllocError>
-    requires { set < 2 ^ problem.now.inputs }
-    ensures { IfOk result (AreWidthsIn problem.now.inputs (functions problem.now) set) }
-{
-    prove!(problem.inputs() <= 16);
-    let shared = SharedTables::bare(alloc, problem)?;
-    let mut request = WidthRequest::none(alloc, problem.inputs(), (set % 256) as u8)?;
-    request.add(set, set);
-    let (byte, _) = walked_rows(&mut PairMemory::new(alloc), &shared, request)?;
-    let row = byte.rows[usize::from(set >> 8)];
-    Ok(members_only(row, set))
-}
-
 impl<'a> Preparation<'a> {
-    /// The widths of the members of `set` over the other members, 0 at other variables. They are
-    /// read from the rows that were found ahead, or, if one is missing there, found by a walk.
-    /// Requires all members of `set` to be variables of the problem.
-    fn widths_in(&self, alloc: Global, set: Mask) -> Result<WidthRow, AllocError>
-        requires { set < 2 ^ self.now.problem.inputs }
-        ensures { IfOk result (AreWidthsIn self.now.problem.inputs (functions self.now.problem) set) }
-    {
-        match self.row_of(set, set) {
-            Some(row) => Ok(row),
-            None => walked_row(alloc, self.problem(), set),
-        }
-    }
-
     /// A row for each set of variables, at its mask: at each member x the width of x over the other
     /// members, and 0 elsewhere. A row that wasn't found ahead takes a walk of its own.
     fn all_rows(&self, alloc: Global) -> Result<Vec<WidthRow>, AllocError>
@@ -53,8 +20,9 @@ impl<'a> Preparation<'a> {
         prove!(self.problem().inputs() <= 16);
         let sets = 1u32 << self.problem().inputs();
         let mut rows = Vec::with_capacity(alloc, sets as usize)?;
-        for set in 0..sets {
-            rows.push(self.widths_in(alloc, set as Mask)?)?;
+        for number in 0..sets {
+            let set = number as Mask;
+            rows.push(self.row(alloc, set, set)?)?;
         }
         Ok(rows)
     }

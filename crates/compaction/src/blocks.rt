@@ -33,8 +33,7 @@ impl Model for BlockWidths {
 }
 
 impl BlockWidths {
-    /// The row of the block's set `i`: at each member x whose width was requested, the width of x
-    /// over the other members, and 0 elsewhere. Requires `i` to be below the number of sets.
+    /// The row of the block's set `i`.
     pub fn row(&self, i: usize) -> WidthRow
         requires { i < length self.now.rows }
         ensures { slice_get self.now.rows i ≡ Some result }
@@ -42,16 +41,15 @@ impl BlockWidths {
         self.rows[i]
     }
 
-    /// A row for each set of the block, by rising mask: at each member x whose width was requested,
-    /// the width of x over the other members, and 0 elsewhere.
+    /// A row for each set of the block, by rising mask.
     pub fn into_rows(self) -> Vec<WidthRow>
         ensures { result.items ≡ self.rows }
     {
         self.rows
     }
 
-    /// How many class tables were compacted to find the widths: one for each variable in the
-    /// block's low byte, and those of the walk. 0 if no width was requested.
+    /// How many class tables were compacted: one for each variable in the block's low byte, and
+    /// those of the walk. 0 if no width was requested.
     pub fn compactions(&self) -> u32
         ensures { result ≡ self.now.compactions }
     {
@@ -61,9 +59,7 @@ impl BlockWidths {
 
 impl<'a> SharedTables<'a> {
     /// A row for each set of the block, copied from `byte`: for set i, at each x in `needed[i]`,
-    /// the width of x over the other members, and 0 elsewhere. Requires that `byte` has these
-    /// widths for the shared tables' problem and the block's low byte, that the block has as many
-    /// inputs as the problem, and that `needed` has a mask for each of its sets.
+    /// the width of x over the other members, and 0 elsewhere.
     fn rows_of_block(
         &self,
         alloc: Global,
@@ -89,10 +85,8 @@ impl<'a> SharedTables<'a> {
 }
 
 /// Computes a row for each set of the block: for set i, at each x in `needed[i]`, the width of x
-/// over the other members, and 0 elsewhere. The walk begins at the class table of the empty set.
-/// `tally` rises by the number of these widths, unless memory is refused. Requires that it doesn't
-/// rise above 2^32, that the block has the problem's number of inputs, and that `needed` has a mask
-/// of members for each set.
+/// over the other members, and 0 elsewhere. `tally` rises by the number of these widths, unless
+/// memory is refused.
 pub fn block_widths(
     alloc: Global,
     problem: &Problem,

@@ -18,13 +18,12 @@ use std::thread::Threads;
 pub(crate) struct Turns {
     /// All low bytes, in the order in which they are taken.
     bytes: [u8; 256],
-    /// How often a thread came for a byte, counting those times when all were taken.
+    /// How often a thread came for a byte.
     taken: AtomicU64,
 }
 
 impl Turns {
-    /// A queue of all 256 low bytes, none of which is taken: those with fewer bits that are 1 come
-    /// first, and of those with equally many the smaller.
+    /// All 256 low bytes, none of them taken: those with fewer variables come first.
     pub(crate) fn new() -> Turns {
         let mut bytes = [0; 256];
         let mut count = 0usize;
@@ -42,7 +41,7 @@ impl Turns {
         }
     }
 
-    /// Takes the next low byte off the queue, and returns it; None if all 256 are taken.
+    /// The next low byte; None if all are taken.
     fn next(&self) -> Option<u8> {
         let turn = self.taken.fetch_add(1, Ordering::SeqCst);
         self.bytes.get(turn as usize).copied()
@@ -50,9 +49,8 @@ impl Turns {
 }
 
 impl<'a> SharedTables<'a> {
-    /// Takes low bytes from `turns` until none is left, and for each one computes the rows that the
-    /// request for it in `requests` needs, if there is one. A request for another number of
-    /// variables than the problem's is skipped.
+    /// Takes low bytes from `turns` until none is left, and finds the rows that are requested for
+    /// each.
     pub(crate) fn rows_by_turns(
         &self,
         alloc: Global,
@@ -78,8 +76,7 @@ impl<'a> SharedTables<'a> {
         Ok(found)
     }
 
-    /// Computes all rows of widths in `requests`, by the threads of `workers` workers. A request
-    /// for another number of variables than the problem's is skipped.
+    /// Finds all rows in `requests`, by the threads of `workers` workers.
     pub(crate) fn rows_by_workers<R: Threads + Sync>(
         &self,
         rt: &R,

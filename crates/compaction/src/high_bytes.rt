@@ -14,8 +14,7 @@ pub(crate) struct HighBytes {
     words: [u64; 4],
 }
 
-/// A word in which bit b, for each b below 64, is 1 if the byte `64 * i + b` lacks bit `y`.
-/// Requires `i` < 4 and `y` < 8.
+/// A word in which bit b is 1 if the byte `64 * i + b` lacks bit `y`.
 fn bits_without(i: usize, y: u8) -> u64
     requires place { i < 4 }
     requires bit { y < 8 }
@@ -31,9 +30,7 @@ fn bits_without(i: usize, y: u8) -> u64
 }
 
 impl HighBytes {
-    /// The set of the high bytes h with `needed[h]` not 0. `needed[h]` is the mask of the members
-    /// whose widths are needed, of the set with the high byte h. Requires `needed` to have at most
-    /// 256 entries.
+    /// The high bytes h with `needed[h]` not 0.
     pub(crate) fn wanted(needed: &[Mask]) -> HighBytes
         requires { length needed.now ≤ 256 }
         ensures { (h : ℕ) → h < length needed.now → slice_index needed.now h ≢ 0 →
@@ -48,15 +45,13 @@ impl HighBytes {
         HighBytes { words }
     }
 
-    /// Whether there is no high byte in `self`.
     pub(crate) fn is_empty(&self) -> bool
         ensures { IsTrue result → (h : ℕ) → h < 256 → HasByte self.now.words h → ⊥ }
     {
         self.words == [0; 4]
     }
 
-    /// Those high bytes in `self` whose bit `y`, which stands for the variable `8 + y`, is 0.
-    /// Requires `y` < 8.
+    /// Those high bytes in `self` that lack the variable `8 + y`.
     pub(crate) fn without(&self, y: u8) -> HighBytes
         requires { y < 8 }
         ensures { (h : ℕ) → h < 256 → HasByte self.now.words h → bit_at h y ≡ 0 →
@@ -69,8 +64,7 @@ impl HighBytes {
         HighBytes { words }
     }
 
-    /// Those high bytes in `self` whose bit `y`, which stands for the variable `8 + y`, is 1.
-    /// Requires `y` < 8.
+    /// Those high bytes in `self` that have the variable `8 + y`.
     pub(crate) fn with(&self, y: u8) -> HighBytes
         requires { y < 8 }
         ensures { (h : ℕ) → h < 256 → HasByte self.now.words h → bit_at h y ≡ 1 →
@@ -83,7 +77,6 @@ impl HighBytes {
         HighBytes { words }
     }
 
-    /// How many high bytes there are in `self`.
     pub(crate) fn count(&self) -> u32 {
         self.words
             .iter()

@@ -26,10 +26,9 @@ struct Branch {
 }
 
 impl Branch {
-    /// The variable below `inputs` for which this branch of the walk decides next whether its sets
-    /// have it; None if all are decided. If at most two are undecided, it is the lowest of these.
-    /// Else it is the undecided variable that most of the branch's sets with a needed width have;
-    /// of several, the lowest. Requires `inputs` to be at most 16.
+    /// The variable for which the walk decides next whether its sets have it; None if all are
+    /// decided. If at most two are undecided it is the lowest of these, else the one that most of
+    /// the branch's wanted sets have.
     fn next_variable(&self, inputs: u8) -> Option<VarIx>
         requires { inputs ≤ 16 }
         ensures undecided { IfSome result
@@ -60,11 +59,8 @@ impl Branch {
     }
 }
 
-/// Writes the row of the set of `table` to `rows[h]`, where h is the set's high byte: at each x in
-/// `request.needed[h]` the width of x over the other members, and 0 elsewhere. Other rows stay.
-/// Nothing is written if the set's low byte isn't that of `request`, or if memory is refused.
-/// Requires that `request` has the problem's number of variables, and that `rows` is as long as
-/// `request.needed`.
+/// Writes the row of the set of `table` to `rows`, at the set's high byte, if its low byte is that
+/// of `request`. Other rows stay.
 fn fill_row(
     alloc: Global,
     table: &Strips<'_>,
@@ -83,12 +79,8 @@ fn fill_row(
     Ok(())
 }
 
-/// Walks from `table` to the sets that are its set with none, some or all of the variables added
-/// that `branch` leaves undecided. If `request` needs a width of one, writes its row to `rows[h]`;
-/// its high byte h must be in `branch.wanted`. Other rows stay. Returns how many class tables were
-/// compacted. Requires that `branch` decides the members and low variables, `request` has the
-/// problem's number of variables, and `rows` is as long as `request.needed`. If memory is refused,
-/// some rows may be written. `memory` is working memory.
+/// Walks from `table` to the sets that are its set with some of the variables added that `branch`
+/// leaves undecided, and writes their rows to `rows`. Returns how many class tables were compacted.
 fn walk(
     memory: &mut PairMemory,
     table: &Strips<'_>,
@@ -129,10 +121,8 @@ fn walk(
     Ok(before + after + 1)
 }
 
-/// The class table of `low`, a set of low variables. It is made by adding variables to `first`, the
-/// table of the members of `low` below `from`. None if all members of `low` are below `from`:
-/// `first` is then its table. Requires `from` to be at most the number of low variables. `memory`
-/// is working memory.
+/// The class table of `low`, a set of low variables, made by adding variables to `first`, the table
+/// of the members of `low` below `from`. None if these are all its members.
 fn with_members<'a>(
     memory: &mut PairMemory,
     first: &Strips<'a>,
@@ -157,8 +147,8 @@ fn with_members<'a>(
     Ok(made)
 }
 
-/// The rows of the sets with one low byte, that of `request`: for the set with the high byte h,
-/// `rows[h]` has the widths of those members that the request needs, and 0 elsewhere.
+/// The rows of the sets with one low byte, each at the set's high byte: the widths of those members
+/// that `request` needs, and 0 elsewhere.
 #[derive(Drop)]
 pub(crate) struct ByteRows {
     pub(crate) request: WidthRequest,
@@ -182,9 +172,8 @@ impl Model for ByteRows {
 }
 
 /// The rows that `request` needs, found by a walk from a table in `shared`, and how many class
-/// tables were compacted for them. Each variable in the request's low byte counts as one, even if
-/// its table was made beforehand. If no width is needed no table is made, and the count is 0.
-/// Requires that `request` has the problem's number of variables. `memory` is working memory.
+/// tables were compacted for them. Each variable in the low byte counts as one, even if its table
+/// was made beforehand.
 pub(crate) fn walked_rows(
     memory: &mut PairMemory,
     shared: &SharedTables<'_>,

@@ -38,16 +38,14 @@ fn members_moved(
 }
 
 impl ByteRows {
-    /// Whether these rows have the widths of all members of `set`. Expects `set` to have the low
-    /// byte of these rows, which isn't tested.
+    /// Whether these rows have the widths of all members of `set`.
     pub(crate) fn is_whole(&self, set: Mask) -> bool {
         self.request.needed.get(usize::from(set >> 8)) == Some(&set)
     }
 
-    /// The row of a set whose image is `image`: at each x in `needed` the width of x over the other
-    /// members, and 0 elsewhere. It is read from the row of `image.set`, at the variables to which
-    /// `image` takes those in `needed`. None if one of these widths isn't among these rows. Expects
-    /// `image.set` to have the low byte of these rows, which isn't tested.
+    /// The row of a set whose image is `image`, from the row of `image.set`: at each x in `needed`
+    /// the width of x over the other members, and 0 elsewhere. None if one of these widths isn't
+    /// among these rows.
     pub(crate) fn row_by_image(&self, image: &Image, needed: Mask) -> Option<WidthRow>
         ensures { (p q : TruthTables) (set : ℕ) → p.inputs ≤ 16 → HoldsRows q self.now →
             TakesWidths p q set image.now.set image.now.variables →

@@ -4,7 +4,6 @@
 
 mod add_variable;
 mod all_rows;
-mod block_rows;
 mod blocks;
 mod found_rows;
 mod high_bytes;
@@ -14,6 +13,7 @@ mod low_choice;
 mod preparation;
 mod request;
 mod requests;
+mod rows;
 mod shared_tables;
 mod strips;
 mod tally;

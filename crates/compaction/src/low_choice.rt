@@ -24,10 +24,8 @@ fn mixed(hash: u64, word: u64) -> u64 {
     product ^ (product >> 29)
 }
 
-/// Hashes of the two halves of each strip in `words`: for strip i, at 2i the hash of its half where
-/// bit `low` of the point is 0, and at 2i + 1 that of its half where that bit is 1. `words` has
-/// packed truth tables, four words a strip; up to three words left over are ignored. Requires
-/// `low` < 8.
+/// For each strip in `words`, which has packed truth tables, four words a strip, the hashes of the
+/// half where bit `low` of the point is 0, and of that where it is 1.
 fn halves_of(alloc: Global, words: &[u64], low: VarIx) -> Result<Vec<u64>, AllocError>
     requires { low < 8 }
 {
@@ -49,11 +47,9 @@ fn halves_of(alloc: Global, words: &[u64], low: VarIx) -> Result<Vec<u64>, Alloc
     Ok(hashes)
 }
 
-/// About how many distinct strips the halves with the hashes in `halves` make up, if those at
-/// places that differ in bit `bit` alone are joined. If `halves` are those of `halves_of`, bit 0
-/// joins them as they were, and bit k those that come together if the low variable and the high one
-/// `7 + k` are exchanged. It is how many distinct values the upper 14 bits of the strips' hashes
-/// have, so never more than there are. Requires `bit` to be at most 8.
+/// About how many distinct strips the hashed halves make up, if those at places that differ in bit
+/// `bit` alone are joined. Bit 0 joins them as `halves_of` found them, and bit k as if the low
+/// variable and the high one `7 + k` were exchanged.
 fn count_strips(halves: &[u64], bit: u8) -> u32
     requires { bit ≤ 8 }
 {
@@ -83,11 +79,9 @@ struct Change {
     ghost is_high: { high < 16 },
 }
 
-/// The exchange of two variables that leaves the fewest distinct strips of `words`, by an estimate
-/// from hashes. One variable is at a place below 8, the other at a place from 8 to `inputs` - 1;
-/// place p is bit p of a point. Of several exchanges it is the first, by the lower place and then
-/// by the higher one. None if each leaves at least `most` strips, or if `inputs` is at most 8.
-/// Requires `inputs` to be at most 16.
+/// The first exchange of a variable at a place below 8 with one at a higher place that leaves the
+/// fewest distinct strips of `words`, by an estimate from hashes. None if each leaves at least
+/// `most`.
 fn best_change(
     alloc: Global,
     words: &[u64],
@@ -111,9 +105,7 @@ fn best_change(
     Ok(best)
 }
 
-/// Exchanges bits `low` and `high` of all points in `words`, which has packed truth tables one
-/// after another. Requires `low` to be below 8, and `high` below 16. Expects `high` to be at least
-/// 8 and below the number of variables; else the tables may be wrong.
+/// Exchanges bits `low` and `high` of all points in `words`, packed truth tables one after another.
 fn exchange(words: &mut [u64], low: VarIx, high: VarIx)
     requires low { low < 8 }
     requires high { high < 16 }
@@ -136,11 +128,9 @@ fn exchange(words: &mut [u64], low: VarIx, high: VarIx)
     }
 }
 
-/// The mask of eight variables that are to become the lowest ones, so that the truth tables have
-/// fewer distinct strips. They are found by at most `MOST_CHANGES` exchanges of two variables, one
-/// after another: each time the one that leaves the fewest distinct strips, until none leaves fewer
-/// than before. None if at most `FEW_STRIPS` strips are distinct at first, or if more than about
-/// three quarters of the distinct ones are left at last. These counts are estimates by hashes.
+/// The eight variables that are to become the lowest ones, so that the truth tables have fewer
+/// distinct strips: found by at most `MOST_CHANGES` exchanges, each time the best one. None if at
+/// most `FEW_STRIPS` strips are distinct at first, or more than three quarters of them at last.
 fn lowest_of(alloc: Global, problem: &Problem) -> Result<Option<Mask>, AllocError>
     requires { problem.now.inputs ≤ 16 }
 {
@@ -171,9 +161,7 @@ fn lowest_of(alloc: Global, problem: &Problem) -> Result<Option<Mask>, AllocErro
 }
 
 /// A renaming of the variables by which the truth tables of `problem` have fewer distinct strips,
-/// and class tables are smaller. It exchanges no variable if there are at most eight, if at most
-/// `FEW_STRIPS` strips are distinct without a renaming, or if none is found that leaves at most
-/// about three quarters of the distinct strips.
+/// and class tables are smaller; one that exchanges none if that gains little.
 pub fn renaming_of<'a>(alloc: Global, problem: &'a Problem) -> Result<Renaming<'a>, AllocError>
     ensures { IfOk result (λ r. r.problem ≡ problem.now) }
 {

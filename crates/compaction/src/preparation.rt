@@ -1,6 +1,5 @@
-//! A search's preparation: what it begins with, and adds to from layer to layer. It does not depend
-//! on the bound. Pairs decide only of which sets rows are found; the rows themselves depend on the
-//! functions alone.
+//! What a search begins with, and adds to from layer to layer. It does not depend on the bound.
+//! Pairs decide only of which sets rows are found; the rows depend on the functions alone.
 
 ghost use Rattle.std.specs.Prelude.{◌≡◌, ◌<◌, ◌%◌, ◌^◌, [], All, IfOk, IfSome};
 ghost use Rattle.symmetries.specs.Orbits.{TakesWidths};
@@ -18,8 +17,7 @@ use std::marker::Model;
 use std::thread::Threads;
 use symmetries::{Image, Orbits, Renaming};
 
-/// For each low byte b, at index b: the place of the last entry with this low byte in a list of
-/// rows; None if there is none.
+/// For each low byte the place of the last entry with it in a list of rows.
 type Places = [Option<usize>; 256];
 
 /// The places of low bytes in `found`.
@@ -69,9 +67,8 @@ impl<'a> Model for Preparation<'a> {
 }
 
 impl<'a> Preparation<'a> {
-    /// Prepares a search with `shared`, class tables of the problem after `renaming`. Finds the
-    /// orbits of the renamed problem's sets, but no rows of widths. `pairs`, of the variables
-    /// before the renaming, determine which sets are lawful.
+    /// A preparation with the class tables `shared` of the problem after `renaming`, and no rows.
+    /// Sets that aren't lawful by `pairs`, of the variables before the renaming, get no rows later.
     fn with_tables(
         alloc: Global,
         renaming: &'a Renaming<'a>,
@@ -96,9 +93,7 @@ impl<'a> Preparation<'a> {
         })
     }
 
-    /// Prepares a search on the calling thread: makes the shared class tables of the problem after
-    /// `renaming`, and finds the orbits of its sets, but no rows of widths. `pairs`, of the
-    /// variables before the renaming, determine which sets are lawful.
+    /// A preparation without rows, made by the calling thread.
     pub fn of(
         alloc: Global,
         renaming: &'a Renaming<'a>,
@@ -112,11 +107,8 @@ impl<'a> Preparation<'a> {
         Preparation::with_tables(alloc, renaming, shared, pairs)
     }
 
-    /// Prepares a search by the threads of `workers` workers: makes the shared class tables of the
-    /// problem after `renaming`, finds the orbits of its sets, and finds rows of widths. The rows
-    /// are those of the lawful sets of 1 to `end` variables, of each orbit the first set alone;
-    /// there are none if `end` is 0. `pairs`, of the variables before the renaming, determine which
-    /// sets are lawful.
+    /// A preparation made by the threads of `workers` workers, with the rows of the lawful sets of
+    /// 1 to `end` variables, of each orbit the first set alone.
     pub fn by_workers<R: Threads + Sync>(
         rt: &R,
         alloc: Global,
@@ -151,8 +143,7 @@ impl<'a> Preparation<'a> {
         self.end
     }
 
-    /// The last rows that were found of sets with the low byte of `set`, a set of the renamed
-    /// problem; None if there are none.
+    /// The last rows that were found of sets with the low byte of `set`.
     pub(crate) fn rows_at(&self, set: Mask) -> Option<&ByteRows>
         ensures rows { IfSome result
             (λ b. HoldsRows (renamed_of self.now.problem self.now.renamed) b.now) }
@@ -165,10 +156,8 @@ impl<'a> Preparation<'a> {
         }
     }
 
-    /// The image of `set`, a set of the problem before the renaming: the renaming takes it to a set
-    /// of the renamed problem, and exchanges take that to the first set of its orbit. The row of
-    /// this first set has the widths of `set`. Requires that all members of `set` are variables of
-    /// the problem.
+    /// The image of `set`, a set of the problem before the renaming: renamed, and then taken to the
+    /// first set of its orbit, whose row has the widths of `set`.
     pub fn image_of(&self, set: Mask) -> Image
         requires { set < 2 ^ self.now.problem.inputs }
         ensures { TakesWidths self.now.problem (renamed_of self.now.problem self.now.renamed) set
@@ -182,14 +171,14 @@ impl<'a> Preparation<'a> {
         }
     }
 
-    /// Requests for the sets of the renamed problem, in which no width is needed yet.
+    /// Requests for no width yet, of sets of the renamed problem.
     pub fn requests(&self, alloc: Global) -> Result<Requests, AllocError> {
         prove!(self.renaming.problem().inputs() <= 16);
         Requests::none(alloc, self.renaming.problem().inputs())
     }
 
-    /// The lawful sets of the renamed problem that have at least `first` and at most `last`
-    /// variables, of each orbit the first set alone.
+    /// The lawful sets of at least `first` and at most `last` variables, of each orbit the first
+    /// set alone.
     fn wanted(&self, first: u8, last: u8) -> Wanted<'_, '_> {
         Wanted {
             pairs: &self.pairs,
@@ -199,17 +188,16 @@ impl<'a> Preparation<'a> {
         }
     }
 
-    /// Adds to `requests` the widths of all members of the lawful sets of at least `first` and at
-    /// most `last` variables, of each orbit the first set alone. Takes only sets whose low byte is
-    /// that of a set with a width in `requests` already: one walk then serves both.
+    /// Adds to `requests` the members of the lawful sets of at least `first` and at most `last`
+    /// variables, of each orbit the first set alone, whose low byte has a request already: one walk
+    /// then serves both.
     pub fn add_larger(&self, requests: &mut Requests, first: u8, last: u8) {
         requests.add_sets(&self.wanted(first, last), false);
     }
 
-    /// Takes over the rows in `found`, of sets of the renamed problem. If `end`, the size up to
-    /// which rows were to be found, exceeds `self.end()`, they replace the rows that the
-    /// preparation has, and `self.end()` becomes `end`; else they are appended, and `self.end()`
-    /// stays. If memory is refused nothing changes.
+    /// Takes over the rows in `found`. If `end`, the size up to which rows were to be found,
+    /// exceeds `self.end()`, they replace the rows that the preparation has, else they are
+    /// appended.
     fn take(&mut self, found: Vec<ByteRows>, end: u8) -> Result<(), AllocError>
         requires { All (HoldsRows (renamed_of self.old.problem self.old.renamed)) found.items }
         ensures { self.new.problem ≡ self.old.problem }
@@ -225,12 +213,7 @@ impl<'a> Preparation<'a> {
         Ok(())
     }
 
-    /// Finds all rows of widths in `requests`, by the calling thread. `end`, the size up to which
-    /// rows are to be found, limits nothing: rows of larger sets are found, too, if they are in
-    /// `requests`. If `end` exceeds `self.end()`, the new rows replace those of the preparation,
-    /// and `self.end()` becomes `end`; else they are appended, and `self.end()` stays. A request
-    /// for another number of variables than the problem's is skipped. If memory is refused nothing
-    /// changes.
+    /// `find` on the calling thread.
     pub fn find_alone(
         &mut self,
         alloc: Global,
@@ -243,7 +226,7 @@ impl<'a> Preparation<'a> {
         self.take(found, end)
     }
 
-    /// Finds the rows of all sets that are the first of their orbit, by the calling thread.
+    /// Finds the rows of the first set of each orbit.
     pub(crate) fn find_all(&mut self, alloc: Global) -> Result<(), AllocError>
         ensures { self.new.problem ≡ self.old.problem }
     {
@@ -253,12 +236,8 @@ impl<'a> Preparation<'a> {
         self.find_alone(alloc, &requests, inputs)
     }
 
-    /// Finds all rows of widths in `requests`, by the threads of `workers` workers. `end`, the size
-    /// up to which rows are to be found, limits nothing: rows of larger sets are found, too, if
-    /// they are in `requests`. If `end` exceeds `self.end()`, the new rows replace those of the
-    /// preparation, and `self.end()` becomes `end`; else they are appended, and `self.end()` stays.
-    /// A request for another number of variables than the problem's is skipped. If memory is
-    /// refused nothing changes.
+    /// Finds all rows in `requests`, and takes them over: if `end`, the size up to which they were
+    /// to be found, exceeds `self.end()`, they replace the rows that the preparation has.
     pub fn find<R: Threads + Sync>(
         &mut self,
         rt: &R,

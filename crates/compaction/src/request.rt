@@ -12,8 +12,7 @@ use subset_layers::Block;
 use symmetries::Orbits;
 
 /// The widths that are needed of the sets with the low byte `low`, in a problem of `inputs`
-/// variables. For the set with the high byte h, `needed[h]` is the mask of those members whose
-/// widths are needed.
+/// variables: for that with the high byte h, those of the members in `needed[h]`.
 #[derive(Drop)]
 pub(crate) struct WidthRequest {
     pub(crate) inputs: u8,
@@ -23,9 +22,8 @@ pub(crate) struct WidthRequest {
     ghost request: { IsRequest inputs low needed.items },
 }
 
-/// The sets of which rows are to be found: those of at least `first` and at most `last` variables
-/// that are lawful by `pairs` and, if there are `orbits`, the first of their orbit. The choice
-/// affects time alone, not results.
+/// The sets of `first` to `last` variables that are lawful by `pairs` and, if there are `orbits`,
+/// the first of their orbit. The choice affects time alone, not results.
 #[derive(Clone, Copy)]
 pub(crate) struct Wanted<'a, 'b> {
     pub pairs: &'a Pairs,
@@ -35,9 +33,6 @@ pub(crate) struct Wanted<'a, 'b> {
 }
 
 impl<'a, 'b> Wanted<'a, 'b> {
-    /// Whether rows of `set` are to be found: it has at least `self.first` and at most `self.last`
-    /// variables, is lawful by `self.pairs` and, if there are `self.orbits`, the first of its
-    /// orbit.
     fn has(&self, set: Mask) -> bool {
         let size = set.count_ones();
         if size < self.first || self.last < size {
@@ -51,9 +46,7 @@ impl<'a, 'b> Wanted<'a, 'b> {
 }
 
 impl WidthRequest {
-    /// A request for the sets with the low byte `low`, in a problem of `inputs` variables, in which
-    /// no width is needed yet. Requires `inputs` to be at most 16, and `low` to be below
-    /// 2^`inputs`.
+    /// A request in which no width is needed yet.
     pub(crate) fn none(alloc: Global, inputs: u8, low: u8) -> Result<WidthRequest, AllocError>
         requires inputs { inputs ≤ 16 }
         requires low { low < 2 ^ inputs }
@@ -68,7 +61,6 @@ impl WidthRequest {
         })
     }
 
-    /// A copy of the request.
     pub(crate) fn try_clone(&self, alloc: Global) -> Result<WidthRequest, AllocError>
         ensures inputs { IfOk result (λ w. w.inputs ≡ self.now.inputs) }
         ensures low { IfOk result (λ w. w.low ≡ self.now.low) }
@@ -81,9 +73,7 @@ impl WidthRequest {
         })
     }
 
-    /// Adds `members` to the members of `set` whose widths are needed. Requires that `set` has this
-    /// request's low byte and no variable that the problem lacks, and that `members` is a subset of
-    /// `set`.
+    /// Adds `members` to the members of `set` whose widths are needed.
     pub(crate) fn add(&mut self, set: Mask, members: Mask)
         requires set { set < 2 ^ self.old.inputs }
         requires byte { set % 256 ≡ self.old.low }
@@ -100,8 +90,7 @@ impl WidthRequest {
     }
 
     /// For each set i of the block, adds `needed[i]` to the members of the set whose widths are
-    /// needed. Requires that the block has this request's low byte and number of variables, and
-    /// that `needed` has, for each set of the block, a subset of it.
+    /// needed.
     pub(crate) fn add_block(&mut self, block: &Block, needed: &[Mask])
         requires inputs { block.now.inputs ≡ self.old.inputs }
         requires low { block.now.low ≡ self.old.low }
@@ -119,22 +108,18 @@ impl WidthRequest {
         }
     }
 
-    /// Adds those members of `set` that are in `variables` to the members of `set` whose widths are
-    /// needed. Nothing changes if `set` has another low byte than this request, or a variable that
-    /// the problem lacks.
+    /// Adds those members of `set` that are in `variables`, if `set` is one of this request's sets.
     pub(crate) fn add_members(&mut self, set: Mask, variables: Mask) {
         if u32::from(set) < 1u32 << self.inputs && set % 256 == Mask::from(self.low) {
             self.add(set, variables & set);
         }
     }
 
-    /// Whether no width is needed.
     pub(crate) fn is_empty(&self) -> bool {
         self.needed.iter().all(|members| *members == 0)
     }
 
-    /// For each set in `wanted` that has this request's low byte, adds all its members to those
-    /// whose widths are needed.
+    /// Adds all members of each of the wanted sets that has this request's low byte.
     pub(crate) fn add_sets(&mut self, wanted: &Wanted<'_, '_>) {
         for high in 0..self.needed.len().min(256) as Mask {
             let set = high * 256 + Mask::from(self.low);

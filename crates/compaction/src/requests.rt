@@ -7,8 +7,7 @@ use order_model::{Mask, contains};
 use std::alloc::{AllocError, Global};
 use symmetries::Image;
 
-/// The widths that are needed of a problem's sets, of any sizes: for each low byte the request for
-/// the sets that have it.
+/// The widths that are needed of a problem's sets, of any sizes: a request for each low byte.
 #[derive(Drop)]
 pub struct Requests {
     /// `bytes[b]` is the request for the low byte b. With fewer than eight variables there are
@@ -16,8 +15,7 @@ pub struct Requests {
     bytes: Vec<WidthRequest>,
 }
 
-/// The mask of the variables to which `image` takes the variables in `members`. Variables that are
-/// not below 16 are left out.
+/// The variables to which `image` takes those in `members`.
 fn members_of_image(image: &Image, members: Mask) -> Mask {
     let mut found: Mask = 0;
     for x in 0..16u8 {
@@ -30,8 +28,7 @@ fn members_of_image(image: &Image, members: Mask) -> Mask {
 }
 
 impl Requests {
-    /// Requests for a problem of `inputs` variables in which no width is needed yet. Requires
-    /// `inputs` to be at most 16.
+    /// Requests in which no width is needed yet.
     pub(crate) fn none(alloc: Global, inputs: u8) -> Result<Requests, AllocError>
         requires { inputs ≤ 16 }
     {
@@ -42,14 +39,12 @@ impl Requests {
         Ok(Requests { bytes })
     }
 
-    /// Whether no width is needed.
     pub fn is_empty(&self) -> bool {
         self.bytes.iter().all(|request| request.is_empty())
     }
 
-    /// Adds the widths of all members of the sets in `wanted` to those that are needed. If `all` is
-    /// false, takes only sets whose low byte is that of a set of which some width is needed
-    /// already.
+    /// Adds all members of the wanted sets. If `all` is false, takes only sets whose low byte has a
+    /// request already.
     pub(crate) fn add_sets(&mut self, wanted: &Wanted<'_, '_>, all: bool) {
         for request in &mut self.bytes {
             if all || !request.is_empty() {
@@ -59,8 +54,7 @@ impl Requests {
     }
 
     /// Requests widths of the set `image.set`: those of its members to which `image` takes
-    /// variables in `members`. Nothing changes if `image.set` has a variable that the problem
-    /// lacks.
+    /// variables in `members`.
     pub fn add_image(&mut self, image: &Image, members: Mask) {
         if let Some(request) = self.bytes.get_mut(usize::from(image.set % 256)) {
             request.add_members(image.set, members_of_image(image, members));

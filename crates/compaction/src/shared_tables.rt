@@ -14,8 +14,7 @@ use std::thread;
 use std::thread::Threads;
 
 /// If the distinct strips of the truth tables have at most this many points in all, the class
-/// tables of all sets of low variables are made beforehand. These tables have 26 times as many
-/// class numbers.
+/// tables of all sets of low variables are made beforehand: they have 26 times as many numbers.
 const MOST_POINTS: usize = 1 << 18;
 
 /// With more points than `MOST_POINTS` only the class tables of the sets of this many lowest
@@ -44,9 +43,7 @@ impl<'a> Model for SharedTables<'a> {
     ghost invariant = { λ b. AreKnownTables b.problem.now b.tables.items b.known };
 }
 
-/// For each of `tables`, in their order, the class table of its set with the low variable `x`
-/// added. The only error is that memory is refused. Requires `x` to be a variable of the tables'
-/// problems, and in none of the sets.
+/// For each of `tables` the class table of its set with the low variable `x` added.
 fn with_low<'a>(
     alloc: Global,
     tables: &[Strips<'a>],
@@ -63,9 +60,7 @@ fn with_low<'a>(
     Ok(larger)
 }
 
-/// For each of `tables`, in their order, the class table of its set with the low variable `x`
-/// added, made by the threads of `workers` workers. Requires `x` to be a variable of the tables'
-/// problems, and in none of the sets.
+/// `with_low` by the threads of `workers` workers.
 fn with_low_by_threads<'a, R: Threads + Sync>(
     rt: &R,
     alloc: Global,
@@ -96,7 +91,7 @@ fn with_low_by_threads<'a, R: Threads + Sync>(
 }
 
 impl<'a> SharedTables<'a> {
-    /// A problem's shared tables for several walks, made by the calling thread.
+    /// A problem's shared tables for several walks.
     pub(crate) fn of(alloc: Global, problem: &'a Problem) -> Result<SharedTables<'a>, AllocError>
         ensures { IfOk result (λ b. b ≡ problem.now) }
     {
@@ -110,7 +105,7 @@ impl<'a> SharedTables<'a> {
         Ok(shared)
     }
 
-    /// A problem's shared tables for several walks, made by the threads of `workers` workers.
+    /// `of` by the threads of `workers` workers.
     pub(crate) fn by_threads<R: Threads + Sync>(
         rt: &R,
         alloc: Global,
@@ -143,8 +138,7 @@ impl<'a> SharedTables<'a> {
         })
     }
 
-    /// For how many of the lowest variables the class tables of all sets are made beforehand if
-    /// several walks share them.
+    /// For how many of the lowest variables the tables of all sets are made.
     fn most_known(&self) -> u8
         ensures { result ≤ low_of self.now }
     {

@@ -55,7 +55,6 @@ pub(crate) fn low_variables(problem: &Problem) -> u8
 }
 
 /// The row that has, at each variable x in `wanted`, how many of `masks` have x, and 0 elsewhere.
-/// Requires at most 2^20 masks.
 fn row_of(masks: &[Mask], wanted: Mask) -> WidthRow
     requires few { length masks.now ≤ 2 ^ 20 }
     ensures { (x : ℕ) → x < 16 →
@@ -109,9 +108,9 @@ impl<'a> Strips<'a> {
     ghost use Rattle.compaction.specs.Strips.{AreDistinct, HoldsStrips, low_variables};
     ghost use Rattle.subfunction_classes.specs.Table.{set_of, with_variable, classes_of};
 
-    /// The class table of `set` for the functions of `problem`, with the strip names `outer`, and
-    /// the class numbers and masks in `keys`; that they are right isn't tested. If all subfunctions
-    /// are distinct, numbered in order, and depend on the whole set, only their count is kept.
+    /// The class table of `set` with the strip names `outer`, and the class numbers and masks in
+    /// `keys`. If all subfunctions are distinct, numbered in order, and depend on the whole set,
+    /// only their count is kept.
     fn of_parts(
         alloc: Global,
         problem: &'a Problem,
@@ -140,9 +139,7 @@ impl<'a> Strips<'a> {
         }
     }
 
-    /// The class table of `set` for the functions of `problem`, of which only `count` is kept.
-    /// Requires that there are `count` subfunctions over the set, all distinct and dependent on the
-    /// whole set.
+    /// The class table of `set`, of which only `count` is kept.
     fn of_count(alloc: Global, problem: &'a Problem, set: Mask, count: u32) -> Strips<'a>
         requires { AreDistinct (classes_of problem.now set) count }
         ensures { result ≡ classes_of problem.now set }
@@ -160,8 +157,7 @@ impl<'a> Strips<'a> {
         }
     }
 
-    /// The class table of the empty set for the functions of `problem`. Class number 0 is the value
-    /// of the first function at point 0, and class number 1 the other value.
+    /// The class table of the empty set. Number 0 is the value of the first function at point 0.
     pub(crate) fn of_problem(alloc: Global, problem: &'a Problem) -> Result<Strips<'a>, AllocError>
         ensures { IfOk result (λ c. c ≡ classes_of problem.now 0) }
     {
@@ -189,8 +185,8 @@ impl<'a> Strips<'a> {
         self.set
     }
 
-    /// The class table of this table's set with the low variable `x` added. Requires that the set
-    /// lacks `x`. `memory` is working memory.
+    /// The class table of this table's set with the low variable `x` added. `memory` is working
+    /// memory.
     pub(crate) fn add_low(
         &self,
         memory: &mut PairMemory,
@@ -217,8 +213,8 @@ impl<'a> Strips<'a> {
         }
     }
 
-    /// The class table of this table's set with the high variable `x` added. Requires that `x` is a
-    /// variable of the problem and not in the set. `memory` is working memory.
+    /// The class table of this table's set with the high variable `x` added. `memory` is working
+    /// memory.
     pub(crate) fn add_high(
         &self,
         memory: &mut PairMemory,
@@ -250,7 +246,7 @@ impl<'a> Strips<'a> {
     }
 
     /// The row that has, at each x in `wanted`, the width of x over the set without x, and 0
-    /// elsewhere. Requires that `wanted` is a subset of the set.
+    /// elsewhere.
     pub(crate) fn width_row(&self, alloc: Global, wanted: Mask) -> Result<WidthRow, AllocError>
         requires { (x : ℕ) → bit_at wanted x ≡ 1 → IsTrue (has (set_of self.now) x) }
         ensures { IfOk result (λ row. IsWidthRow self.now.problem self.now.set wanted row) }

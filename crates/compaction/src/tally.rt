@@ -21,22 +21,19 @@ impl Model for Tally {
 }
 
 impl Tally {
-    /// A tally of no widths.
     pub fn new() -> Tally
         ensures { result ≡ 0 }
     {
         Tally { count: 0 }
     }
 
-    /// How many widths were counted.
     pub fn count(&self) -> u64
         ensures { result ≡ self.now }
     {
         self.count
     }
 
-    /// Adds the number of widths that are needed. `needed` has for each set the mask of the members
-    /// whose widths are needed; there may be at most 2^20 sets. The tally must stay below 2^64.
+    /// Adds the number of widths that are needed.
     pub(crate) fn add_wanted(&mut self, needed: &[Mask])
         requires few { length needed.now ≤ 2 ^ 20 }
         requires room { self.old + wanted_count needed.now < 2 ^ 64 }
@@ -47,7 +44,6 @@ impl Tally {
         }
     }
 
-    /// Adds `more` to the count of widths, which must stay below 2^64.
     pub fn add(&mut self, more: u64)
         requires { self.old + more < 2 ^ 64 }
         ensures { self.new ≡ self.old + more }

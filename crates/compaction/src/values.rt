@@ -33,10 +33,8 @@ struct NamedStrips {
     strips: IndexSet<[u64; 4]>,
 }
 
-/// Appends to `found` the strips, of four words each, of a function with the packed truth table
-/// `words`: the name of each strip, and the words of strips that are new. Requires the number of
-/// words to be a multiple of 4 and at most 1024, and at most 2^16 distinct strips before. If memory
-/// is refused, some strips may be missing.
+/// Appends the strips of a function with the packed truth table `words`: the name of each, and the
+/// words of those that are new.
 fn push_strips(found: &mut NamedStrips, words: &[u64]) -> Result<(), AllocError>
     requires whole { (strips : ℕ) × (length words.now ≡ strips * 4) }
     requires few { length words.now ≤ 2 ^ 10 }
@@ -52,8 +50,7 @@ fn push_strips(found: &mut NamedStrips, words: &[u64]) -> Result<(), AllocError>
     Ok(())
 }
 
-/// The distinct strips of 256 points of all functions' truth tables, and the name of each strip,
-/// function by function: its number among the distinct ones. Requires at least eight variables.
+/// The distinct strips of all truth tables, and the name of each strip, function by function.
 fn name_strips(alloc: Global, problem: &Problem) -> Result<NamedStrips, AllocError>
     requires { 8 ≤ problem.now.inputs }
     ensures some { 0 < outputs_of problem.now }
@@ -74,8 +71,7 @@ fn name_strips(alloc: Global, problem: &Problem) -> Result<NamedStrips, AllocErr
     Ok(found)
 }
 
-/// The class numbers of the values in `strips`, at most 2^12 strips of 256 points each, one strip
-/// after the other: 0 for the value `first`, and 1 for the other value.
+/// The class numbers of the values in `strips`: 0 for the value `first`, and 1 for the other.
 fn numbers_of(alloc: Global, strips: &[[u64; 4]], first: bool) -> Result<Vec<u32>, AllocError>
     requires { length strips.now ≤ 2 ^ 12 }
     ensures { IfOk result (λ v. v.items ≡
@@ -90,9 +86,8 @@ fn numbers_of(alloc: Global, strips: &[[u64; 4]], first: bool) -> Result<Vec<u32
 }
 
 /// The class numbers of a problem's values, in strips of the points that differ in the lowest eight
-/// variables alone; equal strips are stored once. The value of function 0 at point 0 has the class
-/// number 0, and the other value has 1. With fewer than eight variables there is a strip for each
-/// function instead, which is its whole truth table, and is stored even if it is equal to another.
+/// variables alone; equal strips are stored once. With fewer variables there is a strip for each
+/// function.
 pub(crate) fn value_strips(alloc: Global, problem: &Problem) -> Result<ValueStrips, AllocError>
     ensures { IfOk result (λ v. HoldsValues problem.now v.outer.items v.numbers.items
         (2 ^ min problem.now.inputs 8)) }

@@ -36,12 +36,7 @@ fn row_found(rt: &impl Abort, alloc: Global, renaming: &Renaming<'_>, block: &Bl
     let found = prepared.find_alone(alloc, &requests, 2);
     found.expect(rt, "memory");
     assert!(rt; prepared.is_found(image.set));
-    let mut tally = Tally::new();
-    let rows = prepared
-        .block_rows(alloc, block, &[needed], &mut tally)
-        .expect(rt, "memory");
-    assert!(rt; rows.len() == 1 && tally.count() == 2);
-    rows[0]
+    prepared.row(alloc, needed, needed).expect(rt, "memory")
 }
 
 /// The row of the set of the two lowest variables: by itself, from a row that is found, and from

@@ -1,18 +1,16 @@
 -- Where the sets of a block stand in its layer.
 --     block_layer      the layer of the block at a place
---     in_place, block_done      a mask is in the block just where its low byte has the block's place
---     only_place      a mask has one place
+--     in_place      a mask is in the block just where its low byte has the block's place
 --     block_has      a mask of a block is in its layer
-use Rattle.std.proofs.Common.{◌≡◌, ℕ, ◌<◌, true, get_or, length, slice_get, Some, sym, ap, ◌∙◌, arith, nat_eq, eqb, eq-eqb}
+use Rattle.std.proofs.Common.{◌≡◌, ℕ, ◌<◌, true, get_or, length, slice_get, Some, sym, ap, ◌∙◌, arith, nat_eq, eqb}
 use Rattle.std.specs.List.{list_any, IsDistinct, range_with_len}
-use Rattle.std.proofs.lemmas.Bool.{and_from, and_parts}
-use Rattle.std.proofs.lemmas.Option.{slice_get_within, get_or_from_slice_get, same_Some}
+use Rattle.std.proofs.lemmas.Bool.{and_parts}
+use Rattle.std.proofs.lemmas.Option.{slice_get_within, same_Some}
 use Rattle.definitions.specs.Orders.{has, place_in}
-use Rattle.definitions.proofs.Lists.Orders.{has_at, has_filter, place_get, place_at, place_small}
+use Rattle.definitions.proofs.Lists.Orders.{has_filter, place_get, place_at, place_small}
 use Rattle.definitions.proofs.Widths.Recurrence.{distinct_filter, distinct_variables}
-use Rattle.subset_layers.specs.Layers.{LayerOf, BlockOf, layer_of, block_of, masks_of, block_masks, blocks_of, low_bytes, low_byte, block_place}
+use Rattle.subset_layers.specs.Layers.{LayerOf, BlockOf, layer_of, block_of, masks_of, block_masks, blocks_of, low_bytes, low_byte}
 use Rattle.subset_layers.proofs.BlockLists.{has_slice_get, low_bytes_has, blocks_length, block_at as block_there, slice_get_at}
-use Rattle.subset_layers.proofs.CostLists.{distinct_masks}
 
 -- the block at a place has the low byte there
 block_is : (l : LayerOf) (p : ℕ) (b : BlockOf) → slice_get (blocks_of l) p ≡ Some b →
@@ -36,19 +34,6 @@ pub in_place : (l : LayerOf) (p : ℕ) (b : BlockOf) (mask : ℕ) → slice_get 
     (low_byte mask ≡ b.low → place_in (low_bytes l) (low_byte mask) ≡ p)
     × (place_in (low_bytes l) (low_byte mask) ≡ p → low_byte mask ≡ b.low)
 in_place l p b mask is m = grind (arith, block_is, place_small, has_slice_get, low_bytes_has, place_get, distinct_lows, place_at)
-
--- a mask has one place
-pub only_place : (l : LayerOf) (p q mask : ℕ) → p < length (masks_of l) → get_or (masks_of l) p 0 ≡ mask → slice_get (masks_of l) q ≡ Some mask → p ≡ q
-only_place l p q mask lt e at =
-    sym (place_get (masks_of l) p (distinct_masks l) lt)
-    ∙ ap (place_in (masks_of l)) (e ∙ sym (get_or_from_slice_get (masks_of l) q mask 0 at))
-    ∙ place_get (masks_of l) q (distinct_masks l) (slice_get_within (masks_of l) q mask at)
-
--- the masks whose block stands at a place
-pub block_done : (l : LayerOf) (k : ℕ) (b : BlockOf) (p : ℕ) → slice_get (blocks_of l) k ≡ Some b → p < length (masks_of l) →
-    block_place l p ≡ k → has (block_masks b) (get_or (masks_of l) p 0) ≡ true
-unfolding block_place block_masks
-block_done l k b p is lt e = grind (arith, has_at, has_filter, and_from, block_layer, eq-eqb, in_place)
 
 -- a mask of a block is in its layer
 pub block_has : (blk : BlockOf) (i mask : ℕ) → slice_get (block_masks blk) i ≡ Some mask → has (masks_of (layer_of blk)) mask ≡ true

@@ -194,10 +194,6 @@ pub needed_ones : (t : InstanceOf) (mask : ℕ) → count_ones (needed t mask) �
 unfolding needed
 needed_ones t mask = wanted_ones t.problem.inputs (functions t.problem) t.pairs.pairs t.lower_bound t.bound mask
 
-pub needed_sum : (t : InstanceOf) (masks : List ℕ) → sum_by count_ones (map (needed t) masks) ≡ widths_for t masks
-unfolding widths_for
-needed_sum t masks = sum_map count_ones (needed t) (width_count t) masks (needed_ones t) ∙ sym (sum-map (width_count t) masks)
-
 -- the empty set takes none
 open_none : (n : ℕ) (F : List Function) (P : List Pair) (r : LowerBound) (bound : ℕ) → open_tops n F P r bound 0 ≡ []
 unfolding open_tops

@@ -5,7 +5,6 @@ pub mod Instances
 pub mod Results
 pub mod LayerCosts
 pub mod Needs
-pub mod Placed
 pub mod Events
 pub mod Marked
 pub mod Shown

@@ -7,9 +7,9 @@ use order_model::{Limit, LowerBounds, Mask, Pairs, Problem};
 use std::marker::Model;
 use subset_layers::Cell;
 
-/// A problem instance: the functions, the pairs that an order must keep, the upper bound on the
-/// size of an order, and the rule of the lower bound on the nodes above a set. A set is pruned if
-/// its least cost plus this lower bound exceeds the upper bound.
+/// The functions, the pairs that an order must keep, the upper bound on the size of an order, and
+/// the rule of the lower bound on the nodes above a set. A set is pruned if its least cost plus
+/// this lower bound exceeds the upper bound.
 #[derive(Drop)]
 pub struct Instance<'a> {
     problem: &'a Problem,
@@ -38,9 +38,7 @@ impl<'a> Instance<'a> {
     ghost use Rattle.layer_core.specs.Pairing.{pair_of};
     ghost use Rattle.layer_core.specs.Instances.{cell_for, instance_of};
 
-    /// The problem instance with the functions of `problem`, the pairs that an order must keep, and
-    /// `limit`: the upper bound and the rule of the lower bound. Requires that `pairs` are of the
-    /// variables of `problem`, and that the upper bound is below 2^32 - 1.
+    /// `limit` has the upper bound and the rule of the lower bound.
     pub fn new(problem: &'a Problem, pairs: &'a Pairs, limit: Limit) -> Instance<'a>
         requires pairs { pairs.now.inputs ≡ problem.now.inputs }
         requires room { limit.bound + 1 < 2 ^ 32 }
@@ -55,7 +53,6 @@ impl<'a> Instance<'a> {
         }
     }
 
-    /// The number of variables, 1 to 16.
     pub fn inputs(&self) -> u8
         ensures value { result ≡ self.now.problem.inputs }
         ensures some { 1 ≤ result }
@@ -64,14 +61,12 @@ impl<'a> Instance<'a> {
         self.problem.inputs()
     }
 
-    /// The functions.
     pub fn problem(&self) -> &Problem
         ensures { result.now ≡ self.now.problem }
     {
         self.problem
     }
 
-    /// The pairs that an order must keep.
     pub fn pairs(&self) -> &Pairs
         ensures value { result.now ≡ self.now.pairs }
         ensures inputs { result.now.inputs ≡ self.now.problem.inputs }
@@ -86,8 +81,7 @@ impl<'a> Instance<'a> {
         self.pairs.lawful(mask)
     }
 
-    /// The upper bound on the size of an order, and the rule of the lower bound on the nodes above
-    /// a set.
+    /// The upper bound, and the rule of the lower bound.
     pub fn limit(&self) -> Limit
         ensures value { result ≡ record
             { bound = self.now.bound; lower_bound = self.now.lower_bound } }
@@ -96,22 +90,19 @@ impl<'a> Instance<'a> {
         self.limit
     }
 
-    /// The lower bounds on the nodes above sets, by the rule of the instance.
     pub fn lower_bounds(&self) -> &LowerBounds<'a>
         ensures { result.now ≡ lower_bounds_with self.now.problem self.now.lower_bound }
     {
         &self.lower_bounds
     }
 
-    /// The set of the variables on which some function depends, as a mask.
     pub fn essential(&self) -> Mask
         ensures { result ≡ essential_mask self.now.problem.inputs (functions self.now.problem) }
     {
         self.lower_bounds.essential()
     }
 
-    /// The set `mask` with `cell`, as a worker posts them to a board. Requires that `cell` is the
-    /// cell of this set for the instance.
+    /// The set `mask` with `cell`, as a worker posts them to a board.
     pub fn result(&self, mask: Mask, cell: Cell) -> CellResult
         requires { pair_of cell ≡ cell_for self.now mask }
         ensures { result ≡ record { instance = self.now; mask = mask; cell = pair_of cell } }

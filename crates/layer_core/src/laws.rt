@@ -1,5 +1,4 @@
-//! Laws of the machine after every list of events, for any number of workers. Each law is the
-//! contract of a function that does nothing.
+//! Laws of the machine after every list of events, as contracts of functions that do nothing.
 
 ghost use Rattle.std.specs.Prelude.{◌≡◌, ℕ, ◌<◌, List, length, slice_index};
 ghost use Rattle.definitions.specs.Functions.{Function};
@@ -8,10 +7,9 @@ ghost use Rattle.definitions.specs.declared.limits.LowerBound.{LowerBound};
 ghost use Rattle.layer_core.specs.Machine.{Layout, Event, opening, run};
 ghost use Rattle.layer_core.specs.Rights.{IsLayout, RightFor, ArePosted, IsFilled, claimants, all_cells};
 
-/// Law: after events in which each posted cell is the one that the definition of cells gives for
-/// its set, the state machine of a layer is in a right state. This means: each filled cell is the
-/// one of this definition, each block before the next one to be claimed is claimed by exactly one
-/// worker, and the others by none.
+/// Law: after events in which each posted cell is the definition's, the machine is in a right
+/// state: each filled cell is the definition's, each block before the next one to be claimed is
+/// claimed by exactly one worker, and the others by none.
 pub fn events_keep_it_right()
     ensures { (n : ℕ) (F : List Function) (P : List Pair) (r : LowerBound) (bound : ℕ)
         (l : Layout) (workers : ℕ)
@@ -20,9 +18,8 @@ pub fn events_keep_it_right()
         RightFor n F P r bound (run (opening l workers) events) }
 {}
 
-/// Law: after events in which each posted cell is the one that the definition of cells gives for
-/// its set, each nonempty block of a layer before the next one to be claimed is claimed by exactly
-/// one worker.
+/// Law: after events in which each posted cell is the definition's, each nonempty block before the
+/// next one to be claimed is claimed by exactly one worker.
 pub fn each_claim_is_one_workers()
     ensures { (n : ℕ) (F : List Function) (P : List Pair) (r : LowerBound) (bound : ℕ)
         (l : Layout) (workers : ℕ)
@@ -32,9 +29,8 @@ pub fn each_claim_is_one_workers()
         claimants (slice_index l.block_of p) (run (opening l workers) events).workers ≡ 1 }
 {}
 
-/// Law: if each posted cell is the one that the definition of cells gives for its set, and the
-/// cells of all sets of the layer are filled, they are those that this definition gives for these
-/// sets.
+/// Law: if each posted cell is the definition's and all cells of the layer are filled, they are
+/// those that the definition gives.
 pub fn filled_cells_are_the_definitions()
     ensures { (n : ℕ) (F : List Function) (P : List Pair) (r : LowerBound) (bound : ℕ)
         (l : Layout) (workers : ℕ)

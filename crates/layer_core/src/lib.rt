@@ -1,12 +1,11 @@
-//! A layer, the sets of one size: the problem instance, the widths that its cells take and their
-//! places, and the state machine by which workers claim the layer's blocks in turn, and post and
-//! read the cells of its sets.
+//! A layer, the sets of one size: the problem instance, the widths that its cells take, and the
+//! state machine by which workers claim the layer's blocks in turn, and post and read the cells of
+//! its sets.
 #![tactic(auto)]
 
 // What a search is for, and the cells of a layer.
 mod instance;
 mod needs;
-mod places;
 mod results;
 
 // The machine.
@@ -17,6 +16,5 @@ mod machine;
 pub use events::{Event, Reply};
 pub use instance::Instance;
 pub use machine::Core;
-pub use needs::{asked_members, needs_of_block};
-pub use places::place_cells;
+pub use needs::{asked_members, needs_of_layer};
 pub use results::CellResult;

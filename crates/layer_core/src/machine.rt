@@ -19,22 +19,18 @@ use subset_layers::{Cell, Layer};
 pub(crate) struct WorkerMarks {
     /// For each block of the layer, by its place, whether the worker claimed it.
     pub(crate) claims: Vec<bool>,
-    /// For each mask of the layer, in the layer's order, whether the worker knows its cell to be
-    /// filled, because it filled or read it.
+    /// For each mask of the layer, in its order, whether the worker knows its cell to be filled.
     pub(crate) known: Vec<bool>,
     /// Whether a claim of the worker found no block left.
     pub(crate) ended: bool,
 }
 
-/// The machine of a layer: workers claim its blocks in turn, and post and read the cells of its
-/// masks. It is for callers who run a layer on one thread, or compare a board with its definition;
-/// `minorder` uses boards.
+/// For callers who run a layer on one thread, or compare a board with its definition; `minorder`
+/// uses boards.
 #[derive(Drop)]
 pub struct Core {
-    /// The layer.
     layer: Layer,
-    /// The place of the next block to be claimed. If the layer has no block at this place, none is
-    /// left.
+    /// The place of the next block to be claimed; if there is none, none is left.
     counter: usize,
     /// The cells of the layer's masks, in the layer's order; `None` for an empty cell.
     cells: Vec<Option<Cell>>,
@@ -55,8 +51,7 @@ impl Model for Core {
 }
 
 impl Core {
-    /// The state machine of `layer` for `workers` workers, before the first step: all cells of the
-    /// layer are empty, and no block is claimed.
+    /// The machine of `layer` before the first step.
     pub fn new(alloc: Global, layer: &Layer, workers: Workers) -> Result<Core, AllocError>
         ensures opening { IfOk result (λ c. c ≡ opening (layout_of layer.now) workers) }
         ensures layout { IfOk result (λ c. IsLayout c.layout) }
@@ -72,9 +67,7 @@ impl Core {
         })
     }
 
-    /// Carries out `event`, a step of a worker, and returns the machine's reply to the worker.
-    /// Requires the number of the worker to be at least 1 and at most the number of the machine's
-    /// workers.
+    /// Carries out `event`, a step of a worker, and returns the machine's reply.
     pub fn step(&mut self, event: Event) -> Reply
         requires { IsByWorker self.old event }
         ensures step { (reply_of result, self.new) ≡ step self.old (event_of event) }
@@ -89,9 +82,7 @@ impl Core {
         }
     }
 
-    /// Claims the next block for the worker with the index `worker`, counted from 0 and below the
-    /// number of workers, and replies `Claimed` with the block's place. If no block is left,
-    /// replies `NoMore`, now and to all later claims of this worker.
+    /// Claims the next block for the worker with the index `worker`, counted from 0.
     fn claim(&mut self, worker: usize) -> Reply
         requires { worker < length self.old.workers }
         ensures { (reply_of result, self.new) ≡ step self.old (Claim worker) }
@@ -110,10 +101,7 @@ impl Core {
         }
     }
 
-    /// Fills the cell of `mask` with `cell` for the worker with the index `worker`, counted from 0
-    /// and below the number of workers, who then knows it to be filled. Replies `Posted`. Else
-    /// changes nothing: replies `Stranger` if the layer doesn't have the mask or the worker didn't
-    /// claim the mask's block, and `Double` if the cell was filled before.
+    /// Fills the cell of `mask` for the worker with the index `worker`, counted from 0.
     fn post(&mut self, worker: usize, mask: Mask, cell: Cell) -> Reply
         requires { worker < length self.old.workers }
         ensures { (reply_of result, self.new) ≡ step self.old (Post worker mask (pair_of cell)) }
@@ -132,10 +120,7 @@ impl Core {
         Reply::Posted
     }
 
-    /// Reads the cell of `mask` for the worker with the index `worker`, counted from 0 and below
-    /// the number of workers. If it is filled, replies `Seen` with the cell, and the worker then
-    /// knows it to be filled. If it is empty, or the layer doesn't have the mask, changes nothing
-    /// and replies `Empty`.
+    /// Reads the cell of `mask` for the worker with the index `worker`, counted from 0.
     fn read(&mut self, worker: usize, mask: Mask) -> Reply
         requires { worker < length self.old.workers }
         ensures { (reply_of result, self.new) ≡ step self.old (Read worker mask) }
@@ -151,7 +136,6 @@ impl Core {
     }
 }
 
-/// A list of `count` empty cells.
 fn empty_cells(alloc: Global, count: usize) -> Result<Vec<Option<Cell>>, AllocError>
     ensures { IfOk result (λ cells. cells.items ≡ replicate count None) }
 {
@@ -162,8 +146,7 @@ fn empty_cells(alloc: Global, count: usize) -> Result<Vec<Option<Cell>>, AllocEr
     Ok(cells)
 }
 
-/// The marks of `workers` workers before the first step, at a layer of `blocks` blocks and `masks`
-/// masks: none has claimed a block, found no block left, or knows a cell to be filled.
+/// The marks of `workers` workers before the first step.
 fn blank_marks(
     alloc: Global,
     blocks: usize,

@@ -1,22 +1,19 @@
-//! The members of a set whose widths its cell takes: a search needs these widths to compute the
-//! cell.
+//! The members of a set whose widths its cell takes.
 
 ghost use Rattle.std.specs.Prelude.{◌≡◌, ◌+◌, ◌^◌, ◌<◌, ℕ, map, IfOk};
 ghost use Rattle.definitions.specs.Orders.{mask_of};
 ghost use Rattle.definitions.specs.Cells.{asked, candidates};
-ghost use Rattle.subset_layers.specs.Layers.{layer_of, layer_with, block_masks};
+ghost use Rattle.subset_layers.specs.Layers.{layer_with, masks_of};
 ghost use Rattle.layer_core.specs.LayerCosts.{AreCostsFor};
 ghost use Rattle.layer_core.specs.Needs.{IsInNextLayer, affordable, needed};
 
 use crate::instance::Instance;
 use order_model::{LowerBound, Mask, next_member};
 use std::alloc::{AllocError, Global};
-use subset_layers::{Block, Costs};
+use subset_layers::{Costs, Layer};
 
-/// The members of the lawful set `mask`, as a mask, whose widths its cell takes in a search with
-/// the lower bound `lower_bound`. `known` is the mask of the members x for which the set without x
-/// costs at most the search's bound. By variables the result is `known`; by widths it is `mask`, or
-/// 0 if `known` is 0.
+/// The members of the lawful set `mask` whose widths its cell takes. `known` has the members x for
+/// which the set without x costs at most the search's bound.
 pub fn asked_members(lower_bound: LowerBound, mask: Mask, known: Mask) -> Mask
     ensures { (n bound : ℕ) (costs : ℕ → ℕ) →
         known ≡ mask_of (candidates n bound mask costs) → mask < 2 ^ n →
@@ -29,7 +26,6 @@ pub fn asked_members(lower_bound: LowerBound, mask: Mask, known: Mask) -> Mask
 }
 
 /// The members x of the set `mask`, as a mask, for which the set without x costs at most `bound`.
-/// Requires that `costs` has the costs of all sets with one variable less than `mask`.
 fn affordable_members(mask: Mask, costs: &Costs, bound: u32) -> Mask
     requires { IsInNextLayer costs.now mask }
     ensures { result ≡ mask_of (affordable costs.now bound mask) }
@@ -46,9 +42,7 @@ fn affordable_members(mask: Mask, costs: &Costs, bound: u32) -> Mask
     found
 }
 
-/// The members of the set `mask` whose widths its cell takes, as a mask; 0 if the set is not
-/// lawful. Requires that `before` has the costs, for `instance`, of all sets with one variable less
-/// than `mask`.
+/// The members of the set `mask` whose widths its cell takes; none if the set is not lawful.
 fn needed_members(instance: &Instance<'_>, before: &Costs, mask: Mask) -> Mask
     requires next { IsInNextLayer before.now mask }
     requires inputs { before.now.inputs ≡ instance.now.problem.inputs }
@@ -64,23 +58,22 @@ fn needed_members(instance: &Instance<'_>, before: &Costs, mask: Mask) -> Mask
     }
 }
 
-/// For each set of the block, in the block's order, the mask of the members whose widths the set's
-/// cell takes; 0 if the set is not lawful. Requires that `before` has the costs, for `instance`, of
-/// all sets with one variable less than those of the block.
-pub fn needs_of_block(
+/// For each set of `layer`, by rising mask, the members whose widths its cell takes. `before` has
+/// the costs of the sets with one variable fewer.
+pub fn needs_of_layer(
     alloc: Global,
     instance: &Instance<'_>,
     before: &Costs,
-    block: &Block,
+    layer: &Layer,
 ) -> Result<Vec<Mask>, AllocError>
-    requires next { layer_of block.now ≡ layer_with before.now.inputs (before.now.size + 1) }
+    requires next { layer.now ≡ layer_with before.now.inputs (before.now.size + 1) }
     requires inputs { before.now.inputs ≡ instance.now.problem.inputs }
     requires costs { AreCostsFor instance.now before.now }
-    ensures { IfOk result (λ v. v.items ≡ map (needed instance.now) (block_masks block.now)) }
+    ensures { IfOk result (λ v. v.items ≡ map (needed instance.now) (masks_of layer.now)) }
 {
-    let mut needs = Vec::with_capacity(alloc, block.len())?;
-    for mask in block.masks() {
-        needs.push(needed_members(instance, before, *mask))?;
+    let mut needs = Vec::with_capacity(alloc, layer.len())?;
+    for place in 0..layer.len() {
+        needs.push(needed_members(instance, before, layer.mask_at(place)))?;
     }
     Ok(needs)
 }

@@ -7,8 +7,8 @@ use std::marker::Model;
 use std::snapshot::Snapshot;
 use subset_layers::Cell;
 
-/// A mask with its cell, which is always the one that the definition gives the mask for a problem,
-/// pairs and a limit. Only contracts see the problem, the pairs and the limit.
+/// A mask with its cell, which is always the one that the definition gives for the problem, the
+/// pairs and the limit. Only contracts see these.
 #[derive(Drop)]
 pub struct CellResult {
     mask: Mask,
@@ -34,9 +34,6 @@ impl CellResult {
     ghost use Rattle.layer_core.specs.Instances.{cell_for, instance_of};
     ghost use Rattle.layer_core.specs.Pairing.{pair_of};
 
-    /// The set `mask` with its cell. Requires `cell` to be the one that the definition of cells
-    /// gives for the set by the problem, the pairs and the limit, and the limit's bound to be below
-    /// 2^32 - 1.
     pub fn new(problem: &Problem, limit: Limit, mask: Mask, cell: Cell, pairs: &Pairs) -> CellResult
         requires bound { limit.bound < 2 ^ 32 - 1 }
         requires cell { pair_of cell ≡ cell_for (instance_of problem.now pairs.now limit) mask }
@@ -56,14 +53,12 @@ impl CellResult {
         }
     }
 
-    /// The mask that the cell belongs to.
     pub fn mask(&self) -> Mask
         ensures { result ≡ self.now.mask }
     {
         self.mask
     }
 
-    /// The cell of the mask.
     pub fn cell(&self) -> Cell
         ensures value { pair_of result ≡ self.now.cell }
         ensures variable { self.now.cell.1 < 32 }

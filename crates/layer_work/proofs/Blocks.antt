@@ -1,48 +1,51 @@
--- The sets of a block of a context's layer: their needs, widths and cells.
---     in_layer      a set of the block is in the layer after the costs'
---     are_members      the widths that are needed
+-- The sets of a context's layer: their needs, widths and cells.
+--     need_there, need_is      what is needed of a set stands at its place
+--     are_members      what is needed of a set are its members
+--     in_next      a set of the layer is in the layer after the costs'
 --     cell_is      the cell of a set
-use Rattle.std.proofs.Common.{◌≡◌, ℕ, ◌+◌, ◌≤◌, true, cond, List, [], map, get_or, slice_get, slice_index, Some, sym, ap, ◌∙◌, subst, arith, eq-eqb}
+use Rattle.std.proofs.Common.{◌≡◌, ℕ, ◌+◌, ◌<◌, ◌≤◌, true, cond, List, length, map, slice_get, slice_index, Some, sym, ap, ◌∙◌, subst, arith, eq-eqb}
 use Rattle.std.specs.Int.{bit_at}
 use Rattle.std.proofs.lemmas.List.{get_or-map}
 use Rattle.std.proofs.lemmas.Option.{slice_get_within, get_or_from_slice_get}
 use Rattle.definitions.specs.Functions.{Function}
 use Rattle.definitions.specs.Orders.{has, members, without}
 use Rattle.definitions.specs.Pairs.{is_lawful}
-use Rattle.definitions.specs.Problems.{TruthTables, functions}
+use Rattle.definitions.specs.Problems.{functions}
 use Rattle.definitions.specs.Widths.{width}
 use Rattle.definitions.specs.KeptPairs.{KeptPairs}
 use Rattle.definitions.specs.LowerBounds.{LowerBoundsOf, lower_bounds_with}
 use Rattle.definitions.specs.declared.limits.Limit.{Limit}
 use Rattle.definitions.specs.Cells.{asked, wanted, cell_of}
 use Rattle.definitions.proofs.Bits.Masks.{members_small}
-use Rattle.subset_layers.specs.Layers.{LayerOf, BlockOf, layer_of, layer_with, masks_of, block_masks}
+use Rattle.subset_layers.specs.Layers.{LayerOf, layer_with, masks_of}
 use Rattle.subset_layers.specs.Costs.{CostsOf, cost_without, AreTrueCosts, AreWidthsFor, IsCellOnce}
 use Rattle.layer_core.specs.Instances.{InstanceOf, cell_for}
-use Rattle.compaction.specs.Rows.{width_wanted, IsWidthRow, AreMembers, AreWidthRows}
+use Rattle.compaction.specs.Requests.{AreMembersOf}
+use Rattle.compaction.specs.Rows.{width_wanted, IsWidthRow}
+use Rattle.layer_core.proofs.Layouts.{length-map_lem}
 use Rattle.layer_core.specs.Needs.{needed}
 use Rattle.layer_core.proofs.WantedMembers.{wanted_member, wanted_bit, bit_wanted}
-use Rattle.layer_core.proofs.BlockPlaces.{block_has}
 use Rattle.layer_work.specs.LayerContexts.{ContextOf, IsContext}
 use Rattle.layer_core.proofs.NeedsByCosts.{wanted_by_costs}
 
--- the row of a set
-pub row_there : (p : TruthTables) (masks needs : List ℕ) (rows : List (List ℕ)) (i mask need : ℕ) (row : List ℕ) →
-    AreWidthRows p masks needs rows → slice_get masks i ≡ Some mask → slice_index needs i ≡ need → slice_get rows i ≡ Some row →
-    IsWidthRow p mask need row
-row_there p masks needs rows i mask need row are at is there =
-    subst (λ (r : List ℕ). IsWidthRow p mask need r) (get_or_from_slice_get rows i row [] there)
-    (subst (λ (k : ℕ). IsWidthRow p mask k (get_or rows i [])) is
-    (subst (λ (m : ℕ). IsWidthRow p m (slice_index needs i) (get_or rows i [])) (get_or_from_slice_get masks i mask 0 at)
-    (are.are i (slice_get_within masks i mask at))))
+module _ (t : InstanceOf) (l : LayerOf) (needs : List ℕ) (are : needs ≡ map (needed t) (masks_of l)) (i mask : ℕ)
+    (at : slice_get (masks_of l) i ≡ Some mask) where
+  within : i < length (masks_of l)
+  within = slice_get_within (masks_of l) i mask at
 
--- the masks that are needed are of members
-pub are_members : (t : InstanceOf) (blk : BlockOf) → AreMembers t.problem (block_masks blk) (map (needed t) (block_masks blk))
+  pub need_there : i < length needs
+  need_there = let e = ap length are ∙ length-map_lem (needed t) (masks_of l) in let lt = within in omega (arith, e, lt)
+
+  pub need_is : slice_index needs i ≡ needed t mask
+  need_is = ap (λ (xs : List ℕ). slice_index xs i) are ∙ get_or-map (needed t) (masks_of l) i 0 0 within
+      ∙ ap (needed t) (get_or_from_slice_get (masks_of l) i mask 0 at)
+
+-- what is needed of a set are its members
+pub are_members : (t : InstanceOf) (mask : ℕ) → AreMembersOf t.problem.inputs mask (needed t mask)
 unfolding needed
-are_members t blk i lt x e =
-    wanted_member t.problem.inputs (functions t.problem) t.pairs.pairs t.lower_bound t.bound (get_or (block_masks blk) i 0) x
-    (bit_wanted t.problem.inputs (functions t.problem) t.pairs.pairs t.lower_bound t.bound (get_or (block_masks blk) i 0) x
-    (ap (λ m. bit_at m x) (sym (get_or-map (needed t) (block_masks blk) i 0 0 lt)) ∙ e))
+are_members t mask x e =
+    wanted_member t.problem.inputs (functions t.problem) t.pairs.pairs t.lower_bound t.bound mask x
+    (bit_wanted t.problem.inputs (functions t.problem) t.pairs.pairs t.lower_bound t.bound mask x e)
 
 module _ (b : ContextOf) (h : IsContext b) where
   abbrev t : InstanceOf
@@ -60,9 +63,8 @@ module _ (b : ContextOf) (h : IsContext b) where
   own_costs : AreTrueCosts c.inputs F t.pairs.pairs t.lower_bound t.bound c
   own_costs = subst (λ (k : ℕ). AreTrueCosts k F t.pairs.pairs t.lower_bound t.bound c) (sym h.inputs) h.costs
 
-  pub in_layer : (blk : BlockOf) → layer_of blk ≡ b.layer → (i mask : ℕ) → slice_get (block_masks blk) i ≡ Some mask →
-      has (masks_of (layer_with c.inputs (c.size + 1))) mask ≡ true
-  in_layer blk e i mask is = subst (λ (l : LayerOf). has (masks_of l) mask ≡ true) (e ∙ own_layer) (block_has blk i mask is)
+  pub in_next : (mask : ℕ) → has (masks_of b.layer) mask ≡ true → has (masks_of (layer_with c.inputs (c.size + 1))) mask ≡ true
+  in_next mask m = subst (λ (l : LayerOf). has (masks_of l) mask ≡ true) own_layer m
 
   -- the widths of a set, as its cell takes them
   module _ (few : t.problem.inputs ≤ 16) (mask : ℕ) (next : has (masks_of (layer_with c.inputs (c.size + 1))) mask ≡ true) (row : List ℕ)

@@ -1,7 +1,9 @@
 -- A worker's rounds: a claim, and the posts of its block.
 --     Working t s0 s count      what a worker keeps from s0 to s
 --     working_none, working_stays, working_round      at the start, where claims stay, after a round
-use Rattle.std.proofs.Common.{◌≡◌, ℕ, ◌<◌, slice_get, arith, ◌+◌, Bool, true, false, not, ◌&&◌, List, Some, inl, inr, refl, sym, ap, ◌∙◌, subst, nat_eq}
+--     widths_none, round_room, count_more      the widths of a block's first sets
+use Rattle.std.proofs.Common.{◌≡◌, ℕ, zero, suc, ◌+◌, ◌*◌, ◌^◌, ◌<◌, ◌≤◌, length, take, get_or, slice_get, arith, Bool, true, false, not, ◌&&◌, List, [], ◌∷◌, Some, inl, inr, refl, sym, ap, ◌∙◌, subst, nat_eq}
+use Rattle.std.proofs.lemmas.List.Sums.{sum_by-cons, sum-map}
 use Rattle.std.specs.List.{filter}
 use Rattle.std.proofs.lemmas.Bool.{false≢true, cases_Bool, and_parts, and_from}
 use Rattle.definitions.specs.Orders.{has}
@@ -10,7 +12,7 @@ use Rattle.subset_layers.specs.Layers.{LayerOf, BlockOf, masks_of, blocks_of, bl
 use Rattle.layer_core.specs.Machine.{claimed, claims_block}
 use Rattle.layer_core.specs.Instances.{InstanceOf}
 use Rattle.layer_board.specs.Views.{BoardId, SeatOf, stepped, has_claimed, knows_filled}
-use Rattle.layer_core.specs.Needs.{widths_for}
+use Rattle.layer_core.specs.Needs.{width_count, widths_for}
 use Rattle.layer_core.proofs.Filters.{filter_none}
 use Rattle.layer_work.specs.Gains.{gains, gained, StaysClaimed, IsPosted}
 use Rattle.layer_work.proofs.Posts.{claimed_same}
@@ -91,3 +93,47 @@ pub round_closes : (s s1 s2 : SeatOf) (p : ℕ) (b : BlockOf) → ClaimsBlock s 
 round_closes s s1 s2 p b h stays =
     subst (λ (xs : List Bool). open_marks xs < open_marks s.worker.claims) (sym (stays.claims ∙ ap (λ (z : SeatOf). z.worker.claims) h.is))
     (fewer_open s.worker.claims p (ap (λ (z : SeatOf). claimed z.worker p) (sym h.is) ∙ h.there) (was_open s s1 p b h))
+
+-- ---- the widths of a block's first sets
+
+pub widths_none : (t : InstanceOf) → widths_for t [] ≡ 0
+unfolding widths_for
+widths_none t = sum-map (width_count t) []
+
+widths_cons : (t : InstanceOf) (m : ℕ) (ms : List ℕ) → widths_for t (m ∷ ms) ≡ width_count t m + widths_for t ms
+unfolding widths_for
+widths_cons t m ms = sum-map (width_count t) (m ∷ ms) ∙ sum_by-cons (width_count t) m ms
+    ∙ ap (λ (k : ℕ). width_count t m + k) (sym (sum-map (width_count t) ms))
+
+widths_more : (t : InstanceOf) (masks : List ℕ) (i : ℕ) → i < length masks →
+    widths_for t (take (suc i) masks) ≡ widths_for t (take i masks) + width_count t (get_or masks i 0)
+widths_more t [] i lt = absurd (omega (arith, lt))
+widths_more t (m ∷ ms) zero lt = let e = widths_cons t m [] in let z = widths_none t in omega (arith, e, z)
+widths_more t (m ∷ ms) (suc i) lt =
+    let e = widths_cons t m (take (suc i) ms) in
+    let f = widths_cons t m (take i ms) in
+    let r = widths_more t ms i (omega (arith, lt)) in
+    omega (arith, e, f, r)
+
+widths_part : (t : InstanceOf) (i : ℕ) (masks : List ℕ) → widths_for t (take i masks) ≤ widths_for t masks
+widths_part t zero masks = let z = widths_none t in omega (arith, z)
+widths_part t (suc i) [] = omega arith
+widths_part t (suc i) (m ∷ ms) =
+    let e = widths_cons t m (take i ms) in
+    let f = widths_cons t m ms in
+    let r = widths_part t i ms in
+    omega (arith, e, f, r)
+
+pub round_room : (t : InstanceOf) (masks : List ℕ) (i before tally : ℕ) → i < length masks → tally ≡ before + widths_for t (take i masks) →
+    before + widths_for t masks ≤ 16 * 2 ^ 16 → tally + width_count t (get_or masks i 0) ≤ 2 ^ 32
+round_room t masks i before tally lt e few =
+    let m = widths_more t masks i lt in
+    let p = widths_part t (suc i) masks in
+    omega (arith, m, p, e, few)
+
+pub count_more : (t : InstanceOf) (masks : List ℕ) (i before tally more : ℕ) → i < length masks → tally ≡ before + widths_for t (take i masks) →
+    more ≡ tally + width_count t (get_or masks i 0) → more ≡ before + widths_for t (take (i + 1) masks)
+count_more t masks i before tally more lt e is =
+    let m = widths_more t masks i lt in
+    let s = ap (λ (k : ℕ). widths_for t (take k masks)) (let k : suc i ≡ i + 1 = omega arith in k) in
+    omega (arith, m, s, e, is)

@@ -1,12 +1,19 @@
 -- The layers that are done.
+--     layers_done      those before the last one
 --     layers_push      one layer more
-use Rattle.std.proofs.Common.{◌≡◌, ℕ, inl, inr, List, [], ◌∷◌, ◌++◌, length, length-append, Some, sym, ap, ◌∙◌, subst, arith}
+use Rattle.std.proofs.Common.{◌≡◌, ℕ, ◌+◌, ◌<◌, inl, inr, List, [], ◌∷◌, ◌++◌, length, length-append, Some, sym, ap, ◌∙◌, subst, arith}
 use Rattle.std.proofs.lemmas.Bool.{cases_lt}
 use Rattle.std.proofs.lemmas.List.{get_or_append_left, get_or_push}
 use Rattle.std.proofs.lemmas.Option.{slice_get_within, slice_get-get_or, get_or_from_slice_get}
 use Rattle.subset_layers.specs.Costs.{CostsOf}
 use Rattle.layer_core.specs.Instances.{InstanceOf}
-use Rattle.layer_core.specs.LayerCosts.{IsLayerFor, AreLayersFor}
+use Rattle.layer_core.specs.LayerCosts.{AreDone, IsLayerFor, AreLayersFor}
+
+pub layers_done : (t : InstanceOf) (done layers : List CostsOf) (size n : ℕ) → done ≡ layers → length layers ≡ size + 1 → size < n →
+    n ≡ t.problem.inputs → AreLayersFor t layers → AreDone t done
+layers_done t done layers size n e many lt same h =
+    subst (λ (xs : List CostsOf). AreDone t xs) (sym e)
+    (record { some = omega (arith, many); few = omega (arith, many, lt, same); layers_are = h })
 
 pub layers_push : (t : InstanceOf) (layers : List CostsOf) (c : CostsOf) → AreLayersFor t layers → IsLayerFor t (length layers) c →
     AreLayersFor t (layers ++ c ∷ [])

@@ -1,2 +1,1 @@
-pub mod LayerSteps
 pub mod SearchStarts

@@ -14,16 +14,14 @@ use std::thread;
 use std::thread::Threads;
 use subset_layers::Cell;
 
-/// What a worker's thread is given: the worker's number, counted from 1, and its seat, which is its
-/// view of the board.
+/// What a worker's thread is given: the worker's number, counted from 1, and its seat.
 #[derive(Drop)]
 struct Job {
     worker: u8,
     seat: BoardSeat,
 }
 
-/// One job for each of `seats`, at most 64 seats at `board`: that at index i with the worker's
-/// number i + 1.
+/// A job for each of `seats`: that at index i with the worker's number i + 1.
 fn number_seats(alloc: Global, board: &Board, seats: Vec<BoardSeat>) -> Result<Vec<Job>, AllocError>
     requires few { vec_len seats ≤ 64 }
     requires seats { All (λ s. s.board ≡ board.now) seats.items }
@@ -39,8 +37,7 @@ fn number_seats(alloc: Global, board: &Board, seats: Vec<BoardSeat>) -> Result<V
     Ok(jobs)
 }
 
-/// Returns one of the seats in `ended`, which has what each worker at `board` returned, at least
-/// one. Err if memory was refused to some worker. Drops the other seats and all tallies.
+/// One of the seats in `ended`. Err if memory was refused to some worker.
 fn gather(
     board: &Board,
     ended: Vec<Result<WorkerResult, AllocError>>,
@@ -57,43 +54,8 @@ fn gather(
     Ok(seat)
 }
 
-/// Starts a thread for each of `seats`, 1 to 64 seats at `board`, which is for the layer of
-/// `context`. The threads claim the board's blocks until none is left, and post the cells of their
-/// sets. Returns one of the seats.
-fn post_by_workers<R: Threads + Sync, G: Gate>(
-    crew: &Crew<'_, R, G>,
-    alloc: Global,
-    board: &Board,
-    seats: Vec<BoardSeat>,
-    context: &LayerContext<'_>,
-) -> Result<BoardSeat, AllocError>
-    requires some { 1 ≤ vec_len seats }
-    requires few { vec_len seats ≤ 64 }
-    requires seats { All (λ s. s.board ≡ board.now) seats.items }
-    requires instance { board.now.brief.instance ≡ context.now.instance }
-    requires layer { board.now.brief.layer ≡ context.now.layer }
-    ensures { IfOk result (λ s. s.board ≡ board.entry.now) }
-{
-    let gate = crew.gate;
-    let jobs = number_seats(alloc, board, seats)?;
-    let ended = thread::map_vec(
-        crew.rt,
-        jobs,
-        &|job: Job| -> Result<WorkerResult, AllocError>
-            requires { IsSync G.row × (job.seat.board ≡ board.now)
-                × (board.now.brief.instance ≡ context.now.instance)
-                × (board.now.brief.layer ≡ context.now.layer) }
-            ensures { IfOk result (λ e. e.seat.board ≡ board.entry.now) }
-        {
-            let Job { worker, seat } = job;
-            work_layer(alloc, board, seat, worker, context, gate)
-        },
-    )?;
-    gather(board, ended)
-}
-
-/// Computes the cells of the sets of the layer of `context`, in the layer's order, by the workers
-/// of `crew`. If a cell is missing although memory was refused to no worker, the calling thread
+/// Computes the cells of the sets of the layer of `context`, by rising mask, by the workers of
+/// `crew`. If a cell is missing although memory was refused to no worker, the calling thread
 /// computes the whole layer anew.
 pub(crate) fn cells_of_layer<R: Threads + Sync, G: Gate>(
     crew: &Crew<'_, R, G>,
@@ -112,7 +74,23 @@ pub(crate) fn cells_of_layer<R: Threads + Sync, G: Gate>(
         busy_workers(instance, context.layer(), crew.workers),
         instance.pairs(),
     )?;
-    let seat = post_by_workers(crew, alloc, &board, seats, context)?;
+    let jobs = number_seats(alloc, &board, seats)?;
+    let gate = crew.gate;
+    let shared = &board;
+    let ended = thread::map_vec(
+        crew.rt,
+        jobs,
+        &|job: Job| -> Result<WorkerResult, AllocError>
+            requires { IsSync G.row × (job.seat.board ≡ shared.now)
+                × (shared.now.brief.instance ≡ context.now.instance)
+                × (shared.now.brief.layer ≡ context.now.layer) }
+            ensures { IfOk result (λ e. e.seat.board ≡ shared.entry.now) }
+        {
+            let Job { worker, seat } = job;
+            work_layer(alloc, shared, seat, worker, context, gate)
+        },
+    )?;
+    let seat = gather(&board, ended)?;
     match board.close(alloc, seat) {
         Ok(cells) => Ok(cells),
         Err((_, CloseError::Missing(_))) => cells_alone(alloc, context),

@@ -7,14 +7,12 @@ use layer_core::Instance;
 use order_model::{Limit, LowerBound, Pairs, Problem, Workers};
 use subset_layers::{Costs, Layer};
 
-/// The estimates take it that most diagrams have about one node for this many entries of their
-/// truth tables.
+/// Most diagrams have about one node for this many entries of their truth tables.
 const ENTRIES_A_NODE: u64 = 16;
 
-/// An estimate, before costs are known, of the size up to which a search needs the widths of nearly
-/// all sets. It is the number of inputs if `limit.bound` is at least one node for each
-/// `ENTRIES_A_NODE` entries of the truth tables. Else it is 6 for the lower bound by variables, and
-/// 5 for that by widths.
+/// The size up to which a search needs the widths of nearly all sets, before costs are known: all
+/// sizes if `limit.bound` is at least one node for each `ENTRIES_A_NODE` entries of the truth
+/// tables.
 fn first_layers(problem: &Problem, limit: Limit) -> u8 {
     let entries = u64::from(problem.outputs()) << problem.inputs();
     if u64::from(limit.bound) >= entries / ENTRIES_A_NODE {
@@ -26,10 +24,8 @@ fn first_layers(problem: &Problem, limit: Limit) -> u8 {
     }
 }
 
-/// An estimate, before the bound of a search is known, of the size up to which it needs the widths
-/// of nearly all sets. It is 0 if `asked`, the pairs that the caller requires, is empty and `kept`,
-/// those that the search keeps, is not, because few sets are left then. `limit.bound` is the size
-/// of some diagram of the functions.
+/// The size up to which rows are found before the bound is known: 0 if the search keeps pairs that
+/// the caller did not ask for, because few sets are left then.
 pub(crate) fn layers_to_prepare(
     problem: &Problem,
     asked: &Pairs,
@@ -42,12 +38,10 @@ pub(crate) fn layers_to_prepare(
     first_layers(problem, limit)
 }
 
-/// `mean_cost` looks only at the masks that are multiples of this number.
 const STEP: u32 = 7;
 
-/// An estimate of the mean cost of the sets of `size` variables: the mean over those whose masks m
-/// are multiples of `STEP`, with m + `STEP` below 2^n for n variables. Returns `u32::MAX` if none
-/// has such a mask. `costs` has the costs of all sets of `size` variables.
+/// The mean cost of the sets of `size` variables, of those alone whose masks are multiples of
+/// `STEP`; `u32::MAX` if there is none.
 fn mean_cost(costs: &Costs, size: usize) -> u64 {
     let mut sum = 0u64;
     let mut sets = 0u64;
@@ -67,10 +61,8 @@ fn mean_cost(costs: &Costs, size: usize) -> u64 {
     }
 }
 
-/// An estimate of the lower bound on the nodes above a set, by the rule of `instance`. By variables
-/// it is `outside`, the number of variables that are not in the set. By widths it is the number by
-/// which `width` exceeds the number of functions, if that is more. `width` is an estimate of the
-/// width of a member over the other members.
+/// The lower bound on the nodes above a set, by the rule of `instance`. `outside` variables are not
+/// in the set, and `width` is about a member's width over the other members.
 fn likely_above(instance: &Instance<'_>, outside: usize, width: u64) -> u64 {
     let asked = match instance.limit().lower_bound {
         LowerBound::Variables => 0,
@@ -79,10 +71,8 @@ fn likely_above(instance: &Instance<'_>, outside: usize, width: u64) -> u64 {
     asked.max(outside as u64)
 }
 
-/// An estimate of the size of the largest sets of which the search needs widths. `done[k]` has the
-/// costs of the sets of k variables, for at least k = 0 and 1. Assumes that from layer to layer the
-/// mean cost rises by what it rose from the last but one to the last layer in `done`, or by the
-/// number of entries of a class table of the higher layer, if this is less.
+/// The size of the largest sets of which the search needs widths, if the mean cost goes on to rise
+/// by what it rose in the last layer, but by no more than a class table has entries.
 fn end_by_costs(instance: &Instance<'_>, done: &[Costs]) -> usize
     requires { 2 ≤ length done.now }
 {
@@ -105,9 +95,8 @@ fn end_by_costs(instance: &Instance<'_>, done: &[Costs]) -> usize
     end
 }
 
-/// An estimate of the size of the largest sets of which the search needs widths, by the costs in
-/// `done`: `done[k]` has those of the sets of k variables, for at least k = 0. If it has only
-/// these, the estimate is by the bound and the size of the truth tables.
+/// The size of the largest sets of which the search needs widths. `done[k]` has the costs of the
+/// sets of k variables.
 pub(crate) fn likely_end(instance: &Instance<'_>, done: &[Costs]) -> u8
     requires { 1 ≤ length done.now }
 {
@@ -118,11 +107,10 @@ pub(crate) fn likely_end(instance: &Instance<'_>, done: &[Costs]) -> u8
     }
 }
 
-/// This many entries of truth tables are worth one more worker (see `busy_workers`).
+/// This many entries of truth tables are worth one more worker.
 const ENTRIES_A_WORKER: usize = 1 << 18;
 
-/// The number of lawful sets of the layer, or `most` if there are more. A set is lawful if for each
-/// pair (a, b) of `pairs` it has b or lacks a.
+/// The number of lawful sets of the layer, or `most` if there are more.
 fn count_lawful(pairs: &Pairs, layer: &Layer, most: usize) -> usize
     ensures { result ≤ most }
 {
@@ -135,9 +123,9 @@ fn count_lawful(pairs: &Pairs, layer: &Layer, most: usize) -> usize
     count
 }
 
-/// An estimate of how many workers the layer keeps busy: 1 + s * e / `ENTRIES_A_WORKER`, rounded
-/// down, but at most `workers`. Here e is the number of entries in all truth tables, and s is the
-/// least of 256, the number of the layer's blocks and the number of its lawful sets.
+/// How many workers the layer keeps busy: 1 + s * e / `ENTRIES_A_WORKER`, but at most `workers`,
+/// with e entries in all truth tables, and s the least of 256 and the numbers of its blocks and of
+/// its lawful sets.
 pub(crate) fn busy_workers(instance: &Instance<'_>, layer: &Layer, workers: Workers) -> Workers
     ensures { result ≤ workers }
 {

@@ -6,13 +6,14 @@
 mod alone;
 mod crews;
 mod guesses;
+mod layer_needs;
 mod layers;
 mod look_ahead;
 mod preparation;
 mod solver;
 
 pub use compaction::{Preparation, renaming_of};
-pub use layer_core::Instance;
+pub use layer_core::{Instance, needs_of_layer};
 pub use layer_work::{LayerContext, WorkerResult, work_layer};
 pub use preparation::{SearchStart, prepare};
 pub use solutions::Solution;

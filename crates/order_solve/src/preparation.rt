@@ -32,9 +32,8 @@ impl<'a> Model for SearchStart<'a> {
     ghost invariant = { λ s. s.kept.inputs ≡ s.prepared.problem.inputs };
 }
 
-/// The pairs that a search with the lower bound `lower_bound` keeps if the caller requires those in
-/// `asked`: these, or if there are none and the lower bound is by widths, pairs of variables in
-/// which all functions are symmetric. Requires `asked` to be of the problem's variables.
+/// The pairs that a search keeps if the caller asks for `asked`: these, or if there are none and
+/// the lower bound is by widths, pairs of variables in which all functions are symmetric.
 #[tactic(auto, using(crate::proofs::Harmless::harmless_kept))]
 fn kept_pairs(
     alloc: Global,
@@ -53,11 +52,9 @@ fn kept_pairs(
     }
 }
 
-/// Prepares a search, by `workers` workers, of the problem of `renaming` among the orders that keep
-/// `pairs`, which are of the problem before the renaming. Computes rows of widths for the sets up
-/// to a size that is estimated from `limit.bound`, the size of some diagram of the functions.
-/// Computes none if there is one worker, or if `pairs` is empty and the search keeps pairs of
-/// symmetric variables, because few sets are left then.
+/// Prepares a search among the orders that keep `pairs`, of the problem before the renaming.
+/// Several workers also find rows of widths, as far as a search with `limit.bound`, the size of
+/// some diagram of the functions, is likely to need them.
 pub fn prepare<'a, R: Threads + Sync>(
     rt: &R,
     alloc: Global,

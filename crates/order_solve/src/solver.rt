@@ -22,9 +22,7 @@ use std::thread::Threads;
 use symmetries::pairs_to_keep;
 
 /// The problem instance of a search among the orders that keep `pairs`, with the size of the sifted
-/// order as its bound. `sifted` and `pairs` have to be for `problem`. Requires that each order that
-/// keeps `pairs` keeps the pairs of `sifted`, and that for each order that keeps those there is one
-/// that keeps `pairs`, has as many nodes and isn't lexicographically later.
+/// order as its bound.
 fn instance_of<'a>(
     problem: &'a Problem,
     sifted: &'a Sifted,
@@ -50,12 +48,9 @@ fn instance_of<'a>(
     Instance::new(problem, pairs, limit)
 }
 
-/// Finds the first order of the fewest nodes among those that keep the pairs of `sifted`. The size
-/// of the sifted order bounds the search, which uses the lower bound by widths. A worker calls
-/// `gate`, where a test can hold it, before it posts the cell of a set. Requires that `start` was
-/// prepared for the problem and the pairs of `sifted`.
-///
-/// The only error is that memory is refused. The search then ends and computes nothing anew.
+/// The first order of the fewest nodes among those that keep the pairs of `sifted`, whose size
+/// bounds the search. It uses the lower bound by widths. A worker calls `gate` before it posts the
+/// cell of a set. The only error is that memory is refused; nothing is then computed anew.
 pub fn find_optimum<R: Threads + Sync, G: Gate>(
     rt: &R,
     alloc: Global,
@@ -70,13 +65,11 @@ pub fn find_optimum<R: Threads + Sync, G: Gate>(
     let SearchStart { prepared, kept } = start;
     let instance = instance_of(prepared.problem(), &sifted, &kept, LowerBound::Widths);
     let layers = layers_of(&Crew::new(rt, workers, gate), alloc, &instance, prepared)?;
-    let cells = AllCells::of_layers(&instance, layers);
+    let cells = AllCells::of_layers(alloc, &instance, &layers)?;
     optimum_of(alloc, &cells)
 }
 
-/// Finds the first order of the fewest nodes among those that keep the pairs of `sifted`, on the
-/// calling thread alone. The size of the sifted order bounds the search, which uses the lower bound
-/// by widths. Requires that `sifted` is an order for `problem`.
+/// `find_optimum` on the calling thread.
 pub fn find_optimum_alone(
     alloc: Global,
     problem: &Problem,
@@ -88,14 +81,13 @@ pub fn find_optimum_alone(
     let pairs = pairs_to_keep(alloc, problem, sifted.pairs())?;
     let instance = instance_of(problem, &sifted, &pairs, LowerBound::Widths);
     let layers = layers_alone(alloc, &instance)?;
-    let cells = AllCells::of_layers(&instance, layers);
+    let cells = AllCells::of_layers(alloc, &instance, &layers)?;
     optimum_of(alloc, &cells)
 }
 
-/// Finds the first order of the fewest nodes among those that keep the pairs of `sifted`, and the
-/// sets and costs that its certificate lists. The size of the sifted order bounds the search, which
-/// uses the lower bound by variables. A worker calls `gate`, where a test can hold it, before it
-/// posts the cell of a set. Requires that `start` was prepared for the problem of `sifted`.
+/// The first order of the fewest nodes among those that keep the pairs of `sifted`, whose size
+/// bounds the search, and the sets and costs that its certificate lists. It uses the lower bound by
+/// variables.
 #[tactic(auto, using(crate::proofs::Harmless::harmless_kept))]
 pub fn solve<R: Threads + Sync, G: Gate>(
     rt: &R,
@@ -112,14 +104,11 @@ pub fn solve<R: Threads + Sync, G: Gate>(
     let problem = prepared.problem();
     let instance = instance_of(problem, &sifted, sifted.pairs(), LowerBound::Variables);
     let layers = layers_of(&Crew::new(rt, workers, gate), alloc, &instance, prepared)?;
-    let cells = AllCells::of_layers(&instance, layers);
+    let cells = AllCells::of_layers(alloc, &instance, &layers)?;
     solution_of(alloc, &cells)
 }
 
-/// Finds the first order of the fewest nodes among those that keep the pairs of `sifted`, and the
-/// sets and costs that its certificate lists, on the calling thread alone. The size of the sifted
-/// order bounds the search, which uses the lower bound by variables. Requires that `sifted` is an
-/// order for `problem`.
+/// `solve` on the calling thread.
 #[tactic(auto, using(crate::proofs::Harmless::harmless_kept))]
 pub fn solve_alone(alloc: Global, problem: &Problem, sifted: Sifted) -> Result<Solution, AllocError>
     requires { sifted.problem ≡ problem.now }
@@ -127,13 +116,11 @@ pub fn solve_alone(alloc: Global, problem: &Problem, sifted: Sifted) -> Result<S
 {
     let instance = instance_of(problem, &sifted, sifted.pairs(), LowerBound::Variables);
     let layers = layers_alone(alloc, &instance)?;
-    let cells = AllCells::of_layers(&instance, layers);
+    let cells = AllCells::of_layers(alloc, &instance, &layers)?;
     solution_of(alloc, &cells)
 }
 
-/// The number of widths that the cells of all sets take in a search among the orders that keep the
-/// pairs of `sifted`, with its size as the bound and the lower bound by variables. Requires that
-/// `sifted` is an order for `problem`.
+/// The number of widths that the cells of all sets take in a search as that of `solve`.
 #[tactic(auto, using(crate::proofs::Harmless::harmless_kept))]
 pub fn count_widths(alloc: Global, problem: &Problem, sifted: Sifted) -> Result<u64, AllocError>
     requires { sifted.problem ≡ problem.now }
@@ -143,6 +130,6 @@ pub fn count_widths(alloc: Global, problem: &Problem, sifted: Sifted) -> Result<
 {
     let instance = instance_of(problem, &sifted, sifted.pairs(), LowerBound::Variables);
     let layers = layers_alone(alloc, &instance)?;
-    let cells = AllCells::of_layers(&instance, layers);
+    let cells = AllCells::of_layers(alloc, &instance, &layers)?;
     Ok(solutions::count_widths(&cells))
 }

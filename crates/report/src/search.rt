@@ -9,11 +9,11 @@ ghost use Rattle.report.specs.Found.{IsStartingManager, IsFound, IsSiftingFor, I
 ghost use Rattle.report.specs.StartingDiagrams.{IsStartingDiagram};
 ghost use Rattle.report_texts.specs.Texts.{file_order_levels};
 
-use crate::best::{Best, best_order, small_best};
+use crate::best::{Best, small_best};
 use crate::diagrams::{file_order_levels_of, starting_diagram};
 use crate::search_input::SearchInput;
-use order_model::{Diagram, Limit, LowerBound, Order, Workers, total};
-use order_solve::{Renaming, SearchStart, prepare, renaming_of};
+use order_model::{Diagram, Limit, LowerBound, NoGate, Order, Workers, total};
+use order_solve::{Renaming, SearchStart, find_optimum, prepare, renaming_of, solve};
 use sifting::laws::diagrams_have_their_functions_tables;
 use sifting::{Manager, Sifted};
 use small_search::is_small;
@@ -32,9 +32,7 @@ pub(crate) struct Sifting {
     pub(crate) bound: Sifted,
 }
 
-/// Sifts the diagram of `manager` with the threads of `workers` workers. Returns the order after
-/// one pass, the number of nodes under it, and the order after further sifting, whose size bounds
-/// the search.
+/// Sifts the diagram of `manager`, and sifts on for the bound of the search.
 fn sift<R: Threads + Sync>(
     rt: &R,
     alloc: Global,
@@ -55,8 +53,7 @@ fn sift<R: Threads + Sync>(
 }
 
 /// Makes the manager by which `starting` is sifted among the orders that keep the pairs of
-/// `instance`. Requires that `starting` is the cover's reduced diagram under the lexicographically
-/// first of these orders.
+/// `instance`.
 pub(crate) fn manager_of(
     alloc: Global,
     instance: &SearchInput<'_>,
@@ -71,10 +68,8 @@ pub(crate) fn manager_of(
     Ok(manager)
 }
 
-/// Prepares what the search for `instance` starts with, before sifting has found the bound of the
-/// search: takes the lesser of 2^20 and `size` for the bound. `size` is the number of nodes under
-/// the lexicographically first order that keeps the pairs of `instance`. Requires that `renaming`
-/// was made for the truth tables of `instance`.
+/// Prepares the search before sifting has found its bound: takes the lesser of 2^20 and `size`, the
+/// number of nodes under the starting order, for the bound.
 fn prepare_below<'a, R: Threads + Sync>(
     rt: &R,
     alloc: Global,
@@ -98,10 +93,8 @@ fn prepare_below<'a, R: Threads + Sync>(
     Ok(start)
 }
 
-/// Sifts the diagram of `manager`, and computes what the search for `instance` starts with. Returns
-/// both results. They are computed at the same time if `instance.busy_workers` gives more than one
-/// worker. Requires that `manager` has the reduced diagram under the lexicographically first order
-/// that keeps the instance's pairs, and `renaming` was made for its truth tables.
+/// Sifts the diagram of `manager` and prepares the search, at the same time if there is more than
+/// one busy worker.
 fn sift_and_prepare<'a, R: Threads + Sync>(
     rt: &R,
     alloc: Global,
@@ -137,9 +130,7 @@ fn sift_and_prepare<'a, R: Threads + Sync>(
     Ok((sifting?, start?))
 }
 
-/// The number of nodes of the cover's functions under the file order. Requires that `starting` is
-/// their reduced diagram under the lexicographically first order that keeps the pairs of
-/// `instance`.
+/// The number of nodes of the cover's functions under the file order.
 fn file_size_of<R: Threads + Sync>(
     rt: &R,
     alloc: Global,
@@ -166,11 +157,7 @@ pub(crate) struct Found {
     pub file_size: u64,
 }
 
-/// Finds the sifted order and the first order of the fewest nodes among those that keep the pairs
-/// of `instance`, by a search on the calling thread that is fast for small truth tables, but allows
-/// any. Requires that `manager` has the reduced diagram under the lexicographically first of these
-/// orders, and that `file_size` is the number of nodes under the file order, which the result
-/// repeats.
+/// Finds the sifted order and the best one by a search that is fast for small truth tables.
 fn search_small(
     alloc: Global,
     instance: &SearchInput<'_>,
@@ -196,9 +183,7 @@ fn search_small(
     })
 }
 
-/// Finds the first order of the fewest nodes among those that keep the pairs of `instance`, the
-/// order after one pass of sifting with its size, and the size under the file order. If
-/// `instance.certify` is true, the result also has the cells of the first order's certificate.
+/// Finds the first order of the fewest nodes, the sifted order, and the size under the file order.
 pub(crate) fn search<R: Threads + Sync>(
     rt: &R,
     alloc: Global,
@@ -219,7 +204,15 @@ pub(crate) fn search<R: Threads + Sync>(
         size,
         bound,
     } = sifting;
-    let best = best_order(rt, alloc, start, bound, instance.workers, instance.certify)?;
+    let workers = instance.workers;
+    let best = if instance.certify {
+        Best::of(solve(rt, alloc, start, bound, workers, &NoGate)?)
+    } else {
+        Best {
+            optimum: find_optimum(rt, alloc, start, bound, workers, &NoGate)?,
+            cells: None,
+        }
+    };
     Ok(Found {
         best,
         sifted,

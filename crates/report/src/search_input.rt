@@ -28,9 +28,8 @@ pub(crate) struct SearchInput<'a> {
 const ENTRIES_WORTH_THREADS: usize = 1 << 14;
 
 impl SearchInput<'_> {
-    /// The workers that build diagrams and prepare the search: `self.workers`, or one if the truth
-    /// tables of all outputs together have fewer than `ENTRIES_WORTH_THREADS` entries, which is
-    /// 16,384.
+    /// The workers that build diagrams and prepare the search: one if the truth tables have fewer
+    /// than `ENTRIES_WORTH_THREADS` entries.
     pub(crate) fn busy_workers(&self) -> Workers {
         let problem = self.tables.problem();
         let entries = usize::from(problem.outputs()) << problem.inputs();

@@ -2,11 +2,10 @@
 --     cost_without t set y, width_without t set y      the cost of the cell of a set without a member, and the member's width over it
 --     IsBestBelow      the cell of the least sum over the members below a variable, if any cost is within the bound
 --     best_skipped, best_taken, best_gap, best_all      one variable more; no members from a variable on; all variables
---     cost_at      the cost of a smaller set is in the list of cells
 --     IsKept, kept_next      the cell that is kept, and one more member's
 --     few_sum, few_above      how large sums of costs and widths are, and the lower bound by variables
-use Rattle.std.proofs.Common.{◌≡◌, ℕ, ◌+◌, ◌-◌, ◌*◌, ◌^◌, ◌<◌, ◌≤◌, true, count_ones, Option, Some, None, IfSome, if◌then◌else◌, inl, inr, eq-eqb, ne_eqb, List, not, get_or, refl, sym, ap, ◌∙◌, subst, arith}
-use Rattle.std.proofs.lemmas.Bool.{cases_eq, cases_lt}
+use Rattle.std.proofs.Common.{◌≡◌, ℕ, ◌+◌, ◌-◌, ◌*◌, ◌^◌, ◌<◌, ◌≤◌, true, count_ones, Option, Some, None, IfSome, inl, inr, List, not, get_or, refl, sym, ap, ◌∙◌, subst, arith}
+use Rattle.std.proofs.lemmas.Bool.{cases_lt}
 use Rattle.std.proofs.lemmas.Nat.{pow_pos}
 use Rattle.std.proofs.lemmas.List.FromFn.{length-range_with_len}
 use Rattle.std.specs.List.{list_any}
@@ -21,11 +20,11 @@ use Rattle.definitions.specs.Problems.{functions}
 use Rattle.definitions.specs.Cells.{cell_cost}
 use Rattle.subset_layers.specs.Sums.{IsBest}
 use Rattle.subset_layers.specs.declared.costs.Cell.{Cell}
-use Rattle.layer_core.specs.Instances.{InstanceOf, cell_for}
+use Rattle.layer_core.specs.Instances.{InstanceOf}
 use Rattle.definitions.proofs.Bits.Ones.{ones-members}
 use Rattle.layer_core.specs.Pairing.{no_cell}
 use Rattle.solutions.proofs.ReadOrders.{less_member}
-use Rattle.small_search.specs.FirstCells.{AreFirstCells}
+use Rattle.small_search.specs.FirstCells.{AreFewCells}
 
 abbrev pub cost_without : InstanceOf → ℕ → ℕ → ℕ
 cost_without t set y = cell_cost t.problem.inputs (functions t.problem) t.pairs.pairs t.lower_bound t.bound (set - 2 ^ y)
@@ -95,18 +94,8 @@ module _ (S : ℕ → Type 0) (bound : ℕ) (costs widths : ℕ → ℕ) where
           some_not : Some b ≡ None → ⊥
           some_not w = cc
 
--- the cost of a smaller set
-pub cost_at : (t : InstanceOf) (count : ℕ) (cells : List Cell) → AreFirstCells t count cells → (mask : ℕ) → mask < count →
-    (get_or cells mask no_cell).cost ≡ cell_cost t.problem.inputs (functions t.problem) t.pairs.pairs t.lower_bound t.bound mask
-unfolding cell_cost
-cost_at t count cells h mask lt =
-    elim (cases_eq mask 0) [
-      | inl e ↦ ap (λ k. (get_or cells k no_cell).cost) e ∙ h.none ∙ sym (ap (λ b. if b then 0 else (cell_for t mask).0) (eq-eqb mask 0 e))
-      | inr ne ↦ ap (λ (c : ℕ × ℕ). c.0) (h.each mask (omega (arith, ne)) lt) ∙ sym (ap (λ b. if b then 0 else (cell_for t mask).0) (ne_eqb mask 0 ne))
-    ]
-
 -- the cost of a set without a member, and the member's width
-pub few_sum : (t : InstanceOf) (set : ℕ) (cells : List Cell) → AreFirstCells t set cells → set < 2 ^ t.problem.inputs → (x : ℕ) →
+pub few_sum : (t : InstanceOf) (set : ℕ) (cells : List Cell) → AreFewCells t set cells → set < 2 ^ t.problem.inputs → (x : ℕ) →
     has (members t.problem.inputs set) x ≡ true → (cost width : ℕ) → cost ≡ (get_or cells (set - 2 ^ x) no_cell).cost → cost ≤ t.bound →
     width ≤ 2 ^ 20 → cost + width ≤ count_ones set * 2 ^ 20
 few_sum t set cells h small x m cost width e within few =

@@ -12,5 +12,4 @@ pub mod JoinedValues
 pub mod PlainSearches
 pub mod PackedWords
 pub mod ValueParts
-pub mod ReadCells
 pub mod WidthRows

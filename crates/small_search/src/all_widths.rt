@@ -13,8 +13,7 @@ use crate::width_counts::Subfunctions;
 use order_model::{Mask, Pairs, Problem, WidthRow, next_member};
 use std::alloc::{AllocError, Global};
 
-/// The widths of the members of `set` over the other members, 0 at other variables. `subfunctions`
-/// has the distinct subfunctions over `set`.
+/// The widths of the members of `set` over the other members, 0 at other variables.
 #[inline(always)]
 fn row_of_set(search: &SmallSearch<'_>, subfunctions: &Subfunctions<'_>, set: Mask) -> WidthRow
     requires within { set < 2 ^ search.now.problem.inputs }
@@ -34,8 +33,7 @@ fn row_of_set(search: &SmallSearch<'_>, subfunctions: &Subfunctions<'_>, set: Ma
 }
 
 /// A row for each set of variables, at its mask: at each member x the width of x over the other
-/// members, and 0 elsewhere. Takes a step for each entry of the class tables of all sets, so it is
-/// for small problems.
+/// members, and 0 elsewhere. For small problems: takes a step for each entry of the class tables.
 pub fn widths_of_all_sets(alloc: Global, problem: &Problem) -> Result<Vec<WidthRow>, AllocError>
     ensures { IfOk result
         (λ rows. AreAllWidths problem.now.inputs (functions problem.now) rows.items) }

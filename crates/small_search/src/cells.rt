@@ -6,7 +6,7 @@ ghost use Rattle.definitions.specs.Pairs.{is_lawful};
 ghost use Rattle.layer_core.specs.Pairing.{pair_of};
 ghost use Rattle.layer_core.specs.Instances.{cell_for};
 ghost use Rattle.subfunction_classes.specs.Table.{classes_of};
-ghost use Rattle.small_search.specs.FirstCells.{AreFirstCells, IsFew};
+ghost use Rattle.small_search.specs.FirstCells.{AreFewCells, IsFew};
 ghost use Rattle.small_search.specs.Occurrences.{AreOf};
 
 use crate::instance::{NO_BOUND, SmallSearch};
@@ -14,12 +14,10 @@ use crate::width_counts::Subfunctions;
 use order_model::{Mask, next_member};
 use subset_layers::Cell;
 
-/// The cell of `set`, which isn't empty: the least sum, over its members x, of the cost of the set
-/// without x and the width of x over that set, and the smallest x that gives it. Leaves out members
-/// x for which the set without x costs more than `NO_BOUND`. If no member remains, or if the set
-/// isn't lawful, the cell has the cost `NO_BOUND` + 1 and the smallest member. `cells[m]` is the
-/// cell of the set with the mask m, for all m below `set`, and `subfunctions` has the distinct
-/// subfunctions over `set`. Requires that `lawful` is true exactly if the set is lawful.
+/// The cell of `set`: the least sum, over its members x, of the cost of the set without x and the
+/// width of x over it, and the smallest x that gives it. If all these costs exceed `NO_BOUND`, or
+/// the set isn't lawful, the cost is `NO_BOUND` + 1. `cells[m]` is the cell of the set with the
+/// mask m.
 pub(crate) fn cell_of_set(
     search: &SmallSearch<'_>,
     cells: &[Cell],
@@ -29,7 +27,7 @@ pub(crate) fn cell_of_set(
 ) -> Cell
     requires some { 0 < set }
     requires within { set < 2 ^ search.now.problem.inputs }
-    requires cells { AreFirstCells search.now set cells.now }
+    requires cells { AreFewCells search.now set cells.now }
     requires subfunctions { AreOf (classes_of search.now.problem set) subfunctions.now }
     requires lawful { lawful ≡ is_lawful search.now.pairs.pairs
         (members search.now.problem.inputs set) }

@@ -12,7 +12,7 @@ use order_model::{Mask, VarIx};
 use pair_numbering::{EntryPairs, MaskedNumbers, PairMemory};
 use std::alloc::AllocError;
 
-/// Working memory in which class tables are made. What it holds before doesn't matter.
+/// Working memory in which class tables are made.
 #[derive(Drop)]
 pub(crate) struct ClassMemory {
     /// Memory in which pairs are numbered.
@@ -35,8 +35,7 @@ const PLACES: [u8; 256] = [
 ];
 
 /// The places of the variables that a function of three variables depends on, as a mask. The
-/// highest variable has place 0, the lowest place 2. `value` is the function's truth table, below
-/// 256.
+/// highest variable has place 0.
 #[inline(always)]
 fn places_of(value: u32) -> u8
     requires { value < 256 }
@@ -46,9 +45,8 @@ fn places_of(value: u32) -> u8
     PLACES[value as usize]
 }
 
-/// The places of the variables that a function of four variables depends on, as a mask. The highest
-/// variable has place 0, the lowest place 3. `pair` has the function's two halves, as truth tables
-/// of three variables, below 256: where the lowest variable is 0, and where it is 1.
+/// The places of the variables that a function of four variables depends on, as a mask. `pair` has
+/// the truth tables where the lowest variable is 0, and where it is 1.
 #[inline(always)]
 fn joined_places(pair: (u32, u32)) -> u8
     requires lower { pair.0 < 256 }
@@ -60,8 +58,7 @@ fn joined_places(pair: (u32, u32)) -> u8
     if pair.0 == pair.1 { halves } else { halves | 8 }
 }
 
-/// For each mask q of places, from 0 to 15, the mask of the variables of `set` at these places. The
-/// lowest variable has place 3, the highest place 0. Requires that `set` has four variables.
+/// For each mask q of places, from 0 to 15, the mask of the variables of `set` at these places.
 fn masks_by_places(set: Mask) -> [Mask; 16]
     requires { count_ones set ≡ 4 }
     ensures { (q : ℕ) → q < 16 → slice_index result q ≡ mask_at (members 16 set) q }
@@ -78,10 +75,8 @@ fn masks_by_places(set: Mask) -> [Mask; 16]
     masks
 }
 
-/// Overwrites `masks`: entry k becomes the mask of those of the four variables of `set` on which
-/// the function of pair k depends. The pair is the function's cofactors where the lowest variable
-/// is 0 and where it is 1, as truth tables of the other three, below 256. If memory is refused,
-/// `masks` has no meaning.
+/// Entry k of `masks` becomes the mask of those variables of `set` on which the function of pair k
+/// depends: the truth tables where the lowest variable is 0, and where it is 1.
 fn write_masks(pairs: &[(u32, u32)], set: Mask, masks: &mut Vec<Mask>) -> Result<(), AllocError>
     requires four { count_ones set ≡ 4 }
     requires lower { (k : ℕ) → k < length pairs.now → (get_or pairs.now k (0, 0)).0 < 256 }
@@ -98,7 +93,7 @@ fn write_masks(pairs: &[(u32, u32)], set: Mask, masks: &mut Vec<Mask>) -> Result
     Ok(())
 }
 
-/// Overwrites `wide` with `values`, as 32-bit numbers. If memory is refused, `wide` has no meaning.
+/// Overwrites `wide` with `values`.
 fn widen(values: &[u8], wide: &mut Vec<u32>) -> Result<(), AllocError>
     ensures { OnOk result (wide.new.items ≡ values.now) }
 {
@@ -109,10 +104,8 @@ fn widen(values: &[u8], wide: &mut Vec<u32>) -> Result<(), AllocError>
     Ok(())
 }
 
-/// Overwrites `to` with the class table of `set`, four variables with x as the lowest: the class
-/// numbers, and the mask of each class. `values` has the truth tables, as numbers below 256, of all
-/// subfunctions over the set without x: outputs in order, and of each the assignments rising. What
-/// `memory` has before doesn't matter. If memory is refused, `to` has no meaning.
+/// Overwrites `to` with the class table of `set`, four variables with x as the lowest. `values` has
+/// the truth tables, below 256, of all subfunctions over the set without x.
 pub(crate) fn number_values(
     values: &[u8],
     x: VarIx,

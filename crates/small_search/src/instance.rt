@@ -15,9 +15,8 @@ use std::marker::Model;
 /// 2^20 each, and at most 16 nodes are counted above the set.
 pub(crate) const NO_BOUND: u32 = 1 << 25;
 
-/// The input of a search: the truth tables of some functions, packed in words of 64 points, one
-/// after the other, and the pairs that an order must keep. The bits behind a table's last point
-/// don't count. No cost of a lawful set reaches `NO_BOUND`.
+/// The truth tables of some functions, packed in words of 64 points, one after the other, and the
+/// pairs that an order must keep. The bits behind a table's last point don't count.
 #[derive(Drop)]
 pub struct SmallSearch<'a> {
     inputs: u8,
@@ -39,10 +38,7 @@ impl<'a> Model for SmallSearch<'a> {
 }
 
 impl<'a> SmallSearch<'a> {
-    /// The input of a search for `outputs` functions, 1 to 16, of `inputs` variables, 1 to 16.
-    /// `words` has the functions' truth tables, packed in words of 64 points, one function after
-    /// the other. `pairs` are those that an order must keep. Requires them to be of these
-    /// variables.
+    /// `words` has the truth tables of `outputs` functions of `inputs` variables.
     pub fn new(inputs: u8, outputs: u8, words: &'a [u64], pairs: &'a Pairs) -> SmallSearch<'a>
         requires packed { ArePacked inputs outputs words.now }
         requires pairs { pairs.now.inputs ≡ inputs }
@@ -77,8 +73,7 @@ impl<'a> SmallSearch<'a> {
         self.outputs
     }
 
-    /// The truth table of the function with the number `output`, counted from 0 and below the
-    /// number of functions, packed in words of 64 points.
+    /// The packed truth table of function `output`, counted from 0.
     pub(crate) fn words(&self, output: u8) -> &[u64]
         requires { output < outputs_of self.now.problem }
         ensures long { length result.now ≡ size_of self.now.problem.inputs }

@@ -9,7 +9,6 @@ mod all_widths;
 mod cells;
 mod classes;
 mod instance;
-mod reading;
 mod search;
 mod tables;
 mod values;

@@ -6,19 +6,17 @@ ghost use Rattle.small_search.specs.Occurrences.{AreOf};
 ghost use Rattle.small_search.specs.Paths.{HoldPath};
 ghost use Rattle.subfunction_classes.specs.Table.{classes_of};
 ghost use Rattle.small_search.specs.Searches.{plain_instance};
-ghost use Rattle.solutions.specs.Bounded.{IsBounded};
-ghost use Rattle.solutions.specs.FlatCells.{AreFlatCells};
+ghost use Rattle.solutions.specs.Bounded.{AreFlatCells, IsBounded};
 ghost use Rattle.solutions.specs.Solutions.{IsFirstFewest, IsOptimumFor, IsSolution};
 
 use crate::cells::cell_of_set;
 use crate::instance::{NO_BOUND, SmallSearch, words_of};
-use crate::reading::read_optimum;
 use crate::tables::{MOST_VALUE_VARIABLES, PathTables, values_over};
 use crate::values::occurring;
 use crate::width_counts::Subfunctions;
 use layer_core::Instance;
 use order_model::{Limit, LowerBound, Mask, Pairs, Problem, SizedOrder, VarIx};
-use solutions::{AllCells, Solution, optimum_of, solution_of};
+use solutions::{AllCells, Solution, optimum_of, read_optimum, solution_of};
 use std::alloc::{AllocError, Global};
 use subset_layers::Cell;
 
@@ -30,9 +28,8 @@ const MOST_INPUTS: u8 = 10;
 /// the search by layers (`order_solve`) is faster.
 const MOST_ENTRIES: usize = 1 << 13;
 
-/// Whether `problem` has at most `MOST_INPUTS` variables, and truth tables of at most
-/// `MOST_ENTRIES` entries together. The search of this crate is then faster than the search by
-/// layers (`order_solve`).
+/// Whether the search of this crate is faster for `problem` than the search by layers
+/// (`order_solve`).
 pub fn is_small(problem: &Problem) -> bool
     ensures { IsTrue result ↔ ((problem.now.inputs ≤ 10)
         × (outputs_of problem.now * 2 ^ problem.now.inputs ≤ 2 ^ 13)) }
@@ -40,8 +37,8 @@ pub fn is_small(problem: &Problem) -> bool
     are_few(problem.inputs(), problem.outputs())
 }
 
-/// Whether `inputs` is at most `MOST_INPUTS`, and the truth tables of `outputs` functions of so
-/// many variables have at most `MOST_ENTRIES` entries together. Requires `inputs` to be at most 16.
+/// Whether the search of this crate is faster than the search by layers for so many variables and
+/// functions.
 pub fn are_few(inputs: u8, outputs: u8) -> bool
     requires inputs { inputs ≤ 16 }
     ensures { IsTrue result ↔ ((inputs ≤ 10) × (outputs * 2 ^ inputs ≤ 2 ^ 13)) }
@@ -57,8 +54,7 @@ pub struct Workspace {
 }
 
 impl Workspace {
-    /// A workspace for searches of small problems. Each search enlarges its memory if it needs
-    /// more.
+    /// No memory yet: each search enlarges it if it needs more.
     pub fn new(alloc: Global) -> Workspace {
         Workspace {
             tables: PathTables::new(alloc),
@@ -67,8 +63,7 @@ impl Workspace {
     }
 }
 
-/// The distinct subfunctions over `set`, read from `tables`. Requires that `tables` has, for each k
-/// from 0 to the size of `set`, the table of the subfunctions over its k highest variables.
+/// The distinct subfunctions over `set`, read from `tables`.
 #[inline(always)]
 pub(crate) fn subfunctions_in<'a>(
     search: &SmallSearch<'_>,
@@ -90,9 +85,7 @@ pub(crate) fn subfunctions_in<'a>(
     }
 }
 
-/// Overwrites `cells` with the cells of all sets: `cells[m]` becomes that of the set with the mask
-/// m, and `cells[0]` gets the cost 0. `tables` is working memory; what it has before doesn't
-/// matter. If memory is refused, `cells` has no meaning.
+/// Overwrites `cells` with the cells of all sets, each at its mask. `tables` is working memory.
 fn find_cells(
     alloc: Global,
     search: &SmallSearch<'_>,
@@ -122,10 +115,8 @@ fn find_cells(
 }
 
 /// Writes the first order of the fewest nodes among those that keep the pairs of `search` to
-/// `order`, top first, and its level counts to `levels`; both must have a place for each variable.
-/// Returns its size. If memory is refused, both stay as they are. What `workspace` has before
-/// doesn't matter. Takes a step for each entry of the class tables of all sets, so it is for small
-/// problems.
+/// `order`, top first, and its level counts to `levels`. Returns its size. Takes a step for each
+/// entry of the class tables of all sets.
 pub fn write_optimum(
     alloc: Global,
     search: &SmallSearch<'_>,
@@ -143,14 +134,12 @@ pub fn write_optimum(
     ensures order_stays { OnErr result (order.new ≡ order.old) }
     ensures levels_stay { OnErr result (levels.new ≡ levels.old) }
 {
+    prove!(search.inputs() <= 16);
     find_cells(alloc, search, &mut workspace.tables, &mut workspace.cells)?;
-    Ok(read_optimum(search, &workspace.cells, order, levels))
+    Ok(read_optimum(&workspace.cells, order, levels))
 }
 
-/// The cells of all sets of `problem`'s variables: at index m that of the set with the mask m.
-/// Index 0, the empty set, has the cost 0. A set that isn't lawful has a cost above all costs of
-/// lawful sets, and its smallest member. Requires that `pairs`, which say which sets are lawful,
-/// are of these variables.
+/// The cells of all sets, each at its mask.
 fn all_cells(alloc: Global, problem: &Problem, pairs: &Pairs) -> Result<Vec<Cell>, AllocError>
     requires { pairs.now.inputs ≡ problem.now.inputs }
     ensures { IfOk result (λ v. AreFlatCells (plain_instance problem.now pairs.now) v.items) }
@@ -163,9 +152,7 @@ fn all_cells(alloc: Global, problem: &Problem, pairs: &Pairs) -> Result<Vec<Cell
     Ok(cells)
 }
 
-/// The problem instance of a search that prunes nothing, because its bound exceeds all costs: the
-/// functions of `problem`, the pairs that an order must keep, and the lower bound by variables.
-/// Requires that `pairs` are of the problem's variables.
+/// The problem instance of a search that prunes nothing, because its bound exceeds all costs.
 fn instance_of<'a>(problem: &'a Problem, pairs: &'a Pairs) -> Instance<'a>
     requires { pairs.now.inputs ≡ problem.now.inputs }
     ensures instance { result ≡ plain_instance problem.now pairs.now }
@@ -181,9 +168,8 @@ fn instance_of<'a>(problem: &'a Problem, pairs: &'a Pairs) -> Instance<'a>
     Instance::new(problem, pairs, limit)
 }
 
-/// The first order of the fewest nodes among those that keep `pairs`, with its size and level
-/// counts. Requires that `pairs` are of the problem's variables. Takes a step for each entry of the
-/// class tables of all sets, so it is for small problems.
+/// The first order of the fewest nodes among those that keep `pairs`. Takes a step for each entry
+/// of the class tables of all sets.
 pub fn find_optimum(
     alloc: Global,
     problem: &Problem,
@@ -197,9 +183,7 @@ pub fn find_optimum(
     optimum_of(alloc, &AllCells::of_cells(&instance, cells))
 }
 
-/// The first order of the fewest nodes among those that keep `pairs`, with its size and level
-/// counts, and the sets and costs that its certificate lists. Requires that `pairs` are of the
-/// problem's variables. Takes a step for each entry of the class tables of all sets.
+/// The same order, and the sets and costs that its certificate lists.
 pub fn solve(alloc: Global, problem: &Problem, pairs: &Pairs) -> Result<Solution, AllocError>
     requires { pairs.now.inputs ≡ problem.now.inputs }
     ensures { IfOk result (IsSolution problem.now pairs.now.pairs) }

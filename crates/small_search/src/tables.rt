@@ -21,9 +21,8 @@ use std::alloc::{AllocError, Global};
 /// over more as its class number.
 pub(crate) const MOST_VALUE_VARIABLES: u32 = 3;
 
-/// The tables of the subfunctions over the sets on the way to a set S: for each k from 0 to the
-/// size of S, those over the k highest variables of S. Their memory is used again for the next sets
-/// and searches.
+/// The tables on the way to a set S: for each k from 0 to the size of S, that of the k highest
+/// variables of S.
 #[derive(Drop)]
 pub(crate) struct PathTables {
     /// How many values there are over no variable: one for each function and point.
@@ -37,9 +36,8 @@ pub(crate) struct PathTables {
     memory: ClassMemory,
 }
 
-/// The index at which the values over `size` variables, 0 to 3, begin in a list of the values over
-/// 0, 1, 2 and 3 variables, one size after the other. Over k variables there are `entries >> k`
-/// values; `entries`, the number over none, is at most 2^20.
+/// Where the values over `size` variables begin in a list of those over 0, 1, 2 and 3 variables.
+/// Over k variables there are `entries >> k` values.
 #[inline(always)]
 fn start_of(entries: usize, size: u32) -> usize
     requires size { size ≤ 3 }
@@ -54,10 +52,7 @@ fn start_of(entries: usize, size: u32) -> usize
     }
 }
 
-/// The values over `size` variables, 0 to 3, as a part of `values`, which has those over 0, 1, 2
-/// and 3 variables, one size after the other. Over k variables there are `entries >> k` values;
-/// `entries`, the number over none, is at most 2^20. Requires `values` to have 2 * `entries`
-/// entries.
+/// The values over `size` variables, a part of `values`, which has those over 0, 1, 2 and 3.
 #[inline(always)]
 pub(crate) fn values_over(values: &[u8], entries: usize, size: u32) -> &[u8]
     requires size { size ≤ 3 }
@@ -70,10 +65,8 @@ pub(crate) fn values_over(values: &[u8], entries: usize, size: u32) -> &[u8]
     own
 }
 
-/// Writes to `values` the values over a set of `size` variables, 1 to 3, whose lowest is x, from
-/// those over the set without x. Each joins two of these: the one where x is 0 becomes the lower
-/// bits, the one where x is 1 the upper bits. `values` has 2 * `entries` entries: those over 0, 1,
-/// 2 and 3 variables, one size after the other, `entries >> k` over k variables. Other sizes stay.
+/// Writes to `values` the values over a set of `size` variables, whose lowest is x, from those over
+/// the set without x. Each joins two of these: the one where x is 0 becomes the lower bits.
 #[inline(always)]
 fn make_values(values: &mut [u8], entries: usize, x: VarIx, size: u32)
     requires some { 1 ≤ size }
@@ -90,10 +83,7 @@ fn make_values(values: &mut [u8], entries: usize, x: VarIx, size: u32)
     join_values(before, x, 1 << (size - 1), own);
 }
 
-/// Overwrites `to` with the class table of the set of `from` with x added: the numbers of the pairs
-/// of its entries that differ in x alone, and their masks. Requires that x is smaller than all
-/// members of the set. What `memory` has before doesn't matter. If memory is refused, `to` has no
-/// meaning.
+/// Overwrites `to` with the class table of the set of `from` with x added.
 #[inline(always)]
 fn add_below(
     from: &MaskedNumbers,
@@ -113,10 +103,8 @@ fn add_below(
     Ok(())
 }
 
-/// Overwrites `classes[size - 4]` with the class table of a set of `size` variables, 5 to 16. Makes
-/// it from `classes[size - 5]`, the table of the set without its lowest variable x. Requires
-/// `classes` to have both. What `memory` has before doesn't matter. If memory is refused,
-/// `classes[size - 4]` has no meaning.
+/// Overwrites `classes[size - 4]` with the class table of a set of `size` variables, made from
+/// `classes[size - 5]`, that of the set without its lowest variable x.
 #[inline(always)]
 fn make_classes(
     classes: &mut [MaskedNumbers],
@@ -135,9 +123,8 @@ fn make_classes(
     add_below(&smaller[size as usize - 5], x, memory, &mut others[0])
 }
 
-/// Appends empty class tables to `classes`, each with room for `room` pairs, until it has at least
-/// one for each size of a set from 4 to `inputs`. Entry i is for the size i + 4. If memory is
-/// refused, some may be missing.
+/// Appends empty class tables to `classes`, each with room for `room` pairs, until it has one for
+/// each size of a set from 4 to `inputs`.
 fn add_tables(
     alloc: Global,
     room: usize,
@@ -154,7 +141,7 @@ fn add_tables(
 }
 
 impl PathTables {
-    /// Path tables that belong to no search yet. `restart` makes them those of a search.
+    /// Path tables of no search: `restart` makes them those of one.
     pub(crate) fn new(alloc: Global) -> PathTables {
         PathTables {
             entries: 0,
@@ -167,9 +154,7 @@ impl PathTables {
         }
     }
 
-    /// Makes these the tables for the empty set and the functions of `search`, whatever they were
-    /// before: writes the functions' values at all points, and makes room for the tables of larger
-    /// sets. If memory is refused, they have no meaning.
+    /// Makes these the tables for the empty set and the functions of `search`.
     pub(crate) fn restart(
         &mut self,
         alloc: Global,
@@ -193,10 +178,8 @@ impl PathTables {
         Ok(())
     }
 
-    /// Turns the tables for the set with the mask `set - 1` into those for `set`, which isn't empty
-    /// and has variables of `search`: for each k, the table of the subfunctions over its k highest
-    /// variables. Makes one table, that of `set`, from that of `set` without its lowest variable.
-    /// If memory is refused, the tables have no meaning.
+    /// Turns the tables for the set with the mask `set - 1` into those for `set`. Makes one table,
+    /// from that of `set` without its lowest variable.
     #[inline(always)]
     pub(crate) fn add_lowest(
         &mut self,

@@ -14,9 +14,7 @@ use order_model::VarIx;
 use order_model::packed::bit_of;
 use std::alloc::AllocError;
 
-/// Appends to `values` a function's value, 0 or 1, at each point of `inputs` variables, at most 16.
-/// `words` is the function's truth table, packed in words of 64 points. If memory is refused, some
-/// values may be missing.
+/// Appends to `values` a function's value at each point. `words` is its packed truth table.
 fn push_values(values: &mut Vec<u8>, words: &[u64], inputs: u8) -> Result<(), AllocError>
     requires few { inputs ≤ 16 }
     requires long { length words.now ≡ words_per_table inputs }
@@ -29,9 +27,7 @@ fn push_values(values: &mut Vec<u8>, words: &[u64], inputs: u8) -> Result<(), Al
     Ok(())
 }
 
-/// Appends to `values`, which must be empty, the value, 0 or 1, of each function of `search` at
-/// each point: function by function, and of each the points rising. If memory is refused, some
-/// values may be missing.
+/// Appends the value of each function of `search` at each point, function by function.
 pub(crate) fn push_points(values: &mut Vec<u8>, search: &SmallSearch<'_>) -> Result<(), AllocError>
     requires { values.old.items ≡ [] }
     ensures { OnOk result (values.new.items ≡ map weight (values_of search.now.problem)) }
@@ -42,10 +38,8 @@ pub(crate) fn push_points(values: &mut Vec<u8>, search: &SmallSearch<'_>) -> Res
     Ok(())
 }
 
-/// Writes to `values` one value for each pair of entries of `before` whose assignments differ in
-/// variable x alone: its lowest `shift` bits, at most 4, are the entry where x is 0, its upper bits
-/// the one where x is 1. Requires that `step` is 2^x, the distance of the two in `before`, that all
-/// entries are below 2^`shift`, and that `values` is half as long as `before`.
+/// Writes to `values` one value for each pair of entries of `before` that differ in variable x
+/// alone, which stand `step` apart: its lowest `shift` bits are the entry where x is 0.
 #[inline(always)]
 fn join_blocks(before: &[u8], x: VarIx, step: usize, shift: u32, values: &mut [u8])
     requires paired { IsPaired before.now x }
@@ -64,10 +58,7 @@ fn join_blocks(before: &[u8], x: VarIx, step: usize, shift: u32, values: &mut [u
     }
 }
 
-/// Writes to `values` one value for each pair of entries of `before` whose assignments differ in
-/// variable x alone: its lowest `shift` bits, at most 4, are the entry where x is 0, its upper bits
-/// the one where x is 1. Requires that the two stand 2^x apart in `before`, that all entries are
-/// below 2^`shift`, and that `values` is half as long as `before`.
+/// `join_blocks` with entries 2^x apart.
 pub(crate) fn join_values(before: &[u8], x: VarIx, shift: u32, values: &mut [u8])
     requires paired { IsPaired before.now x }
     requires shift { shift ≤ 4 }
@@ -84,8 +75,7 @@ pub(crate) fn join_values(before: &[u8], x: VarIx, shift: u32, values: &mut [u8]
     }
 }
 
-/// Which numbers occur in `values`, the truth tables of functions of `size` variables: bit v % 64
-/// of word v / 64 is 1 if v occurs. Requires that all of them are below 64 if `size` is at most 2.
+/// Which numbers occur in `values`, truth tables of `size` variables: bit v % 64 of word v / 64.
 pub(crate) fn occurring(values: &[u8], size: u32) -> [u64; 4]
     requires { size ≤ 2 → AllBelow values.now 64 }
     ensures { AreOccurring values.now result }

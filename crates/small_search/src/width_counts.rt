@@ -21,9 +21,8 @@ pub(crate) enum Subfunctions<'a> {
     Classes(&'a [Mask]),
 }
 
-/// At index p the values over three variables that depend on the variable at place p, where place 0
-/// has the highest: bit v % 64 of word v / 64 is 1 if value v does. A value over fewer variables
-/// depends on the same ones of its places if it is read as one over three.
+/// At index p the values over three variables that depend on the variable at place p. A value over
+/// fewer variables depends on the same ones if it is read as one over three.
 const DEPENDENT: [[u64; 4]; 3] = [
     [
         0x6ff6ffffffff6ff6,
@@ -45,9 +44,7 @@ const DEPENDENT: [[u64; 4]; 3] = [
     ],
 ];
 
-/// How many of the truth tables in `occurring`, of at most three variables, depend on the variable
-/// at `place`. Bit v % 64 of word v / 64 of `occurring` is 1 if the truth table with the number v
-/// is one of them. Places are 0 to 2, and the highest variable has place 0.
+/// How many of the truth tables in `occurring` depend on the variable at `place`.
 #[inline(always)]
 pub(crate) fn count_dependent(occurring: &[u64; 4], place: u32) -> u32
     requires { place < 3 }
@@ -63,8 +60,8 @@ pub(crate) fn count_dependent(occurring: &[u64; 4], place: u32) -> u32
 }
 
 impl<'a> Subfunctions<'a> {
-    /// How many of the subfunctions depend on x: the width of x over their set without x. Requires
-    /// that x is a member of their set, and `place` the number of greater members.
+    /// How many of the subfunctions depend on x: the width of x over their set without x. `place`
+    /// is the number of greater members.
     #[inline(always)]
     pub(crate) fn width(&self, x: VarIx, place: u32) -> u32
         requires variable { x < 16 }

@@ -1,4 +1,2 @@
-pub mod FlatCells
-pub mod Storages
 pub mod Bounded
 pub mod Solutions

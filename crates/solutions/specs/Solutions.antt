@@ -4,9 +4,10 @@
 --     AreListedFor t total cells      the sets that a certificate lists, with their costs
 --     widths_for_all t      how many widths the cells of all sets take
 --     IsFirstFewest n F P order levels total      the first order of the fewest nodes among those that keep the pairs, with its level counts and its size
+--     IsReadFor t order levels total      the first order of the fewest nodes of an instance, whose size is within the bound
 --     IsOptimumFor problem P o      o has the first order of the fewest nodes, its level counts and its size
 --     IsSolution problem P s      s has this optimum, and the cells that its certificate lists
-use Rattle.std.specs.Prelude.{◌≡◌, ℕ, ◌-◌, ◌^◌, List, map}
+use Rattle.std.specs.Prelude.{◌≡◌, ℕ, ◌-◌, ◌^◌, ◌≤◌, List, map}
 use Rattle.definitions.specs.Functions.{Function}
 use Rattle.definitions.specs.Pairs.{Pair}
 use Rattle.definitions.specs.Problems.{TruthTables, functions}
@@ -49,6 +50,11 @@ pub record IsFirstFewest (n : ℕ) (F : List Function) (P : List Pair) (order le
   pub fewest : FewestKeeping n F P total
   pub size : total ≡ size_under n F order
   pub levels_are : levels ≡ level_counts n F order
+
+-- the first order of the fewest nodes of an instance, whose size is within the bound
+pub record IsReadFor (t : InstanceOf) (order levels : List ℕ) (total : ℕ) : Type 0 where
+  pub first : IsFirstFewest t.problem.inputs (functions t.problem) t.pairs.pairs order levels total
+  pub within : total ≤ t.bound
 
 -- o has the first order of the fewest nodes, its level counts and its size
 abbrev pub IsOptimumFor : TruthTables → List Pair → SizedOrder → Type 0

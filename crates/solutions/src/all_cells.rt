@@ -1,35 +1,24 @@
 //! The cells of all sets of variables: of each set the least cost, and the smallest top variable
 //! that gives it.
 
-ghost use Rattle.std.specs.Prelude.{◌≡◌, ◌^◌, ◌<◌, ◌≤◌, count_ones};
-ghost use Rattle.definitions.specs.Problems.{functions};
-ghost use Rattle.definitions.specs.Widths.{essential_mask};
-ghost use Rattle.layer_core.specs.Instances.{cell_for};
-ghost use Rattle.layer_core.specs.Pairing.{pair_of};
-ghost use Rattle.solutions.specs.Solutions.{cost_for};
+ghost use Rattle.std.specs.Prelude.{◌≡◌, ◌^◌, ◌<◌, ◌≤◌, IfOk};
 ghost use Rattle.layer_core.specs.LayerCosts.{AreAllLayers, IsLayerFor};
-ghost use Rattle.solutions.specs.FlatCells.{AreFlatCells};
+ghost use Rattle.solutions.specs.Bounded.{AreFlatCells};
+ghost use Rattle.solutions.specs.Solutions.{cost_for};
 
 use layer_core::Instance;
 use order_model::Mask;
+use std::alloc::{AllocError, Global};
 use std::marker::Model;
 use subset_layers::{Cell, Costs};
-
-/// How the cells of all sets are stored.
-#[derive(Drop)]
-enum Storage {
-    /// By layers: at index k the cells of the sets of k variables, from 0 to all of them.
-    Layers(Vec<Costs>),
-    /// The cell of each set, at the index that is the set's mask.
-    Flat(Vec<Cell>),
-}
 
 /// The cells of all sets of a problem instance's variables. Some order that keeps the instance's
 /// pairs has no more nodes than the instance's bound.
 #[derive(Drop)]
 pub struct AllCells<'a> {
     instance: &'a Instance<'a>,
-    storage: Storage,
+    /// The cell of each set, at the index that is the set's mask; that of the empty set costs 0.
+    pub(crate) cells: Vec<Cell>,
 }
 
 impl<'a> Model for AllCells<'a> {
@@ -40,12 +29,10 @@ impl<'a> Model for AllCells<'a> {
 
     ghost view = { λ a. a.instance.now };
 
-    ghost invariant = { λ a. HoldsCells a.instance.now a.storage };
+    ghost invariant = { λ a. HoldsCells a.instance.now a.cells.items };
 }
 
-/// The layer in `layers` that has the sets of `size` variables. Requires that `layers[k]` has the
-/// sets of k of the instance's variables, for each k from 0 to all of them, and `size` to be one
-/// such k.
+/// The layer in `layers` that has the sets of `size` variables.
 fn layer_of<'c>(instance: &Instance<'_>, layers: &'c [Costs], size: u32) -> &'c Costs
     requires layers { AreAllLayers instance.now layers.now }
     requires few { size ≤ instance.now.problem.inputs }
@@ -55,38 +42,55 @@ fn layer_of<'c>(instance: &Instance<'_>, layers: &'c [Costs], size: u32) -> &'c 
     &layers[size as usize]
 }
 
+/// The cells of `layers` in one list, each at its set's mask.
+fn by_mask(
+    alloc: Global,
+    instance: &Instance<'_>,
+    layers: &[Costs],
+) -> Result<Vec<Cell>, AllocError>
+    requires { AreAllLayers instance.now layers.now }
+    ensures { IfOk result (λ v. AreFlatCells instance.now v.items) }
+{
+    let sets = 1u32 << instance.inputs();
+    let mut cells = Vec::with_capacity(alloc, sets as usize)?;
+    cells.push(Cell {
+        cost: 0,
+        variable: 0,
+    })?;
+    for number in 1..sets {
+        let mask = number as Mask;
+        let layer = layer_of(instance, layers, mask.count_ones());
+        cells.push(layer.cell_of(mask).unwrap())?;
+    }
+    Ok(cells)
+}
+
 impl<'a> AllCells<'a> {
     ghost use Rattle.solutions.specs.Bounded.{IsBounded};
 
-    /// The cells of all sets, from `layers`: `layers[k]` has the cells, for `instance`, of the sets
-    /// of k variables, for each k from 0 to all of them. Requires that some order that keeps the
-    /// instance's pairs has no more nodes than the instance's bound.
-    pub fn of_layers(instance: &'a Instance<'a>, layers: Vec<Costs>) -> AllCells<'a>
+    /// The cells of `layers`: `layers[k]` has those of the sets of k variables.
+    pub fn of_layers(
+        alloc: Global,
+        instance: &'a Instance<'a>,
+        layers: &[Costs],
+    ) -> Result<AllCells<'a>, AllocError>
         requires bounded { IsBounded instance.now }
-        requires layers { AreAllLayers instance.now layers.items }
-        ensures { result ≡ instance.now }
+        requires layers { AreAllLayers instance.now layers.now }
+        ensures { IfOk result (λ a. a ≡ instance.now) }
     {
-        AllCells {
-            instance,
-            storage: Storage::Layers(layers),
-        }
+        let cells = by_mask(alloc, instance, layers)?;
+        Ok(AllCells { instance, cells })
     }
 
-    /// The cells of all sets, from `cells`: `cells[m]` is the cell, for `instance`, of the set with
-    /// the mask m, and `cells[0]` has the cost 0. Requires that some order that keeps the
-    /// instance's pairs has no more nodes than the instance's bound.
+    /// The cells of all sets in one list, each at its set's mask.
     pub fn of_cells(instance: &'a Instance<'a>, cells: Vec<Cell>) -> AllCells<'a>
         requires bounded { IsBounded instance.now }
         requires cells { AreFlatCells instance.now cells.items }
         ensures { result ≡ instance.now }
     {
-        AllCells {
-            instance,
-            storage: Storage::Flat(cells),
-        }
+        AllCells { instance, cells }
     }
 
-    /// The number of variables, 1 to 16.
     pub fn inputs(&self) -> u8
         ensures value { result ≡ self.now.problem.inputs }
         ensures some { 1 ≤ result }
@@ -96,49 +100,18 @@ impl<'a> AllCells<'a> {
         self.instance.inputs()
     }
 
-    /// The problem instance that the cells belong to.
     pub(crate) fn instance(&self) -> &Instance<'a>
         ensures { result.now ≡ self.now }
     {
         self.instance
     }
 
-    /// The set of the variables on which some function depends, as a mask.
-    pub fn essential(&self) -> Mask
-        ensures { result ≡ essential_mask self.now.problem.inputs (functions self.now.problem) }
-    {
-        self.instance.essential()
-    }
-
-    /// The cost of the set `mask`, of the instance's variables: its least cost, or the bound + 1 if
-    /// the set is pruned or not lawful. The empty set costs 0.
+    /// The least cost of the set `mask`, or the bound + 1 if the set is pruned or not lawful. The
+    /// empty set costs 0.
     pub fn cost(&self, mask: Mask) -> u32
         requires { mask < 2 ^ self.now.problem.inputs }
         ensures { result ≡ cost_for self.now mask }
     {
-        match &self.storage {
-            Storage::Layers(layers) => {
-                let layer = layer_of(self.instance, layers, mask.count_ones());
-                layer.cost_of(mask).unwrap()
-            }
-            Storage::Flat(cells) => cells[usize::from(mask)].cost,
-        }
-    }
-
-    /// The cell of the set `mask`, of the instance's variables: its least cost, and the smallest
-    /// top variable that gives it. If the set is pruned or not lawful these are the bound + 1 and
-    /// the smallest member. Requires that the set is not empty.
-    pub fn cell(&self, mask: Mask) -> Cell
-        requires some { 0 < mask }
-        requires within { mask < 2 ^ self.now.problem.inputs }
-        ensures { pair_of result ≡ cell_for self.now mask }
-    {
-        match &self.storage {
-            Storage::Layers(layers) => {
-                let layer = layer_of(self.instance, layers, mask.count_ones());
-                layer.cell_of(mask).unwrap()
-            }
-            Storage::Flat(cells) => cells[usize::from(mask)],
-        }
+        self.cells[usize::from(mask)].cost
     }
 }

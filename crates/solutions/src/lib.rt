@@ -4,13 +4,14 @@
 #![tactic(auto)]
 
 mod all_cells;
-mod first_order;
 mod listed_sets;
 mod optima;
+mod reading;
 mod solution;
 mod width_counts;
 
 pub use all_cells::AllCells;
 pub use optima::{optimum_of, solution_of};
+pub use reading::read_optimum;
 pub use solution::Solution;
 pub use width_counts::count_widths;

@@ -11,7 +11,6 @@ use crate::all_cells::AllCells;
 use order_model::{ListedCell, Mask};
 use std::alloc::{AllocError, Global};
 
-/// How many of the variables in `essential` are not in `mask`.
 fn count_outside(essential: Mask, mask: Mask) -> u32
     ensures few { result ≤ 16 }
     ensures exact { (n : ℕ) (F : List Function) → essential ≡ essential_mask n F →
@@ -20,10 +19,8 @@ fn count_outside(essential: Mask, mask: Mask) -> u32
     (essential & !mask).count_ones()
 }
 
-/// The sets that a certificate of an order of `total` nodes lists, with their costs, by rising
-/// mask: those, other than that of all variables, whose cost plus the number of essential variables
-/// outside is below `total`. Requires that `cells` were computed with the lower bound by variables,
-/// and with an upper bound of at least `total`.
+/// The sets that a certificate of an order of `total` nodes lists, by rising mask, with their
+/// costs.
 pub(crate) fn listed_cells(
     alloc: Global,
     cells: &AllCells<'_>,
@@ -33,7 +30,7 @@ pub(crate) fn listed_cells(
     requires lower_bound { cells.now.lower_bound ≡ Variables }
     ensures { IfOk result (λ v. AreListedFor cells.now total v.items) }
 {
-    let essential = cells.essential();
+    let essential = cells.instance().essential();
     let mut found = Vec::new(alloc);
     for number in 0..(1u32 << cells.inputs()) - 1 {
         let mask = number as Mask;

@@ -26,8 +26,7 @@ fn affordable_members(cells: &AllCells<'_>, mask: Mask) -> Mask
     found
 }
 
-/// The members of the set `mask` whose widths its cell takes, as a mask; 0 if the set is not
-/// lawful.
+/// The members of the set `mask` whose widths its cell takes; none if it is not lawful.
 fn needed_members(cells: &AllCells<'_>, mask: Mask) -> Mask
     requires { mask < 2 ^ cells.now.problem.inputs }
     ensures { result ≡ needed cells.now mask }
@@ -41,8 +40,7 @@ fn needed_members(cells: &AllCells<'_>, mask: Mask) -> Mask
     }
 }
 
-/// The number of widths from which a search computes `cells`: the sum, over all sets, of the number
-/// of members whose widths the cell of the set takes.
+/// The number of widths from which a search computes `cells`.
 pub fn count_widths(cells: &AllCells<'_>) -> u64
     ensures { result ≡ widths_for_all cells.now }
 {

@@ -11,7 +11,7 @@ use crate::boards::{error_of_closing, is_stranger, lone_board};
 use crate::searches::tables_of;
 use layer_board::{Board, BoardSeat, CloseError, PostRefused};
 use order_model::{Limit, LowerBound, Mask, NoGate, Pairs, Workers};
-use order_solve::{Instance, LayerContext, Preparation, renaming_of, work_layer};
+use order_solve::{Instance, LayerContext, Preparation, needs_of_layer, renaming_of, work_layer};
 use std::alloc::Global;
 use std::process::Abort;
 use std::thread;
@@ -53,7 +53,8 @@ fn cells_by_one(
     requires prepared { prepared.now.problem ≡ instance.now.problem }
     ensures { map pair_of result.items ≡ map (cell_for instance.now) (masks_of layer.now) }
 {
-    let context = LayerContext::new(instance, layer, before, prepared);
+    let needs = needs_of_layer(alloc, instance, before, layer).expect(rt, "memory");
+    let context = LayerContext::new(instance, layer, before, &needs, prepared);
     let limit = instance.limit();
     let (board, seat) = lone_board(
         rt,
@@ -332,7 +333,8 @@ fn hold_claims<R: Abort + Threads + Sync>(
     requires prepared { prepared.now.problem ≡ instance.now.problem }
 {
     let (mask, cell) = first_cell(rt, alloc, instance, layer, before, prepared);
-    let context = LayerContext::new(instance, layer, before, prepared);
+    let needs = needs_of_layer(alloc, instance, before, layer).expect(rt, "memory");
+    let context = LayerContext::new(instance, layer, before, &needs, prepared);
     hold_and_leave(rt, alloc, instance, layer, &context, mask, cell);
     hold_and_post(rt, alloc, instance, layer, &context, mask, cell);
 }

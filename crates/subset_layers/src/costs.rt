@@ -13,17 +13,15 @@ use order_model::{Mask, VarIx};
 use std::alloc::{AllocError, Global};
 use std::marker::Model;
 
-/// What a search finds for a set that is not empty: its least cost, and the smallest variable that
-/// gives this cost on top. If the set is pruned, the cost is the bound plus 1, and the variable is
-/// the smallest member.
+/// The least cost of a set that is not empty, and the smallest variable that gives it on top. If
+/// the set is pruned these are the bound plus 1 and the smallest member.
 #[derive(Clone, Copy, Debug, PartialEq, Eq)]
 pub struct Cell {
     pub cost: u32,
     pub variable: VarIx,
 }
 
-/// A finished layer: its sets, each with its cell. The layer of the empty set has no cell, and the
-/// cost of the empty set is 0.
+/// A finished layer. That of the empty set has no cell, and its cost is 0.
 #[derive(Drop)]
 pub struct Costs {
     layer: Layer,
@@ -44,8 +42,7 @@ impl Model for Costs {
 impl Costs {
     ghost use Rattle.subset_layers.specs.Costs.{start_costs, costs_with, layer_of_costs, cell_at, cost_at, as_pair, AreTrueCosts, AreTrueCells};
 
-    /// The costs of the layer of the empty set, whose cost is 0, for `inputs` variables, at most
-    /// 16.
+    /// The costs of the layer of the empty set.
     pub fn start(alloc: Global, inputs: u8) -> Result<Costs, AllocError>
         requires { inputs ≤ 16 }
         ensures value { IfOk result (λ c. c ≡ start_costs inputs) }
@@ -60,8 +57,7 @@ impl Costs {
         })
     }
 
-    /// The costs of the sets of `layer`. `cells` has the cell of each set, by rising mask. Requires
-    /// a cell for each set, and that the layer is not that of the empty set.
+    /// The costs of the sets of `layer`: `cells` has the cell of each, by rising mask.
     pub fn of(layer: Layer, cells: Vec<Cell>) -> Costs
         requires inputs { layer.inputs ≤ 16 }
         requires size { 0 < layer.size }
@@ -74,7 +70,6 @@ impl Costs {
         Costs { layer, cells }
     }
 
-    /// The number n of the problem's variables: all masks are below 2^n.
     pub fn inputs(&self) -> u8
         ensures value { result ≡ self.now.inputs }
         ensures few { result ≤ 16 }

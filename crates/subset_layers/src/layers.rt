@@ -35,8 +35,7 @@ impl Model for Layer {
         (layer_with l.inputs l.size) l.masks.numbers.items l.lows.numbers.items };
 }
 
-/// The sets of a layer whose masks have one low byte, so the same members among the variables 0 to
-/// 7.
+/// The sets of a layer whose masks have one low byte: the same members among the variables 0 to 7.
 #[derive(Drop)]
 pub struct Block {
     inputs: u8,
@@ -62,8 +61,7 @@ impl Model for Block {
         × (b.low < 2 ^ b.inputs) };
 }
 
-/// A flag for each set of `inputs` variables, at most 16: entry m says whether the set with the
-/// mask m has `size` members.
+/// A flag for each set of `inputs` variables: whether that with the mask m has `size` members.
 fn size_flags(alloc: Global, inputs: u8, size: u8) -> Result<Vec<bool>, AllocError>
     requires { inputs ≤ 16 }
     ensures { IfOk result
@@ -90,7 +88,6 @@ fn low_flags(alloc: Global, masks: &[u16]) -> Result<Vec<bool>, AllocError>
     Ok(flags)
 }
 
-/// A list of 256 zeros, as room for the masks of a block.
 fn no_masks() -> [u16; 256] {
     [0; 256]
 }
@@ -98,8 +95,8 @@ fn no_masks() -> [u16; 256] {
 impl Layer {
     ghost use Rattle.subset_layers.specs.Layers.{layer_with, masks_of, blocks_of, block_place};
 
-    /// The layer of the sets that have `size` members, all of them below `inputs`. It has no sets
-    /// if `size` exceeds `inputs`. Requires `inputs` to be at most 16.
+    /// The layer of the sets of `size` members below `inputs`; without sets if `size` exceeds
+    /// `inputs`.
     pub fn of(alloc: Global, inputs: u8, size: u8) -> Result<Layer, AllocError>
         requires { inputs ≤ 16 }
         ensures { IfOk result (λ l. l ≡ layer_with inputs size) }
@@ -116,7 +113,6 @@ impl Layer {
         })
     }
 
-    /// A copy of the layer.
     pub fn try_clone(&self, alloc: Global) -> Result<Layer, AllocError>
         ensures same { IfOk result (λ l. l ≡ self.now) }
         ensures few { IfOk result (λ l. l.inputs ≤ 16) }
@@ -129,29 +125,26 @@ impl Layer {
         })
     }
 
-    /// The number n of the problem's variables: all masks are below 2^n.
+    /// The number of the problem's variables.
     pub fn inputs(&self) -> u8
         ensures { result ≡ self.now.inputs }
     {
         self.inputs
     }
 
-    /// How many members each set has.
     pub fn size(&self) -> u8
         ensures { result ≡ self.now.size }
     {
         self.size
     }
 
-    /// How many sets the layer has.
     pub fn len(&self) -> usize
         ensures { result ≡ length (masks_of self.now) }
     {
         self.masks.numbers.len()
     }
 
-    /// The mask at place `i`, counted from 0, of the layer's masks in rising order. Requires `i` to
-    /// be below the number of masks.
+    /// The mask at place `i`, counted from 0, by rising mask.
     pub fn mask_at(&self, i: usize) -> Mask
         requires { i < length (masks_of self.now) }
         ensures { slice_get (masks_of self.now) i ≡ Some result }
@@ -159,8 +152,7 @@ impl Layer {
         self.masks.numbers[i]
     }
 
-    /// The place of `mask`, counted from 0, among the layer's masks in rising order. None if the
-    /// layer doesn't have it.
+    /// The place of `mask` by rising mask. None if the layer doesn't have it.
     pub fn position(&self, mask: Mask) -> Option<usize>
         ensures found { IfSome result (λ i. slice_get (masks_of self.now) i ≡ Some mask) }
         ensures none { IsNone result ↔ IsFalse (has (masks_of self.now) mask) }
@@ -168,16 +160,13 @@ impl Layer {
         self.masks.position(mask)
     }
 
-    /// The number of blocks of the layer.
     pub fn blocks(&self) -> usize
         ensures { result ≡ length (blocks_of self.now) }
     {
         self.lows.numbers.len()
     }
 
-    /// The place of the block that has the mask at place `i` of the layer. Places are counted from
-    /// 0; masks are in rising order, and blocks in that of their low bytes. Requires `i` to be
-    /// below the number of masks.
+    /// The place, by rising low byte, of the block that has the mask at place `i` of the layer.
     pub fn block_place(&self, i: usize) -> usize
         requires { i < length (masks_of self.now) }
         ensures place { result ≡ block_place self.now i }
@@ -187,8 +176,7 @@ impl Layer {
         self.lows.places[low as usize] as usize
     }
 
-    /// The block at place `i`, counted from 0. Blocks are arranged by rising low byte. Requires `i`
-    /// to be below the number of blocks.
+    /// The block at place `i`, counted from 0, by rising low byte.
     pub fn block(&self, i: usize) -> Block
         requires { i < length (blocks_of self.now) }
         ensures { slice_get (blocks_of self.now) i ≡ Some result }
@@ -200,9 +188,7 @@ impl Layer {
 impl Block {
     ghost use Rattle.subset_layers.specs.Layers.{block_of, block_masks};
 
-    /// The block of the sets that have `size` members, all of them below `inputs`, and whose masks
-    /// have the low byte `low`. Requires `inputs` to be at most 16, and `low` to be below 256 and
-    /// below `2^inputs`.
+    /// The block of the sets of `size` members below `inputs` whose masks have the low byte `low`.
     fn with_low(inputs: u8, size: u8, low: u16) -> Block
         requires inputs { inputs ≤ 16 }
         requires low { low < 256 }
@@ -258,8 +244,7 @@ impl Block {
         &self.masks[..self.count]
     }
 
-    /// The mask at place `i`, counted from 0, of the block's masks in rising order. Requires `i` to
-    /// be below the number of masks.
+    /// The mask at place `i`, counted from 0, of the block's masks in rising order.
     pub fn mask(&self, i: usize) -> Mask
         requires { i < length (block_masks self.now) }
         ensures { slice_get (block_masks self.now) i ≡ Some result }

@@ -9,4 +9,4 @@ mod selection;
 
 pub use costs::{Cell, Costs};
 pub use layers::{Block, Layer};
-pub use recurrence::{cell_from, least_cell};
+pub use recurrence::least_cell;

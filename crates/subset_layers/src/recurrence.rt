@@ -11,7 +11,7 @@ ghost use Rattle.subset_layers.specs.Sums.{IsBest};
 use crate::costs::{Cell, Costs};
 use order_model::{LowerBounds, Mask, Pairs, VarIx, WidthRow, next_member};
 
-/// The cost of a set without its member `variable` plus this member's width.
+/// The cost of a set without its member `variable`, plus this member's width.
 #[derive(Clone, Copy)]
 struct Sum {
     sum: u64,
@@ -31,9 +31,7 @@ fn smaller(best: Option<Sum>, next: Sum) -> Sum
 }
 
 /// The least sum `below[x] + widths[x]` over the members x of the set `mask` with `below[x]` at
-/// most `bound`, and the smallest x that gives it. `below[x]` is the cost of the set without x, and
-/// `widths[x]` the width of x over that smaller set. None if there is no such member. Requires the
-/// members to be below `inputs`, which is at most 16.
+/// most `bound`, and the smallest x that gives it; None if there is none.
 fn best_sum(mask: Mask, inputs: u8, below: &[u32; 16], widths: &WidthRow, bound: u32) -> Option<Sum>
     requires few { inputs ≤ 16 }
     requires within { mask < 2 ^ inputs }
@@ -56,8 +54,7 @@ fn best_sum(mask: Mask, inputs: u8, below: &[u32; 16], widths: &WidthRow, bound:
     best
 }
 
-/// The cell of the set `mask` if it is pruned: its cost is `bound` plus 1, and its variable the
-/// smallest member. Requires the set not to be empty, and `bound` to be less than 2^32 - 1.
+/// The cell of the set `mask` if it is pruned.
 fn clipped_cell(mask: Mask, bound: u32) -> Cell
     requires some { 0 < mask }
     requires room { bound + 1 < 2 ^ 32 }
@@ -69,11 +66,10 @@ fn clipped_cell(mask: Mask, bound: u32) -> Cell
     }
 }
 
-/// The cell of the set `mask`, which is lawful and not empty: the least sum `below[x] + widths[x]`
-/// over its members x, and the smallest x that gives it. `below[x]` is the cost of the set without
-/// x, and `widths[x]` the width of x over the other members. If the sum plus the lower bound on the
-/// nodes above, by `lower_bounds`, exceeds `bound`, the cell has `bound` plus 1 and the smallest
-/// member. Requires `bound` to be less than 2^32 - 1. `inputs` is the number of variables.
+/// The cell of the lawful set `mask`: the least sum `below[x] + widths[x]` over its members x, and
+/// the smallest x that gives it. `below[x]` is the cost of the set without x, and `widths[x]` the
+/// width of x over the other members. If the sum plus the lower bound on the nodes above exceeds
+/// `bound`, the set is pruned.
 fn lawful_cell(
     mask: Mask,
     inputs: u8,
@@ -107,37 +103,7 @@ fn lawful_cell(
     }
 }
 
-/// The cell of the nonempty set `mask`: the least sum `below[x] + widths[x]` over its members x,
-/// and the smallest x that gives it. `below[x]` is the cost of the set without x, and `widths[x]`
-/// the width of x over the other members. If the set isn't lawful by `pairs`, or the sum plus the
-/// lower bound on the nodes above, by `lower_bounds`, exceeds `bound` (less than 2^32 - 1), the
-/// cell has `bound` plus 1 and the smallest member. If `lower_bounds` goes by variables,
-/// `widths[x]` isn't read where `below[x]` exceeds `bound`.
-pub fn cell_from(
-    mask: Mask,
-    below: &[u32; 16],
-    widths: &WidthRow,
-    bound: u32,
-    lower_bounds: &LowerBounds<'_>,
-    pairs: &Pairs,
-) -> Cell
-    requires some { 0 < mask }
-    requires within { mask < 2 ^ lower_bounds.now.problem.inputs }
-    requires inputs { pairs.now.inputs ≡ lower_bounds.now.problem.inputs }
-    requires room { bound + 1 < 2 ^ 32 }
-    ensures { IsCellFrom lower_bounds.now pairs.now.pairs bound mask below.now widths.now
-        (as_pair result) }
-{
-    let inputs = pairs.inputs();
-    if pairs.lawful(mask) {
-        lawful_cell(mask, inputs, below, widths, bound, lower_bounds)
-    } else {
-        clipped_cell(mask, bound)
-    }
-}
-
-/// The costs of the set `mask` without one member: entry x is the cost without member x, or 0 if x
-/// is not a member. Requires `costs` to be those of the layer whose sets have one member less.
+/// At each member x of the set `mask` the cost of the set without x.
 fn costs_below(mask: Mask, costs: &Costs) -> [u32; 16]
     requires { IsTrue (has (masks_of (layer_with costs.now.inputs (costs.now.size + 1))) mask) }
     ensures { (x : ℕ) → IsTrue (has (members costs.now.inputs mask) x) →
@@ -153,11 +119,8 @@ fn costs_below(mask: Mask, costs: &Costs) -> [u32; 16]
     below
 }
 
-/// The cell of the set `mask`: its least cost, and the smallest variable that gives this cost on
-/// top. `costs` has to be of the sets with one member less, and `widths[x]` is the width of x over
-/// the other members. If the set isn't lawful by `pairs`, or the least cost plus the lower bound on
-/// the nodes above, by `lower_bounds`, exceeds `bound` (less than 2^32 - 1), the cell has `bound`
-/// plus 1 and the smallest member. If `lower_bounds` goes by variables, `widths[x]` isn't read
+/// The cell of the set `mask`, by the costs of the sets with one member less, and the widths of its
+/// members over the others. A set that isn't lawful is pruned. By variables `widths[x]` isn't read
 /// where the cost without x exceeds `bound`.
 pub fn least_cell(
     mask: Mask,
@@ -176,5 +139,10 @@ pub fn least_cell(
         (as_pair result) }
 {
     let below = costs_below(mask, costs);
-    cell_from(mask, &below, widths, bound, lower_bounds, pairs)
+    let inputs = pairs.inputs();
+    if pairs.lawful(mask) {
+        lawful_cell(mask, inputs, &below, widths, bound, lower_bounds)
+    } else {
+        clipped_cell(mask, bound)
+    }
 }

@@ -10,8 +10,7 @@ use std::alloc::{AllocError, Global};
 pub(crate) struct Selection {
     /// The chosen numbers, rising.
     pub numbers: Vec<u16>,
-    /// Entry k: the place of k in `numbers`, counted from 0, if k is chosen. Other entries have no
-    /// meaning.
+    /// Entry k: the place of k in `numbers`, if k is chosen.
     pub places: Vec<u16>,
     ghost placed: { ArePlaced numbers.items places.items },
 }
@@ -19,8 +18,7 @@ pub(crate) struct Selection {
 impl Selection {
     ghost use Rattle.subset_layers.specs.Selections.{chosen};
 
-    /// The numbers k for which `flags[k]` is true, rising, with the table of their places. Requires
-    /// at most 2^16 flags.
+    /// The numbers k for which `flags[k]` is true, rising.
     pub fn of(alloc: Global, flags: &[bool]) -> Result<Selection, AllocError>
         requires { length flags.now ≤ 2 ^ 16 }
         ensures { IfOk result (λ s. s.numbers.items ≡ chosen flags.now) }
@@ -36,7 +34,6 @@ impl Selection {
         Ok(Selection { numbers, places })
     }
 
-    /// A copy of the selection.
     pub fn try_clone(&self, alloc: Global) -> Result<Selection, AllocError>
         ensures { IfOk result (λ s. s.numbers.items ≡ self.now.numbers.items) }
     {
@@ -46,8 +43,7 @@ impl Selection {
         })
     }
 
-    /// The place of `number`, counted from 0, among the chosen numbers in rising order. None if it
-    /// isn't chosen.
+    /// The place of `number` in `numbers`. None if it isn't chosen.
     pub fn position(&self, number: u16) -> Option<usize>
         ensures found { IfSome result (λ i. slice_get self.now.numbers.items i ≡ Some number) }
         ensures none { IsNone result → (i : ℕ) → i < length self.now.numbers.items →

@@ -1,6 +1,6 @@
 use Rattle.std.proofs.Common.{map, length, ap, ◌∙◌, arith}
 use Rattle.std.proofs.lemmas.Option.{slice_get_read}
-use Rattle.subset_layers.specs.Layers.{layer_with, masks_of}
+use Rattle.subset_layers.specs.Layers.{masks_of}
 use Rattle.layer_core.specs.Instances.{cell_for}
 use Rattle.layer_work.specs.LayerContexts.{ContextOf}
 use Rattle.layer_core.proofs.CellPlaces.{layer_is}
@@ -11,10 +11,8 @@ new-context-requires-clause-context g c = grind (arith, slice_get_read)
 
 pub returns : goal.returns
 returns g c =
-    let t = c.args.instance.now in
-    let size = length c.args.done.now in
-    layer_is t size c.in_ok-layer.layer c.in_ok-cells.cells.items c.of-2.result
-    (c.in_ok-layer.ensures ∙ ap (λ n. layer_with n size) c.inputs.ensures.value) c.of-2.ensures.value
+    layer_is c.args.instance.now (length c.args.done.now) c.args.needs.layer c.in_ok-cells.cells.items c.of.result
+    c.requires.layer c.of.ensures.value
     (c.in_ok-cells.ensures
     ∙ ap (λ (b : ContextOf). map (cell_for b.instance) (masks_of b.layer)) c.new-context.ensures)
-    c.of-2.ensures.exact
+    c.of.ensures.exact

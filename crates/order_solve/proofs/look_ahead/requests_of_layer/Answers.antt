@@ -1,16 +1,10 @@
-use Rattle.std.proofs.Common.{sym, ap, ◌∙◌, arith}
-use Rattle.std.proofs.lemmas.Option.{slice_get_read}
-use Rattle.layer_work.specs.LayerContexts.{ContextOf}
-use Rattle.layer_core.proofs.BlockPlaces.{block_layer}
+use Rattle.std.proofs.Common.{ℕ, ◌^◌, ◌<◌, subst}
+use Rattle.subset_layers.specs.Layers.{masks_of}
+use Rattle.subset_layers.proofs.BlockLists.{has_masks, has_slice_get}
 use Rattle.order_solve.proofs.look_ahead.requests_of_layer.Goals as goal
 
-pub new-context-requires-clause-context : goal.new-context-requires-clause-context
-new-context-requires-clause-context c = grind (arith, slice_get_read)
-
-pub add_needs-requires-clause-layer : goal.add_needs-requires-clause-layer
-add_needs-requires-clause-layer c = block_layer c.in_ok-layer.layer c.loop-place.place c.block-block.result c.block-block.ensures
-    ∙ ap (λ (z : ContextOf). z.layer) (sym c.new-context.ensures)
-
-pub is_found-requires-clause-layer : goal.is_found-requires-clause-layer
-is_found-requires-clause-layer c = block_layer c.in_ok-layer.layer c.loop-place.place c.block-block.result c.block-block.ensures
-    ∙ ap (λ (z : ContextOf). z.layer) (sym c.new-context.ensures)
+pub image_of-image-requires : goal.image_of-image-requires
+image_of-image-requires c =
+    let l = c.args.needs.now.layer in
+    subst (λ (n : ℕ). c.mask_at.result < 2 ^ n) c.requires.inputs
+    (has_masks l.inputs l.size c.mask_at.result (has_slice_get (masks_of l) c.loop-place.place c.mask_at.result c.mask_at.ensures)).0

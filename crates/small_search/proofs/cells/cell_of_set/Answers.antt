@@ -1,8 +1,6 @@
-use Rattle.std.proofs.Common.{suc, inl, inr, ◌∷◌, eqb, refl, Option, Some, None, IsTrue, ◌≡◌, ℕ, ◌+◌, ◌-◌, ◌*◌, ◌%◌, ◌^◌, ◌<◌, ◌≤◌, true, count_ones, length, get_or, set, sym, ap, ◌∙◌, subst, arith, w16}
-use Rattle.definitions.proofs.Bits.LowerBounds.{members_gap}
+use Rattle.std.proofs.Common.{inl, inr, refl, Option, Some, None, IsTrue, ◌≡◌, ℕ, ◌+◌, ◌-◌, ◌*◌, ◌%◌, ◌^◌, ◌<◌, ◌≤◌, true, count_ones, length, get_or, sym, ap, ◌∙◌, subst, arith, w16}
 use Rattle.definitions.proofs.Bits.Ones.{ones-members}
 use Rattle.definitions.proofs.Precedence.MaskLaws.{member_bit}
-use Rattle.definitions.proofs.Precedence.Masks.{bit_inside}
 use Rattle.definitions.specs.LowerBounds.{nodes_above}
 use Rattle.definitions.specs.Orders.{has, members}
 use Rattle.definitions.specs.Orders.{members}
@@ -12,24 +10,20 @@ use Rattle.layer_core.specs.Pairing.{no_cell}
 use Rattle.small_search.proofs.MemberPlaces.{counted, members_next, members_none, next_stands}
 use Rattle.definitions.specs.Pairs.{is_lawful}
 use Rattle.small_search.specs.Searches.{IsPlainSearch}
-use Rattle.small_search.specs.Occurrences.{AreOf, CanBeCounted, IsAtPlace}
-use Rattle.small_search.specs.declared.width_counts.Subfunctions.TheVariants.{Values, Classes}
-use Rattle.small_search.specs.declared.width_counts.Subfunctions.{Subfunctions}
+use Rattle.small_search.specs.Occurrences.{IsAtPlace}
 use Rattle.std.proofs.lemmas.Bool.{cases_lt}
 use Rattle.std.proofs.lemmas.Bool.{true≢false}
-use Rattle.std.proofs.lemmas.List.{length-append}
 use Rattle.std.proofs.lemmas.Nat.Bits.{shr_and_one}
 use Rattle.std.proofs.lemmas.Nat.{one_shl, pow_pos}
 use Rattle.std.proofs.lemmas.Nat.{ones-le}
-use Rattle.std.specs.Int.{bit_at}
-use Rattle.std.specs.List.{filter, range_with_len}
-use Rattle.subfunction_classes.specs.Table.{ClassesOf, classes_of, set_of}
+use Rattle.subfunction_classes.specs.Table.{classes_of}
 use Rattle.subset_layers.proofs.CellSteps.{cell_clipped, cell_found, first_has_mask, first_member}
 use Rattle.subset_layers.proofs.CostLists.{member_from_bit}
 use Rattle.subset_layers.specs.declared.costs.Cell.{Cell}
+use Rattle.solutions.proofs.FlatLists.{first_cost}
 use Rattle.std.specs.Int.{trailing_zeros}
 use Rattle.definitions.specs.Cells.{AreForCell, first_of}
-use Rattle.small_search.proofs.CellRows.{IsBestBelow, IsKept, best_all, best_gap, best_skipped, cost_at, few_above, few_sum, kept_next, cost_without, width_without}
+use Rattle.small_search.proofs.CellRows.{IsBestBelow, IsKept, best_all, best_gap, best_skipped, few_above, few_sum, kept_next, cost_without, width_without}
 use Rattle.layer_core.specs.Pairing.{pair_of}
 use Rattle.small_search.proofs.cells.cell_of_set.Goals as goal
 use Rattle.small_search.proofs.cells.cell_of_set.Goals.{then-below-le-NO_BOUND+then-cost-best, then-below-le-NO_BOUND+else-cost-best, else-below-le-NO_BOUND}
@@ -76,7 +70,7 @@ loop-x-preserved c =
     let some = c.requires.some in
     let cells = c.args.cells.now in
     let S : ℕ → Type 0 = λ y. IsTrue (has (members n mask) y) in
-    let cost_is = cost_at t mask cells c.requires.cells (mask - 2 ^ x) (omega (arith, p, some)) in
+    let cost_is = first_cost t mask cells c.requires.cells.first (mask - 2 ^ x) no_cell (omega (arith, p, some)) in
     let cost : (get_or cells (mask - 1 * 2 ^ x % 65536) no_cell).cost ≡ cost_without t mask x =
     ap (λ k. (get_or cells (mask - k) no_cell).cost) shift ∙ cost_is in
     let bound = c.inputs.ensures.plain.bound_is in

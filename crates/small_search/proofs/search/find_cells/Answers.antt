@@ -1,13 +1,14 @@
 use Rattle.std.proofs.Common.{◌≡◌, ℕ, ◌+◌, ◌-◌, ◌*◌, ◌%◌, ◌^◌, ◌≤◌, true, refl, inl, inr, List, [], ◌∷◌, ◌++◌, sym, ap, ◌∙◌, subst, arith, pow_mono}
 use Rattle.std.proofs.lemmas.Bool.{cases_lt}
-use Rattle.std.proofs.lemmas.List.{length-append, get_or_append_left, get_or_push}
+use Rattle.std.proofs.lemmas.List.{get_or_append_left, get_or_push}
 use Rattle.std.proofs.lemmas.Nat.{one_shl, pow_pos}
 use Rattle.definitions.specs.Orders.{members}
 use Rattle.definitions.specs.Pairs.{Pair, is_lawful}
 use Rattle.subset_layers.specs.declared.costs.Cell.{Cell}
 use Rattle.layer_core.specs.Pairing.{no_cell, pair_of}
 use Rattle.layer_core.specs.Instances.{InstanceOf, cell_for}
-use Rattle.small_search.specs.FirstCells.{AreFirstCells, IsFew}
+use Rattle.solutions.proofs.FlatLists.{first_more}
+use Rattle.small_search.specs.FirstCells.{AreFewCells, IsFew}
 use Rattle.small_search.specs.Paths.{HoldPath}
 use Rattle.small_search.proofs.search.find_cells.Goals as goal
 use Rattle.small_search.proofs.search.find_cells.Goals.{then-all_lawful, else-all_lawful}
@@ -42,25 +43,17 @@ cell_of_set-cell-requires-clause-lawful c =
     ]
 
 -- one cell more
-cells_more : (t : InstanceOf) (number : ℕ) (cells : List Cell) (cell : Cell) → 1 ≤ number → AreFirstCells t number cells → pair_of cell ≡ cell_for t number →
-    IsFew t number cell.cost → AreFirstCells t (number + 1) (cells ++ cell ∷ [])
+cells_more : (t : InstanceOf) (number : ℕ) (cells : List Cell) (cell : Cell) → 1 ≤ number → AreFewCells t number cells → pair_of cell ≡ cell_for t number →
+    IsFew t number cell.cost → AreFewCells t (number + 1) (cells ++ cell ∷ [])
 cells_more t number cells cell some h is few = record {
-  many = (let l = length-append cells (cell ∷ []) in let m = h.many in omega (arith, l, m));
-  none = ap (λ (c : Cell). c.cost) (get_or_append_left cells (cell ∷ []) no_cell 0 (let m = h.many in omega (arith, m, some))) ∙ h.none;
-  each = λ mask low lt.
-      elim (cases_lt mask number) [
-        | inl old ↦ ap pair_of (get_or_append_left cells (cell ∷ []) no_cell mask (let m = h.many in omega (arith, m, old))) ∙ h.each mask low old
-        | inr new ↦
-            let e : mask ≡ number = omega (arith, new, lt) in
-            ap pair_of (get_or_push cells cell no_cell mask (let m = h.many in omega (arith, m, e))) ∙ is ∙ ap (cell_for t) (sym e)
-      ];
+  first = first_more t number cells h.first cell some is;
   few = λ mask lt.
+      let m = h.first.many in
       elim (cases_lt mask number) [
-        | inl old ↦ subst (λ (u : Cell). IsFew t mask u.cost)
-            (sym (get_or_append_left cells (cell ∷ []) no_cell mask (let m = h.many in omega (arith, m, old)))) (h.few mask old)
+        | inl old ↦ subst (λ (u : Cell). IsFew t mask u.cost) (sym (get_or_append_left cells (cell ∷ []) no_cell mask (omega (arith, m, old)))) (h.few mask old)
         | inr new ↦
             let e : mask ≡ number = omega (arith, new, lt) in
-            subst (λ (u : Cell). IsFew t mask u.cost) (sym (get_or_push cells cell no_cell mask (let m = h.many in omega (arith, m, e))))
+            subst (λ (u : Cell). IsFew t mask u.cost) (sym (get_or_push cells cell no_cell mask (omega (arith, m, e))))
             (subst (λ (k : ℕ). IsFew t k cell.cost) (sym e) few)
       ];
 }
@@ -70,15 +63,15 @@ loop-number-preserved c =
     let t = c.args.search.now in
     let number = c.loop-number.number in
     let h = c.cell_of_set-cell.ensures in
-    let more = cells_more t number c.loop-number.cells.items c.cell_of_set-cell.result c.loop-number.auto.number c.loop-number.invariant.first h.cell h.few in
+    let more = cells_more t number c.loop-number.cells.items c.cell_of_set-cell.result c.loop-number.auto.number c.loop-number.invariant.cells h.cell h.few in
     record {
       path = subst (λ (k : ℕ). HoldPath t.problem k c.add_lowest.new.self) (let e : number ≡ number + 1 - 1 = omega arith in e) c.in_ok-add_lowest.ensures;
-      first = subst (λ (us : List Cell). AreFirstCells t (number + 1) us) (sym c.in_ok-push-2.ensures.items) more;
+      cells = subst (λ (us : List Cell). AreFewCells t (number + 1) us) (sym c.in_ok-push-2.ensures.items) more;
     }
 
 pub returns : goal.returns
 returns c =
-    let h = c.loop-number.invariant.first in
+    let h = c.loop-number.invariant.cells.first in
     let i = c.inputs.ensures in
     let s = sets_are _ _ i.value i.few in
     let f = c.loop-number-test.false in
