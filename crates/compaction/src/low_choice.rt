@@ -4,12 +4,9 @@
 ghost use Rattle.std.specs.Prelude.{◌≡◌, ◌<◌, ◌≤◌, IfOk};
 
 use order_model::packed::lower_half;
-use order_model::{Mask, Problem, VarIx};
+use order_model::{HASH_MULTIPLIER, Mask, Problem, VarIx};
 use std::alloc::{AllocError, Global};
 use symmetries::Renaming;
-
-/// The factor of Fibonacci hashing: 2^64 divided by the golden ratio, rounded down.
-const SPREAD: u64 = 0x9E37_79B9_7F4A_7C15;
 
 /// The most exchanges of two variables that are made.
 const MOST_CHANGES: u8 = 8;
@@ -20,7 +17,7 @@ const FEW_STRIPS: u32 = 16;
 
 /// The hash of `hash` and `word`.
 fn mixed(hash: u64, word: u64) -> u64 {
-    let product = (hash ^ word).wrapping_mul(SPREAD);
+    let product = (hash ^ word).wrapping_mul(HASH_MULTIPLIER);
     product ^ (product >> 29)
 }
 
