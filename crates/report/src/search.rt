@@ -205,13 +205,19 @@ pub(crate) fn search<R: Threads + Sync>(
         bound,
     } = sifting;
     let workers = instance.workers;
-    let best = if instance.certify {
-        Best::of(solve(rt, alloc, start, bound, workers, &NoGate)?)
-    } else {
-        Best {
-            optimum: find_optimum(rt, alloc, start, bound, workers, &NoGate)?,
-            cells: None,
-        }
+    if instance.certify {
+        let solution = solve(rt, alloc, start, bound, workers, &NoGate)?;
+        return Ok(Found {
+            best: Best::of(solution),
+            sifted,
+            sifted_size: size,
+            file_size,
+        });
+    }
+    let optimum = find_optimum(rt, alloc, start, bound, workers, &NoGate)?;
+    let best = Best {
+        optimum,
+        cells: None,
     };
     Ok(Found {
         best,
