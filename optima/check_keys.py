@@ -1,5 +1,5 @@
 """The page by the keyboard alone, and by addresses that say what it shows."""
-from page_browser import OPTIMA, Opened
+from page_browser import OPTIMA, Opened, sizes
 
 TABLES = ("league", "functions", "families")
 
@@ -78,7 +78,7 @@ class Keyboard(Opened):
         for name, column in zip(TABLES, ("Mean ratio, random orders", "Name", "Family")):
             marked = self.all(f"#{name}-table thead th[aria-sort]")
             self.assertEqual([(it.text, it.get_attribute("aria-sort")) for it in marked], [(column, "ascending")])
-        self.drop_in("mine.csv", "hwb8,55\n")
+        self.drop_in("mine.csv", sizes("hwb8,55"))
         for link in ("", "#hwb8"):
             self.open(link)
             for tags in self.driver.execute_script("""

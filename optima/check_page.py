@@ -14,7 +14,7 @@ from check_keys import Address, Keyboard  # noqa: F401
 from check_results import Results  # noqa: F401
 from minorder import benchmarks
 from minorder.benchmarks import fixed
-from page_browser import FILE, OPTIMA, RANDOM, SIFT, Opened
+from page_browser import FILE, OPTIMA, RANDOM, SIFT, Opened, sizes
 
 ORDERS = benchmarks.all_orders()
 
@@ -269,7 +269,7 @@ class Narrow(Opened):
                 return [document.getElementById("file").getBoundingClientRect().right,
                     box.getBoundingClientRect().right - parseFloat(style.paddingRight) - parseFloat(style.borderRightWidth)];""")
             self.assertLessEqual(within, edge)
-            self.drop_in("a-long-name-of-a-method-of-mine.csv", "hwb8,55\n")
+            self.drop_in("a-long-name-of-a-method-of-mine.csv", sizes("hwb8,55"))
 
 
 class Plain(Opened):

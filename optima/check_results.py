@@ -1,10 +1,10 @@
 """Files of results in the page, and what it says of them."""
 import tempfile
 
-from page_browser import FILE, OPTIMA, SIFT, Opened
+from page_browser import FILE, OPTIMA, SIFT, Opened, sizes
 from minorder import _score_texts, benchmarks
 from minorder._counting import counted
-from minorder._results import read_results
+from minorder._results import BadResults, read_results
 from minorder._scores import scores_of
 from minorder.benchmarks import fixed
 
@@ -59,7 +59,7 @@ class Results(Opened):
         return [sorted(place) for place in places]
 
     def test_methods_are_told_apart_named_and_taken_off(self):
-        self.drop_in("one.csv", "hwb8,55\n", "CUDD SIFT.csv", "hwb8,44\n", "one.csv", "hwb8,50\n")
+        self.drop_in("one.csv", sizes("hwb8,55"), "CUDD SIFT.csv", sizes("hwb8,44"), "one.csv", sizes("hwb8,50"))
         self.assertEqual(self.names_everywhere(), [["CUDD SIFT 2", "one", "one 2"]] * 5)
         dashes = self.driver.execute_script(
             "return [...document.querySelectorAll('.curve.yours')].map(it => it.getAttribute('stroke-dasharray'))")
@@ -79,7 +79,8 @@ class Results(Opened):
         self.assertEqual(self.texts("#function tr.yours td:nth-child(2)"), ["50 claimed", "55 claimed"])
 
     def test_the_browser_keeps_them(self):
-        self.drop_in("one.csv", "hwb8,55\nlife,late\nhwb8,50\n", "two.csv", "name,nodes,start\nhwb8,44,3\nhwb8,44,file\n")
+        starts = "name,nodes,start\nhwb8,44,3\nhwb8,44,file\n"
+        self.drop_in("one.csv", sizes("hwb8,55", "life,late", "hwb8,50"), "two.csv", starts)
         rows = [self.own_rows(column) for column in range(2, 11)]
         self.driver.refresh()
         self.assertEqual(self.names_everywhere(), [["one", "two"]] * 5)
@@ -90,7 +91,7 @@ class Results(Opened):
         self.driver.switch_to.new_window("window")
         self.open()
         self.assertEqual(self.names_everywhere(), [["two"]] * 5)
-        self.drop_in("three.csv", "hwb8,44\n")
+        self.drop_in("three.csv", sizes("hwb8,44"))
         self.driver.close()
         self.driver.switch_to.window(first)
         self.until(lambda: self.names_everywhere() == [["three", "two"]] * 5)
@@ -100,7 +101,7 @@ class Results(Opened):
         self.assertEqual(self.names_everywhere(), [[]] * 5)
 
     def test_a_large_file(self):
-        said = self.drop_in("large.csv", "hwb8,55\nhwb8,44\n" * 200_000)
+        said = self.drop_in("large.csv", sizes(*["hwb8,55", "hwb8,44"] * 200_000))
         self.assertIn("and by 50 % of the runs.", said)
         self.driver.execute_script(
             "takeFiles([{name: 'folder', size: 4096, arrayBuffer: async () => { throw new Error('no file'); }}])")
@@ -119,7 +120,7 @@ class Results(Opened):
             said = self.drop_in(f"{many}.csv", "\n".join(["name,nodes,start", *["hwb8,44,1"] * many, *others]))
             self.assertIn("functions, and by 10 % of the runs.", said)
         self.assertEqual(self.own_rows(10), {"1": "10 %", "991": "10 %"})
-        said = self.drop_in("file.csv", "\n".join(["name,nodes", "hwb8,55", *["mux2,3"] * 2000]))
+        said = self.drop_in("file.csv", sizes("hwb8,55", *["mux2,3"] * 2000))
         self.assertIn("functions, and by 50 % of the runs.", said)
 
     def test_seconds_are_of_what_ended(self):
@@ -128,10 +129,10 @@ class Results(Opened):
 
     def test_what_a_browser_does_not_keep(self):
         self.driver.execute_script("Object.defineProperty(window, 'localStorage', {get() { throw new Error('denied'); }});")
-        self.assertIn("This browser doesn't keep it", self.drop_in("one.csv", "hwb8,55\n"))
+        self.assertIn("This browser doesn't keep it", self.drop_in("one.csv", sizes("hwb8,55")))
         self.open()
         refused = ["old, which this browser kept, is refused"]
-        for text, said in (("[", []), ("7", []), ('[{"name": "old", "text": "hwb8,43"}]', refused)):
+        for text, said in (("[", []), ("7", []), ('[{"name": "old", "text": "name,nodes\\nhwb8,43"}]', refused)):
             self.driver.execute_script("localStorage.setItem(STORE, arguments[0])", text)
             self.driver.refresh()
             self.assertEqual([it.split(":")[0] for it in self.texts("#said")], said)
@@ -182,42 +183,74 @@ class Results(Opened):
     def test_names_that_would_mislead(self):
         names = ["<img src=x onerror=document.title='no'>.csv", "cudd  sift.csv", "\uff23\uff35\uff24\uff24 SIFT.csv",
                  "a\u202eb\x07c.csv"]
-        self.drop_in(*(part for i, name in enumerate(names) for part in (name, f"hwb8,{50 + i}\n")))
+        self.drop_in(*(part for i, name in enumerate(names) for part in (name, sizes(f"hwb8,{50 + i}"))))
         wanted = ["<img src=x onerror=document.title='no'>", "cudd sift 2", "\uff23\uff35\uff24\uff24 SIFT 3", "abc"]
         self.assertEqual(self.names_everywhere(), [sorted(wanted)] * 5)
         self.assertEqual((self.all("main img"), self.driver.title), ([], "True optima: the fewest BDD nodes of 256 functions"))
 
     def test_files_are_dropped(self):
-        said = self.drop_in("dropped.csv", "hwb8,55\nlife,26\n")
+        said = self.drop_in("dropped.csv", sizes("hwb8,55", "life,26"))
         self.assertIn("dropped (2 sizes claimed: nobody counted them), from the file's order: place ", said)
         self.assertIn(" (a late or missing one counts as the worst ratio that the league or the start has there, and none as "
                       "more than that); of what ended 1.118 on 2 functions; 0 late, 254 missing; worst ratio 1.25 (hwb8), of the "
                       "runs that ended; optimum met in 1 of 256 functions, and by 50 % of the runs.", said)
-        said = self.drop_in("one.csv", "hwb8,55\n", "two.csv", "hwx8,55\n", "three.csv", "life,26\n")
-        for text in ("one (1 size claimed", "two.csv is refused:\nline 1: no function is named hwx8", "three (1 size claimed"):
+        said = self.drop_in("one.csv", sizes("hwb8,55"), "two.csv", sizes("hwx8,55"), "three.csv", sizes("life,26"))
+        for text in ("one (1 size claimed", "two.csv is refused:\nline 2: no function is named hwx8", "three (1 size claimed"):
             self.assertIn(text, said)
 
     def test_what_is_said_stands_at_the_edge_of_the_window(self):
         for link in ("", "#families", "#yours", "#about", "#hwb8", "#sn74181"):
             self.open(link)
-            for text in ("hwb8,44\n", "hwb8,43\n"):
-                said = self.drop_in("mine.csv", text)
-                self.assertIn("mine.csv is refused" if "43" in text else "mine", said)
+            for line in ("hwb8,44", "hwb8,43"):
+                said = self.drop_in("mine.csv", sizes(line))
+                self.assertIn("mine.csv is refused" if "43" in line else "mine", said)
                 place = self.driver.execute_script("""
                     const box = document.getElementById("said").getBoundingClientRect(), x = box.left + 5, y = box.top + 5;
                     return [box.top, box.bottom, innerHeight, document.elementFromPoint(x, y).id];""")
                 self.assertTrue(0 <= place[0] < place[1] <= place[2] and place[3] == "said", place)
             self.one("#message button").click()
             self.assertEqual(self.all("#said"), [])
-            self.drop_in("mine.csv", "hwb8,43\n")
+            self.drop_in("mine.csv", sizes("hwb8,43"))
             self.press_keys("escape")
             self.assertEqual(self.all("#said"), [])
 
     def test_files_of_other_makes_are_read(self):
         for text in ("\ufeff\r\n\r\nname;nodes\rhwb8;55\rlife;26\r", "name\tnodes\tstart\r\nhwb8\t55\t\r\nlife\t26\tfile",
-                     '"name" , "nodes"\n"hwb8", 55\n life,"26"\n'):
+                     '\ufeff"name", "nodes",note\n"hwb8", 55,"two\r\nlines, a "" and a ;"\n,,\n life,"26"\n'):
             self.assertIn("of what ended 1.118 on 2 functions", self.drop_in("dropped.csv", text))
             self.press(self.one("#own button"))
+
+    def score_says(self, text):
+        """Why the score refuses a text; nothing if it takes it."""
+        try:
+            read_results(text)
+            return ""
+        except BadResults as error:
+            return str(error)
+
+    def test_rows_are_refused_in_the_words_of_the_score(self):
+        heads = ("", "\n\n", "hwb5,14\n", ",7\n", "x" * 200_000, "\0\1\x7f\n", "name\nhwb4\n", "\n \nname,size\nhwb4,7\n",
+                 "order\n0 1\n", "name;nodes;Name\n", "\x85\nname,nodes\n", "name\xa0,nodes\n", "name,nodes\n\n ,\t\n")
+        rows = ("mux2,2,0,1\n", '"hwb4" ,7\n', 'hwb4,7\n"life\n\n"x,26\n', 'hwb4,"7', '\nhwb4,"7""\n\n', ' "hwb4\n', ",7\n")
+        for text in (*heads, *(f"name,nodes\n{row}" for row in rows)):
+            said = self.score_says(text)
+            self.assertNotEqual(said, "")
+            self.assertEqual(self.drop_in("other.csv", text), f"other.csv is refused:\n{said}")
+
+    def test_the_score_takes_what_the_page_takes(self):
+        blanks = (" ", "\t", "\n", "\x0b", "\x1c", "\x85", "\xa0", "\u2003", "\u3000", "\ufeff")
+        cells = (f'"{blank}2 0 1","",file\nmux2,"2{blank}0 1{blank}","{blank}0.5",{start}' for blank in blanks
+                 for start in ("file", f'"file{blank}"'))
+        notes = ('two\nlines', 'a "" and a ,', "n" * 200_000, "")
+        texts = [*(f"name,order,seconds,start\nmux2,{cell}\n" for cell in cells),
+                 *(f'name,order,note\nmux2,2 0 1,"{note}"\nmux2,s a b\n' for note in notes),
+                 'my "; note,name,nodes\n,hwb4,7\n', '"my; note",name,nodes\n,hwb4,7\n', 'name;"my,\nnote";nodes\nhwb4;;7\n']
+        taken = 0
+        for number, text in enumerate(texts):
+            said, refused = self.drop_in(f"{number}.csv", text), self.score_says(text)
+            self.assertEqual("is refused" in said, refused != "", (text, said, refused))
+            taken += not refused
+        self.assertEqual(taken, 10)
 
     def texts_of_runs(self):
         """Runs as lines of CSV: all of CUDD's SIFT, the worst ones late, missing, and others."""
@@ -286,14 +319,14 @@ class Results(Opened):
                 ("name,order,nodes,claimed\nhwb4,0 1 2 3,7,1\nhwb4,,7,0\nhwb4,,7,2\n", "line 2: hwb4: claimed 1, but it has an "
                  "order, which is counted here\nline 3: hwb4: claimed 0, but a number of nodes without an order is a claim\n"
                  "line 4: hwb4: claimed 2: it is 0 or 1"),
-                ("name,size\nhwb4,7\n", "it has no column order or nodes"),
-                ("name,nodes,nodes\n", "the column nodes stands twice"), ('\ufeff[{"name": "hwb4"}]', "it is JSON"),
-                ("name,nodes\n\n", "there are no results"), ("", "there are no results"),
-                ("name,nodes\nhwb4,7,8\n", "line 2: more cells than columns"), (",7\n", "line 1: no function is named by an"),
+                ("name,nodes,nodes\n", "line 1: the column nodes stands twice"), ('\ufeff[{"name": "hwb4"}]', "it is JSON"),
+                ("name,nodes\n\n", "there are no results"), ("name,nodes\n,7\n", "line 2: no name"),
+                ("name,nodes\nhwb4,7,8\n", "line 2: more cells than columns"),
                 *((f"name,nodes,seconds\nhwb4,7,{it}\n", f"line 2: hwb4: seconds {it}: no number of seconds: decimal, from 0 to "
                    "1000000000") for it in ("soon", "1e308", "NaN", "Infinity", "-0", "-1", "0x1", "1_0", "1000000001")),
-                ("\0\1\x7f", "line 1: no function is named ???"),
+                ("name,nodes\n\0\1\x7f,7", "line 2: no function is named ???"),
                 ("name,nodes,order\nhwb4,late,0 1 2 3\nhwb4,7,late\n", "both late and 0 1 2 3\nline 3: hwb4: both late and 7"),
-                ("x" * 200_000, f"line 1: no function is named {'x' * 40}…"), ("hwx4,7\n" * 200_000, "and 199988 more")):
+                (sizes("x" * 200_000), f"line 2: no function is named {'x' * 40}…"),
+                (sizes(*["hwx4,7"] * 200_000), "and 199988 more")):
             self.assertIn(why, self.drop_in("other.csv", text))
         self.assertEqual(self.all(".yours td"), [])

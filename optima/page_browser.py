@@ -18,6 +18,11 @@ SIFT = ("CUDD", "SIFT")
 SECONDS = 20
 
 
+def sizes(*lines):
+    """Sizes alone as a text of CSV."""
+    return "\n".join(["name,nodes", *lines, ""])
+
+
 def browser(width=1400, height=1000, scripts=True):
     from selenium import webdriver
     from selenium.webdriver.chrome.options import Options

@@ -15,7 +15,8 @@ from minorder.benchmarks import fixed
 
 HERE = os.path.dirname(os.path.abspath(__file__))
 SCRIPTS = (
-    "data", "message", "tables", "filters", "keys", "curves", "orders", "function", "results", "count", "own_rows", "own", "link")
+    "data", "message", "tables", "filters", "keys", "curves", "orders", "function", "csv", "results", "count", "own_rows", "own",
+    "link")
 SHARED = "/usr/share/javascript"
 LIBRARIES = {
     "libjs-jquery": f"{SHARED}/jquery/jquery.min.js",

@@ -2,6 +2,7 @@
 // A file of results, `name,order` or `name,nodes`: read, and what is wrong with it.
 const MOST_BYTES = 20e6, MOST_FAULTS = 12, MOST_SECONDS = 1e9;
 const TAKEN = "minorder-score RESULTS --csv writes a file that this page takes";
+const NAMED = "name and order, or name and nodes; besides these seconds and start";
 const COLUMNS = ["name", "order", "nodes", "start", "claimed", "seconds"];
 // what the browser keeps: whether the nodes were counted here stands in place of an order
 const KEPT = ["name", "nodes", "start", "counted", "seconds"];
@@ -9,20 +10,6 @@ const DECIMAL = /^(\d+\.?\d*|\.\d+)(e[+-]?\d+)?$/i;
 
 /** A text of the reader's as far as a message has room for it. */
 const shortened = (text) => (text.length > 40 ? `${text.slice(0, 40)}…` : text).replace(/[\p{C}\ufffd]/gu, "?");
-
-/** The cells of a line, which a separator parts. */
-function cellsOf(line, separator) {
-  const cells = [], cell = new RegExp(`${separator} *(?:"((?:[^"]|"")*)" *(?=${separator}|$)|([^${separator}]*))`, "g");
-  for (const [, quoted, plain] of (separator + line).matchAll(cell))
-    cells.push(quoted === undefined ? plain.trim() : quoted.replaceAll('""', '"').trim());
-  return cells;
-}
-
-/** What parts the cells: the first comma, semicolon or tab in the line outside quotes. */
-function separatorOf(line) {
-  const found = line.replace(/"[^"]*"/g, "").match(/[,;\t]/);
-  return found ? found[0] : ",";
-}
 
 /** The start that a cell names; null if it names none. */
 function startOf(text) {
@@ -75,24 +62,27 @@ function faultOf({start, nodes, order, claimed, seconds}, it, isKept) {
   return fault || (order ? faultOfOrder(wordsOfOrder(order), it) : faultOfClaim(Number(nodes), it));
 }
 
-/** Of the columns that the first line names. */
-function faultOfHeads(heads) {
-  const twice = COLUMNS.find((it) => heads.indexOf(it) !== heads.lastIndexOf(it));
-  if (twice) return `the column ${twice} stands twice`;
-  return heads.includes("nodes") || heads.includes("order") ? "" : "it has no column order or nodes";
-}
-
 // ---- what is read
 
-const wordsOfOrder = (text) => text.split(/[\s,]+/).filter(Boolean);
+const wordsOfOrder = (text) => text.split(/[ \t,]+/).filter(Boolean);
 const numbered = (words, it) => words.map((word) => it.inputs.includes(word) ? it.inputs.indexOf(word) : Number(word));
 
-/** What a line says: a result, or a fault. */
+/** The columns that the first row names, or a fault. */
+function columnsOf(cells) {
+  const heads = cells.map((cell) => cell.toLowerCase());
+  const twice = COLUMNS.find((it) => heads.indexOf(it) !== heads.lastIndexOf(it));
+  if (twice) return {fault: `the column ${twice} stands twice`};
+  const hasAll = heads.includes("name") && (heads.includes("nodes") || heads.includes("order"));
+  return hasAll ? {heads} : {fault: `it names no columns ${NAMED}`};
+}
+
+/** What a row says: a result, or a fault. */
 function resultOf(cells, heads, isKept) {
-  if (cells.length > heads.length) return {fault: "more cells than columns"};
+  if (cells.length > heads.length) return {fault: "more cells than columns; an order has blanks between its inputs"};
   const row = Object.fromEntries([...COLUMNS, ...KEPT].map((it) => [it, cells[heads.indexOf(it)] || ""]));
+  if (!row.name) return {fault: "no name"};
   const it = byName.get(row.name);
-  if (!it) return {fault: `no function is named ${shortened(row.name) || "by an empty cell"}`};
+  if (!it) return {fault: `no function is named ${shortened(row.name)}`};
   const fault = faultOf(row, it, isKept);
   if (fault) return {fault: `${row.name}: ${fault}`};
   const late = isLate(row.order || row.nodes), order = late || !row.order ? null : numbered(wordsOfOrder(row.order), it);
@@ -103,27 +93,21 @@ function resultOf(cells, heads, isKept) {
   }};
 }
 
-/** The results of a text, and what is wrong with it. The first line names the columns, or is a result of name and nodes. */
-function read(text, isKept = false) {
-  const results = [], faults = [];
-  let heads = null, separator = null;
-  if (/^\s*[[{]/.test(text)) return {results, faults: [`it is JSON; ${TAKEN}`]};
-  for (const [number, line] of text.replace(/^\ufeff/, "").split(/\r\n|\r|\n/).entries()) {
-    if (!line.trim()) continue;
-    separator = separator || separatorOf(line);
-    const cells = cellsOf(line, separator);
-    if (!heads) {
-      const words = cells.map((cell) => cell.toLowerCase()), hasHeads = words.includes("name");
-      heads = hasHeads ? words : ["name", "nodes"];
-      const fault = faultOfHeads(heads);
-      if (fault) return {results, faults: [fault]};
-      if (hasHeads) continue;
-    }
-    const {result, fault} = resultOf(cells, heads, isKept);
-    if (fault) faults.push(`line ${number + 1}: ${fault}`);
-    else results.push(result);
+/** The results of a text, and what is wrong with it. The first row names the columns. */
+function read(given, isKept = false) {
+  const results = [], faults = [], text = given.replace(/^\ufeff+/, "").replace(/\r\n?/g, "\n");
+  let heads = null;
+  if (/^[ \t\n]*[[{]/.test(text)) return {results, faults: [`it is JSON; ${TAKEN}`]};
+  for (const {line, cells, fault} of rowsOf(text)) {
+    if (!fault && cells.every((it) => it === "")) continue;
+    const said = fault ? {fault} : heads ? resultOf(cells, heads, isKept) : columnsOf(cells);
+    if (said.fault) faults.push(`line ${line}: ${said.fault}`);
+    else if (heads) results.push(said.result);
+    if (!heads && said.fault) return {results, faults};
+    heads = heads || said.heads;
   }
-  if (!results.length && !faults.length) faults.push("there are no results");
+  if (!heads) faults.push(`line 1: ${columnsOf([]).fault}`);
+  else if (!results.length && !faults.length) faults.push(`there are no results; the first line of CSV names the columns: ${NAMED}`);
   return {results, faults};
 }
 

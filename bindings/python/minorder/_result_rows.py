@@ -4,11 +4,13 @@ from __future__ import annotations
 import csv
 import io
 import json
+import re
 from typing import Iterator, Mapping, Union
 
 KNOWN = ("name", "order", "nodes", "seconds", "start", "claimed")
 COLUMNS = "name and order, or name and nodes; besides these seconds and start"
-SEPARATORS = ",;\t"
+# what stands around words; other white space is a letter
+BLANKS = " \t"
 SCORE = "a score, and no result; minorder-score RESULTS --csv writes results, which another score reads"
 
 
@@ -27,7 +29,7 @@ Row = tuple[str, Union[Mapping[str, object], Fault]]
 def rows_of(text: str) -> Iterator[Row]:
     """The rows with their places. Raises Unreadable."""
     text = text.lstrip("\ufeff").replace("\r\n", "\n").replace("\r", "\n")
-    begin = text.lstrip()[:1]
+    begin = text.lstrip(f"{BLANKS}\n")[:1]
     return json_list(text) if begin == "[" else json_lines(text) if begin == "{" else csv_rows(text)
 
 
@@ -74,13 +76,13 @@ def json_lines(text: str) -> Iterator[Row]:
 # ---- CSV
 
 def separator_of(text: str) -> str:
-    """What stands between the cells of the first line that isn't blank."""
-    head = next((line for line in text.split("\n") if line.strip()), "")
-    return next((character for character in head if character in SEPARATORS), ",")
+    """What stands between cells: the first comma, semicolon or tab outside quotes."""
+    found = re.search("[,;\t]", re.sub('"[^"]*"', "", text).lstrip(f"{BLANKS}\n"))
+    return found[0] if found else ","
 
 
 def heads_of(cells: list[str], place: str) -> list[str]:
-    heads = [cell.strip().lower() for cell in cells]
+    heads = [cell.strip(BLANKS).lower() for cell in cells]
     twice = [head for head in KNOWN if heads.count(head) > 1]
     if twice:
         raise Unreadable(f"{place}: the column {twice[0]} stands twice")
@@ -90,19 +92,21 @@ def heads_of(cells: list[str], place: str) -> list[str]:
 
 
 def csv_rows(text: str) -> Iterator[Row]:
+    # a cell may be as long as the file
+    csv.field_size_limit(max(csv.field_size_limit(), len(text)))
     reader = csv.reader(io.StringIO(text, newline=""), delimiter=separator_of(text), skipinitialspace=True, strict=True)
     heads: list[str] = []
     try:
         for cells in reader:
             place = f"line {reader.line_num}"
-            if not any(cell.strip() for cell in cells):
+            if not any(cell.strip(BLANKS) for cell in cells):
                 continue
             if not heads:
                 heads = heads_of(cells, place)
             elif len(cells) > len(heads):
                 yield place, Fault("more cells than columns; an order has blanks between its inputs")
             else:
-                yield place, {head: cell for head, cell in zip(heads, cells) if head in KNOWN and cell.strip()}
+                yield place, {head: cell for head, cell in zip(heads, cells) if head in KNOWN and cell.strip(BLANKS)}
     except csv.Error as error:
         raise Unreadable(f"line {reader.line_num}: no CSV: {error}") from None
     if not heads:

@@ -8,7 +8,7 @@ from typing import Mapping, Optional, Sequence, Union
 
 from . import benchmarks
 from ._errors import MinorderError
-from ._result_rows import COLUMNS, Fault, Unreadable, rows_of
+from ._result_rows import BLANKS, COLUMNS, Fault, Unreadable, rows_of
 
 LATE = "late"
 HERE = "an order is counted here"
@@ -83,18 +83,18 @@ def run_of(row: Union[Mapping[str, object], Fault]) -> Run:
     if isinstance(row, Fault):
         raise row
     name, order, nodes = row.get("name"), row.get("order"), row.get("nodes")
-    if not isinstance(name, str) or not name.strip():
+    said = name.strip(BLANKS) if isinstance(name, str) else ""
+    if not said:
         raise Fault("no name")
     try:
-        entry = benchmarks.entry(name.strip())
+        entry = benchmarks.entry(said)
     except benchmarks.UnknownName as error:
         raise Fault(error) from None
-    said = name.strip()
     start = start_of(said, row.get("start", benchmarks.FILE))
     if order is None and nodes is None:
         raise Fault(f"{said}: neither an order nor a number of nodes")
     seconds = seconds_of(said, row.get("seconds"))
-    words = [str(it).strip().lower() for it in (order, nodes) if it is not None]
+    words = [str(it).strip(BLANKS).lower() for it in (order, nodes) if it is not None]
     if LATE in words:
         if set(words) != {LATE}:
             raise Fault(f"{said}: both {LATE} and {cut(next(it for it in words if it != LATE))}")
@@ -107,7 +107,7 @@ def run_of(row: Union[Mapping[str, object], Fault]) -> Run:
 
 
 def start_of(name: str, given: object) -> str:
-    start = str(given).strip().lower()
+    start = str(given).strip(BLANKS).lower()
     if start not in STARTS:
         raise Fault(f"{name}: start {cut(start)}: it is file, random, or the number of a random order, 1 to 10")
     return start
@@ -116,7 +116,7 @@ def start_of(name: str, given: object) -> str:
 def seconds_of(name: str, given: object) -> Optional[float]:
     if given is None:
         return None
-    text = str(given).strip()
+    text = str(given).strip(BLANKS)
     seconds = float(text) if DECIMAL.fullmatch(text) else inf
     if seconds > MOST_SECONDS:
         raise Fault(f"{name}: seconds {cut(text)}: no number of seconds: decimal, from 0 to {MOST_SECONDS}")
@@ -127,7 +127,7 @@ def check_mark(name: str, given: object, is_claim: bool) -> None:
     """Refuses a column `claimed` that says otherwise than the row: a size without an order is a claim, an order is none."""
     if given is None:
         return
-    mark = str(int(given) if isinstance(given, bool) else given).strip()
+    mark = str(int(given) if isinstance(given, bool) else given).strip(BLANKS)
     if mark not in ("0", "1"):
         raise Fault(f"{name}: claimed {cut(mark)}: it is 0 or 1")
     if is_claim and mark == "0":
@@ -138,7 +138,7 @@ def check_mark(name: str, given: object, is_claim: bool) -> None:
 
 def order_of(name: str, given: object, inputs: Sequence[str]) -> tuple[int, ...]:
     """The inputs' numbers of an order that is spelled by numbers or by names."""
-    words = given if isinstance(given, list) else str(given).replace(",", " ").split()
+    words = given if isinstance(given, list) else re.findall(f"[^{BLANKS},]+", str(given))
     numbers, names = {str(x): x for x in range(len(inputs))}, {it: x for x, it in enumerate(inputs)}
     order: list[int] = []
     for word in words:
@@ -158,7 +158,7 @@ def order_of(name: str, given: object, inputs: Sequence[str]) -> tuple[int, ...]
 
 
 def nodes_of(name: str, given: object) -> int:
-    text = str(given).strip()
+    text = str(given).strip(BLANKS)
     if isinstance(given, bool) or not (text.isascii() and text.isdigit() and len(text) < 10):
         raise Fault(f"{name}: nodes {cut(text)}: no number of nodes: one to nine decimal digits")
     return int(text)

@@ -26,6 +26,9 @@ class Reading(unittest.TestCase):
         others = [comma.replace("\n", "\r"), comma.replace("\n", "\r\n"), comma.replace(",", ";"), comma.replace(",", "\t")]
         for text in (comma, quoted, lines, several, f"\ufeff\n{lines}", f"\ufeff{several}", *others):
             self.assertEqual(read_results(text), wanted)
+        noted = 'name;"a note,\nof two lines";order\nmux2;"x\ny;";2\t0 1\n', f'name,note,order\nmux2,{"n" * 200_000},2 0 1\n'
+        for text in noted:
+            self.assertEqual(read_results(text), [Run("mux2", "file", (2, 0, 1), None, None)])
         self.assertEqual(read_results("name,order\nmux2,late\n"), [Run("mux2", "file", None, None, None)])
         self.assertEqual(read_results("name,order,nodes\nmux2,2 0 1,9\n"), [Run("mux2", "file", (2, 0, 1), 9, None)])
 
@@ -53,6 +56,8 @@ class Reading(unittest.TestCase):
             ("name,order\nmux2,s a a\n", "line 2: mux2: input a stands twice"),
             ("name,order\nmux2,2 0 b\n", "line 2: mux2: 2 and b: an order has numbers or names, not both"),
             ("name,order\nmux2,2 0\n", "line 2: mux2: input 1 is missing"),
+            *((f'name,order\nmux2,"2 0 1{it}"\n', "mux2: 1? is no input") for it in "\n\v\x1c\x85\xa0\u3000"),
+            *((f"name,nodes\n{it}mux2,3\n", "line 2: no function or family is named") for it in "\v\x1c\x85\xa0\ufeff"),
             ("name,order\nmux2,2,0,1\n", "line 2: more cells than columns"), ("name,order\nmux2,\n", "line 2: mux2: neither"),
             ("name,order,nodes\nmux2,2 0 1,x\n", "line 2: mux2: nodes x: no number of nodes"),
             ("name,order,nodes\nmux2,late,3\n", "line 2: mux2: both late and 3"),
