@@ -78,11 +78,20 @@ def checked_inputs(inputs: object) -> int:
 
 # ---- names
 
+def is_text(text: str, errors: str = "strict") -> bool:
+    """Whether a text can be written in UTF-8."""
+    try:
+        text.encode("utf-8", errors)
+    except UnicodeEncodeError:
+        return False
+    return True
+
+
 def names_of(names: object, named: str, count: int) -> Tuple[str, ...]:
     """So many names. Raises BadArgument, BadShape."""
     found = []
     for name in in_turn(names, named, "sequence of names"):
-        if not isinstance(name, str):
+        if not isinstance(name, str) or not is_text(name):
             raise BadArgument(f"{named}: {shown(name)} is no name")
         found.append(name)
     if len(found) != count:

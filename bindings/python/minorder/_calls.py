@@ -5,7 +5,7 @@ from struct import iter_unpack
 from typing import Iterable, Mapping, NamedTuple, Optional, Sequence, Tuple, Type, Union
 
 from ._arguments import checked_inputs, items_of, numbered_names, order_of, shown, whole
-from ._certificates import check_text, inputs_of
+from ._certificates import bytes_of, check_text, inputs_of
 from ._diagrams import Diagram, Node
 from ._errors import BadArgument, BadOrder, BadPairs, BadShape, MinorderError
 from ._library import Judged, NodeRow, Pair, library
@@ -259,9 +259,7 @@ def check(tables: Tables, certificate: Union[str, bytes], inputs: Optional[int] 
     certificate says. Raises BadArgument, BadShape, BadCertificate (with the text's first faulty line and what is
     wrong there), MemoryError.
     """
-    if not isinstance(certificate, (str, bytes, bytearray, memoryview)):
-        raise BadArgument(f"certificate: {shown(certificate)} is no text")
-    text = certificate.encode("utf-8", "surrogateescape") if isinstance(certificate, str) else bytes(certificate)
+    text = bytes_of(certificate)
     if inputs is None and inputs_said(listed(tables)) is None:
         inputs = inputs_of(text)
     functions = functions_of(tables, inputs)

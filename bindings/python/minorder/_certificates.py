@@ -1,9 +1,11 @@
 """The faults of a certificate's text: the library tells that there is one, this module which. The rules are those of
 docs/USING.md."""
 import re
+from contextlib import suppress
 from typing import List, NoReturn, Optional
 
-from ._errors import BadCertificate
+from ._arguments import shown
+from ._errors import BadArgument, BadCertificate
 
 LIMIT = 1_048_576
 MOST = 999_999
@@ -14,6 +16,16 @@ HEAD = re.compile(rb"bddorder-certificate [12]\ninputs ([1-9]|1[0-6])\n")
 
 def fault(line: Optional[int], kind: str) -> NoReturn:
     raise BadCertificate(line, kind, "certificate")
+
+
+def bytes_of(certificate: object) -> bytes:
+    """A certificate's text as the library reads it. Raises BadArgument."""
+    with suppress(UnicodeEncodeError):
+        if isinstance(certificate, str):
+            return certificate.encode("utf-8", "surrogateescape")
+        if isinstance(certificate, (bytes, bytearray, memoryview)):
+            return bytes(certificate)
+    raise BadArgument(f"certificate: {shown(certificate)} is no text")
 
 
 class _Lines:

@@ -12,7 +12,7 @@ from math import ceil
 from typing import Iterable, Iterator, Mapping, Optional, Tuple, Union
 
 from . import _size_files
-from ._arguments import shown, two_decimals, whole
+from ._arguments import is_text, shown, two_decimals, whole
 from ._calls import Functions, Order, levels_of, variables_of
 from ._errors import BadArgument, BadSize, MinorderError
 from ._writing import path_of
@@ -128,7 +128,7 @@ class Sizes(Mapping[int, int]):
         """
         found = dict(self.marks)
         for name, size in marks.items():
-            if not name.strip():
+            if not name.strip() or not is_text(name, "surrogateescape"):
                 raise BadArgument(f"marked: {name!r} is no name")
             found[name] = self._size_of(size, f"marked: {name}")
             self._check_bound(found[name], found[name], f"marked: {name}")

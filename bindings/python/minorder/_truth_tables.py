@@ -125,12 +125,12 @@ def variables(inputs: Union[int, str, Iterable[str]]) -> Tuple[TruthTable, ...]:
 
 def _names_in(inputs: object) -> Optional[Tuple[str, ...]]:
     if isinstance(inputs, str):
-        names = tuple(inputs.replace(",", " ").split())
+        given: Sequence[object] = inputs.replace(",", " ").split()
     elif isinstance(inputs, Iterable):
         given = in_turn(inputs, "inputs", "number, and no sequence of names")
-        names = names_of(given, "inputs", len(given))
     else:
         return None
+    names = names_of(given, "inputs", len(given))
     twice = [name for i, name in enumerate(names) if name in names[:i]]
     if twice:
         raise BadShape(f"inputs: {twice[0]} stands twice")

@@ -19,15 +19,13 @@ from ._errors import BadArgument, BadPath
 SIGNALS = (signal.SIGINT, signal.SIGTERM, signal.SIGHUP)
 
 
-def path_of(path: object) -> str:
+def path_of(path: object, argument: str = "path") -> str:
     """A path as a text. Raises BadArgument."""
-    try:
+    with suppress(TypeError, UnicodeEncodeError):
         text = os.fspath(path) if isinstance(path, (str, os.PathLike)) else None
-    except TypeError:
-        text = None
-    if not isinstance(text, str) or "\0" in text:
-        raise BadArgument(f"path: {shown(path)} is no path")
-    return text
+        if isinstance(text, str) and b"\0" not in os.fsencode(text):
+            return text
+    raise BadArgument(f"{argument}: {shown(path)} is no path")
 
 
 def suffix_among(path: str, suffixes: Sequence[str], said: str) -> str:

@@ -11,7 +11,7 @@ from ._calls import certify, exact, levels, sift
 from ._errors import BadArgument, BadPla
 from ._handing_out import Waiting
 from ._threads import Crew, workers_of
-from ._writing import write_file
+from ._writing import path_of, write_file
 from .files import LIMIT, pla_of
 
 Path = Union[str, "os.PathLike[str]"]
@@ -190,7 +190,7 @@ def report_files(
     """
     files, places = files_of(paths), {}
     if certificates is not None:
-        places = certificates_of(files, os.fspath(certificates))
+        places = certificates_of(files, path_of(certificates, "certificates"))
         os.makedirs(certificates, exist_ok=True)
     count, first = workers_of(workers), 0
     waiting = Waiting(files, count)

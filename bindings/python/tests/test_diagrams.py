@@ -194,7 +194,7 @@ class Files(unittest.TestCase):
         if shutil.which("dot"):
             texts = [it.text for it in ElementTree.fromstring(found._repr_svg_()).iter("{http://www.w3.org/2000/svg}text")]
             self.assertEqual({*names, 'f"', "0", "1", "7 nodes"}, set(texts))
-            odd = replace(found, inputs=("\0", "\ud800", "\uffff", "\x9f"), outputs=("\x1b",))
+            odd = replace(found, inputs=("\0", "\x7f", "\uffff", "\x9f"), outputs=("\x1b",))
             self.assertIn("<title>Decision diagram of ?</title>", odd._repr_svg_())
             ElementTree.fromstring(odd._repr_svg_())
 

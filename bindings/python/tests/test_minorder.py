@@ -296,8 +296,20 @@ class Refusals(unittest.TestCase):
             for inputs in (3, None):
                 said = self.refused(minorder.BadCertificate, "certificate", minorder.check, 1, text, inputs=inputs)
                 self.assertEqual((said.line, said.kind), (line, kind))
-        for text in (10 ** 12, None, 1.5, ["end"]):
+        for text in (10 ** 12, None, 1.5, ["end"], "\ud800"):
             self.refused(minorder.BadArgument, "certificate", minorder.check, 1, text, 3)
+
+    def test_texts_that_no_file_holds(self):
+        found, table = minorder.exact(multiplexer), minorder.TruthTable(0b10, 1)
+        self.refused(minorder.BadArgument, "path", minorder.read_pla, "\ud800")
+        self.refused(minorder.BadArgument, "path", found._diagram.save, "\ud800.svg")
+        self.refused(minorder.BadArgument, "certificates", next, minorder.report_files(["a.pla"], certificates="\ud800"))
+        for names in ("\ud800 b", ["\ud800", "b"], ["\udc80"]):
+            self.refused(minorder.BadArgument, "inputs", minorder.variables, names)
+        self.refused(minorder.BadArgument, "names", minorder.TruthTable, 0b10, 1, ("\ud800",))
+        self.refused(minorder.BadArgument, "inputs", minorder.Pla, (table,), ("\ud800",), ("f",))
+        self.refused(minorder.BadArgument, "outputs", minorder.Pla, (table,), ("a",), ("\ud800",))
+        self.refused(minorder.BadArgument, "marked", minorder.sizes(multiplexer).marked, **{"\ud800": 3})
 
     def test_what_the_library_refuses(self):
         others = (3, minorder.MinorderError), (99, minorder.MinorderError)
