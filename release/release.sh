@@ -1,7 +1,7 @@
 #!/usr/bin/env bash
 # release.sh VERSION     makes out/minorder-VERSION-linux-x86_64.tar.gz, a wheel, out/minorder-VERSION-certificates.tar.xz, Debian packages
 #                        where dpkg-deb is there, out/minorder-VERSION.crate where cargo is there, out/minorder-VERSION-coq.tar.gz where
-#                        coqc is there, and out/SHA256SUMS
+#                        coqc is there, and out/SHA256SUMS; removes what earlier runs left in out/
 # release.sh --without-certificates VERSION     the same but for the certificates
 # The certificates of the table of optima are taken from optima/out where they all lie there, and else made, in two minutes of processor
 # time.
@@ -113,6 +113,7 @@ coq
 ! "$with_certificates" || certificates
 (cd "$made" && sha256sum "${files[@]}" > SHA256SUMS)
 mkdir -p "$top/out" || fail "$top/out can't be made"
+"$top/release/earlier.sh" "$top/out"
 for file in "${files[@]}" SHA256SUMS; do
     cp "$made/$file" "$top/out/.$file.$$" && mv -f "$top/out/.$file.$$" "$top/out/$file"
     echo "out/$file"

@@ -1,5 +1,5 @@
 #!/usr/bin/env bash
-# try.sh         tries the release that release/release.sh made, from an empty folder: its sums, the programs alone on the path, the
+# try.sh         tries the release that release/release.sh made, from an empty folder: its sums, its names, the programs alone on the path, the
 #                library for C by pkg-config, the shared library from Python, the wheel, the crate, the checker proved in Coq, the
 #                certificates of the table of optima; the tree of the Debian packages likewise, and what lintian says of them
 set -euo pipefail
@@ -218,8 +218,19 @@ lint() {
     echo "lintian: nothing but what a licence would need"
 }
 
+# The next release removes all files of this one, so nothing lies in out/ beside these.
+names() {
+    local files
+    mkdir "$made/out"
+    mapfile -t files < <(sed 's/^[0-9a-f]*  //' "$top/out/SHA256SUMS")
+    (cd "$made/out" && touch SHA256SUMS "${files[@]}")
+    "$top/release/earlier.sh" "$made/out"
+    [ -z "$(ls -A "$made/out")" ] || fail "the next release would leave $(ls -A "$made/out")"
+}
+
 cd "$made"
 (cd "$top/out" && sha256sum --quiet -c SHA256SUMS)
+names
 tar -xzf "$top/out/minorder-$version-linux-x86_64.tar.gz"
 tree=$made/minorder-$version-linux-x86_64
 (cd "$tree" && sha256sum --quiet -c SHA256SUMS)
