@@ -9,8 +9,8 @@ ENDS = ("-linux-x86_64.tar.gz", "-coq.tar.gz", "-certificates.tar.xz", ".crate",
 PACKAGES = (
     "minorder_{}_amd64.deb", "libminorder1_{}_amd64.deb", "libminorder-dev_{}_amd64.deb", "python3-minorder_{}_all.deb")
 OTHERS = (
-    "minorder-1.0.0.tar.gz", "minorder-mine-coq.tar.gz", "my-minorder-1.0.0.crate", "minorder-1.0.0.crate.asc", "notes", ".notes.1",
-    "minorder-1.0.0-py3-none-any.whl", "minorder_1.0.0_arm64.deb", "SHA256SUMS.asc")
+    "minorder-1.0.0.tar.gz", "minorder-mine-coq.tar.gz", "my-minorder-1.0.0.crate", "minorder-1.0.0.crate.asc",
+    "notes", ".notes.1", "minorder-1.0.0-py3-none-any.whl", "minorder_1.0.0_arm64.deb", "SHA256SUMS.asc")
 
 
 class Earlier(unittest.TestCase):

@@ -78,7 +78,8 @@ def main():
             sweep(f"minorder, {name}", library, run, cert)
             sweep(f"ordercheck, {name}", library, [programs.ordercheck, file, cert], None)
             for output in ("--orders", "--sizes"):
-                sweep(f"minorder {output}, {name}", library, [programs.minorder, "--workers", "2", output, "--above", "0,1", file], None)
+                run = [programs.minorder, "--workers", "2", output, "--above", "0,1", file]
+                sweep(f"minorder {output}, {name}", library, run, None)
         # of a symmetric function: a search that keeps no pairs but those of its variables, and a check that walks twice
         file = f"{TOP}/examples/majority7.pla"
         sweep("minorder, majority", library, [programs.minorder, "--workers", "2", file], None)

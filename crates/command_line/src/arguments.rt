@@ -18,8 +18,8 @@ pub(crate) fn required_path<'a>(alloc: Global, name: &'a str, help: &'a str) -> 
     Arg::new(alloc, name).required(true).help(help)
 }
 
-/// The fault of words of `command`'s program that clap takes and the program doesn't: `Refused` with
-/// the message `what`, or `OutOfMemory` if memory is refused for the message.
+/// The fault of words that clap takes and the program doesn't, with the message `what`;
+/// `OutOfMemory` if memory is refused for the message.
 pub(crate) fn refused_words<'a>(mut command: Command<'a>, kind: ErrorKind, what: &str) -> Usage
     ensures { IsNoInformation result }
 {

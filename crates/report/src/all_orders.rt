@@ -30,12 +30,13 @@ const MOST_NODES: u32 = 1 << 20;
 fn widths_of<R: Threads + Sync>(
     rt: &R,
     alloc: Global,
-    problem: &Problem,
+    tables: &Tables,
     workers: Workers,
 ) -> Result<Vec<WidthRow>, AllocError>
     ensures { IfOk result
-        (λ rows. AreAllWidths problem.now.inputs (functions problem.now) rows.items) }
+        (λ rows. AreAllWidths tables.now.inputs (functions tables.now) rows.items) }
 {
+    let problem = tables.problem();
     if is_small(problem) {
         widths_of_all_sets(alloc, problem)
     } else {
@@ -109,7 +110,7 @@ pub(crate) fn orders_answer<R: Threads + Sync>(
         workers,
     };
     let sifted_size = sifted_size_of(rt, alloc, &instance)?;
-    let widths = widths_of(rt, alloc, tables.problem(), workers)?;
+    let widths = widths_of(rt, alloc, &tables, workers)?;
     let counter = ByWorkers { rt, workers };
     let report = orders_report(
         &counter,
@@ -123,25 +124,23 @@ pub(crate) fn orders_answer<R: Threads + Sync>(
     Ok(text)
 }
 
-/// The text of `--sizes` for the orders of the cover's inputs that keep `pairs`, found by `workers`
-/// workers, whose threads `rt` starts.
+/// The text of `--sizes` for the orders of the cover's inputs that keep `pairs`, found by the
+/// workers of `counter`.
 pub(crate) fn sizes_answer<R: Threads + Sync>(
-    rt: &R,
+    counter: &ByWorkers<'_, R>,
     alloc: Global,
     cover: &Cover,
     pairs: &Pairs,
-    workers: Workers,
 ) -> Result<String, AllocError>
     requires { pairs.now.inputs ≡ cover.now.inputs }
     ensures { IfOk result (λ text. string_bytes text ≡ sizes_text_of cover.now pairs.now.pairs) }
 {
     prove!(pairs.inputs() <= 16);
-    let tables = Tables::of_cover(rt, alloc, cover)?;
+    let tables = Tables::of_cover(counter.rt, alloc, cover)?;
     let problem = tables.problem();
     prove!(problem.outputs() <= 16);
-    let widths = widths_of(rt, alloc, problem, workers)?;
-    let counter = ByWorkers { rt, workers };
-    let counts = sizes_of_orders(&counter, alloc, problem, pairs, &widths, MOST_NODES)?;
+    let widths = widths_of(counter.rt, alloc, &tables, counter.workers)?;
+    let counts = sizes_of_orders(counter, alloc, problem, pairs, &widths, MOST_NODES)?;
     let text = sizes_text(alloc, &counts)?;
     Ok(text)
 }

@@ -9,6 +9,7 @@ use crate::all_orders::{orders_answer, sizes_answer};
 use crate::answers::{answer_texts, pairs_of};
 use command_line::{Output, RunPlan};
 use counted_io::{CountedRead, CountedWrite};
+use order_counts::ByWorkers;
 use order_model::Pairs;
 use outcomes::{Fault, Outcome};
 use pla_reader::{Cover, read_cover};
@@ -45,7 +46,10 @@ fn texts_for<'a, R: Threads + Sync>(
         Output::Report => answer_texts(rt, alloc, cover, pairs, plan.workers, certify),
         Output::Count => alone(counts_of(rt, alloc, cover)),
         Output::Orders => alone(orders_answer(rt, alloc, cover, pairs, plan.workers)),
-        Output::Sizes => alone(sizes_answer(rt, alloc, cover, pairs, plan.workers)),
+        Output::Sizes => {
+            let workers = plan.workers;
+            alone(sizes_answer(&ByWorkers { rt, workers }, alloc, cover, pairs))
+        }
     }
 }
 

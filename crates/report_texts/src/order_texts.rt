@@ -77,8 +77,7 @@ pub fn orders_text(alloc: Global, report: &OrdersReport) -> Result<String, Alloc
     Ok(text)
 }
 
-/// Appends a line to `text`, `size` and `orders`, unless `orders` is 0. If memory is refused, a part
-/// may have been appended.
+/// Appends a line to `text`, `size` and `orders`, unless `orders` is 0.
 fn push_size(text: &mut String, size: u32, orders: u64) -> Result<(), AllocError>
     ensures { OnOk result
         (string_bytes text.new ≡ string_bytes text.old ++ size_line (λ _. orders) size) }
