@@ -70,10 +70,10 @@ fn trimmed(alloc: Global, counts: &CostCounts) -> Result<CostCounts, AllocError>
 }
 
 /// How many of the orders that keep `pairs` have each size, counted by `counter`. The first entry
-/// is of the fewest nodes, the last one of the most nodes, up to `most`, that an order has. Entry m of
-/// `widths` is the row of the set with the mask m. Sets whose orders all lead to more than `most`
-/// nodes cost next to nothing. Takes 8 bytes for each cost that some order of a set has, of the
-/// sets of two layers.
+/// is of the fewest nodes, the last one of the most nodes, up to `most`, that an order has. Entry m
+/// of `widths` is the row of the set with the mask m. Sets whose orders all lead to more than
+/// `most` nodes cost next to nothing. Takes 8 bytes for each cost that some order of a set has, of
+/// the sets of two layers.
 pub fn sizes_of_orders<C: Counter>(
     counter: &C,
     alloc: Global,
