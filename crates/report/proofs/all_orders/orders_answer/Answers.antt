@@ -18,8 +18,8 @@ returns g c =
     let sifted = c.in_ok-sifted_size.ensures.1 in
     orders_answered cover t P (record { inputs = c.in_ok-tables.ensures.inputs; tables = c.in_ok-tables.ensures.tables }) f size report.better
     sifted.start order _ sifted.first
-    (subst (λ (p : TruthTables). AreFiguresOfOrders p.inputs (functions p) P f) c.problem-2.ensures c.in_ok-report.ensures.figures)
+    (subst (λ (p : TruthTables). AreFiguresOfOrders p.inputs (functions p) P f) c.problem.ensures c.in_ok-report.ensures.figures)
     sifted.is_order sifted.is_size
-    (c.in_ok-report.ensures.better ∙ ap (λ (p : TruthTables). orders_below p.inputs (functions p) P size) c.problem-2.ensures)
+    (c.in_ok-report.ensures.better ∙ ap (λ (p : TruthTables). orders_below p.inputs (functions p) P size) c.problem.ensures)
     (c.in_ok-text.ensures
     ∙ ap (λ k. orders_lines f.count f.fewest.nodes f.fewest.orders f.most.nodes f.most.orders f.total k report.better) c.in_ok-report.ensures.size)
