@@ -3,7 +3,7 @@
 ghost use Rattle.std.specs.Prelude.{◌≡◌, ℕ, ◌+◌, ◌^◌, ◌<◌, ◌≤◌, List, [], IfOk};
 ghost use Rattle.definitions.specs.Functions.{Function};
 ghost use Rattle.definitions.specs.Pairs.{Pair};
-ghost use Rattle.order_counts.specs.Sizes.{AreCountsBetween, AreCountsInLayer, AreCountsOf, AreLimited, AreOfLayer};
+ghost use Rattle.order_counts.specs.Sizes.{AreCountsBetween, AreCountsInLayer, AreCountsOf, AreLimited, AreOfLayer, first_of_part};
 
 use crate::cost_counts::CostCounts;
 use crate::set_counts::{Recurrence, counts_of_set};
@@ -73,6 +73,49 @@ fn parts_of(workers: Workers, sets: usize) -> usize
     }
 }
 
+/// The counts of the sets with `size` members, at their masks, and no orders at other masks, found by
+/// the threads of `workers` workers. Entry m of `smaller` has the counts of the set with the mask m,
+/// if that has one member less.
+fn counts_by_workers<R: Threads + Sync>(
+    rt: &R,
+    alloc: Global,
+    workers: Workers,
+    given: Recurrence,
+    smaller: &[CostCounts],
+    size: u32,
+) -> Result<Vec<CostCounts>, AllocError>
+    requires given { AreLimited given }
+    requires size { 0 < size }
+    requires smaller { (k : ℕ) → k + 1 ≡ size → AreCountsInLayer given k smaller.now }
+    ensures { IfOk result (λ counts. AreCountsInLayer given.entry size counts.items) }
+{
+    let sets = 1usize << given.pairs.inputs();
+    let parts = parts_of(workers, sets);
+    let step = sets.div_ceil(parts);
+    let found = thread::map_indices(
+        rt,
+        alloc,
+        parts,
+        &|part: usize| -> Result<Vec<CostCounts>, AllocError>
+            requires { (part < 64) × (step ≤ sets) × (sets ≡ 2 ^ given.pairs.now.inputs)
+                × AreLimited given × (0 < size)
+                × ((k : ℕ) → k + 1 ≡ size → AreCountsInLayer given k smaller.now) }
+            ensures { IfOk result (λ counts. AreCountsBetween given.entry size
+                (first_of_part step sets part) (first_of_part step sets (part + 1)) counts.items) }
+        {
+            let first = (part * step).min(sets);
+            let end = ((part + 1) * step).min(sets);
+            counts_of_range(alloc, given, smaller, size, first, end)
+        },
+    )?;
+    let mut counts = Vec::with_capacity(alloc, sets)?;
+    for part in found {
+        let mut part = part?;
+        counts.append(&mut part)?;
+    }
+    Ok(counts)
+}
+
 /// Who counts the orders of the sets of a layer: several workers, or the calling thread.
 pub trait Counter {
     // What counting requires.
@@ -125,7 +168,6 @@ impl Counter for CallingThread {
 
 impl<'r, R: Threads + Sync> Counter for ByWorkers<'r, R> {
     ghost use Rattle.std.specs.Thread.{IsSync};
-    ghost use Rattle.order_counts.specs.Sizes.{AreCountsBetween, first_of_part};
 
     ghost ready = { λ _. IsSync R.row };
 
@@ -137,31 +179,7 @@ impl<'r, R: Threads + Sync> Counter for ByWorkers<'r, R> {
         smaller: &[CostCounts],
         size: u32,
     ) -> Result<Vec<CostCounts>, AllocError> {
-        let sets = 1usize << given.pairs.inputs();
-        let parts = parts_of(self.workers, sets);
-        let step = sets.div_ceil(parts);
-        let found = thread::map_indices(
-            self.rt,
-            alloc,
-            parts,
-            &|part: usize| -> Result<Vec<CostCounts>, AllocError>
-                requires { (part < 64) × (step ≤ sets) × (sets ≡ 2 ^ given.pairs.now.inputs)
-                    × AreLimited given × (0 < size)
-                    × ((k : ℕ) → k + 1 ≡ size → AreCountsInLayer given k smaller.now) }
-                ensures { IfOk result (λ counts. AreCountsBetween given.entry size
-                    (first_of_part step sets part) (first_of_part step sets (part + 1)) counts.items) }
-            {
-                let first = (part * step).min(sets);
-                let end = ((part + 1) * step).min(sets);
-                counts_of_range(alloc, given, smaller, size, first, end)
-            },
-        )?;
-        let mut counts = Vec::with_capacity(alloc, sets)?;
-        for part in found {
-            let mut part = part?;
-            counts.append(&mut part)?;
-        }
-        Ok(counts)
+        counts_by_workers(self.rt, alloc, self.workers, given, smaller, size)
     }
 }
 

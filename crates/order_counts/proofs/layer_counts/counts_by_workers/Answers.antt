@@ -7,7 +7,7 @@ use Rattle.std.proofs.lemmas.Nat.{one_shl}
 use Rattle.std.specs.Int.{div_ceil}
 use Rattle.order_counts.specs.Sizes.{AreCountsBetween, first_of_part}
 use Rattle.order_counts.proofs.LayerCounts.{counts_joined, counts_none, part_ordered, parts_all, parts_none, whole_layer}
-use Rattle.order_counts.proofs.layer_counts.ByWorkersCounter.counts_of_layer.Goals as goal
+use Rattle.order_counts.proofs.layer_counts.counts_by_workers.Goals as goal
 
 pub loop-part-init : goal.loop-part-init
 loop-part-init g c =
