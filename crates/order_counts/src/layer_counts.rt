@@ -73,9 +73,9 @@ fn parts_of(workers: Workers, sets: usize) -> usize
     }
 }
 
-/// The counts of the sets with `size` members, at their masks, and no orders at other masks, found by
-/// the threads of `workers` workers. Entry m of `smaller` has the counts of the set with the mask m,
-/// if that has one member less.
+/// The counts of the sets with `size` members, at their masks, and no orders at other masks, found
+/// by the threads of `workers` workers. Entry m of `smaller` has the counts of the set with the
+/// mask m, if that has one member less.
 fn counts_by_workers<R: Threads + Sync>(
     rt: &R,
     alloc: Global,
