@@ -151,7 +151,8 @@ impl<'a> Classes<'a> {
         Ok(self.with_numbers(x, numbered))
     }
 
-    /// `compact` by an `IndexSet`: slower, for comparison in tests.
+    /// The class table of this table's set with `x` added, with pairs numbered by an `IndexSet`:
+    /// slower than `compact`, for comparison in tests.
     pub fn compact_indexed(&self, alloc: Global, x: VarIx) -> Result<Classes<'a>, AllocError>
         requires inside { x < self.now.problem.inputs }
         requires new { IsFalse (has (set_of self.now) x) }

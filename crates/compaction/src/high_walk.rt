@@ -79,8 +79,9 @@ fn fill_row(
     Ok(())
 }
 
-/// Walks from `table` to the sets that are its set with some of the variables added that `branch`
-/// leaves undecided, and writes their rows to `rows`. Returns how many class tables were compacted.
+/// Walks from `table` to those of the branch's wanted sets that are its set with some of the
+/// variables added that `branch` leaves undecided, and writes the row of each to `rows`, at the
+/// set's high byte. Returns how many class tables were compacted.
 fn walk(
     memory: &mut PairMemory,
     table: &Strips<'_>,

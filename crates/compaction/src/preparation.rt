@@ -93,7 +93,8 @@ impl<'a> Preparation<'a> {
         })
     }
 
-    /// A preparation without rows, made by the calling thread.
+    /// A preparation without rows, made by the calling thread. Sets that aren't lawful by `pairs`, of
+    /// the variables before the renaming, get no rows later.
     pub fn of(
         alloc: Global,
         renaming: &'a Renaming<'a>,
@@ -213,7 +214,7 @@ impl<'a> Preparation<'a> {
         Ok(())
     }
 
-    /// `find` on the calling thread.
+    /// Finds all rows in `requests` on the calling thread, and takes them over as `find` does.
     pub fn find_alone(
         &mut self,
         alloc: Global,

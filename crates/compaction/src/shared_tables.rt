@@ -60,7 +60,8 @@ fn with_low<'a>(
     Ok(larger)
 }
 
-/// `with_low` by the threads of `workers` workers.
+/// For each of `tables` the class table of its set with the low variable `x` added, made by the
+/// threads of `workers` workers.
 fn with_low_by_threads<'a, R: Threads + Sync>(
     rt: &R,
     alloc: Global,
@@ -105,7 +106,7 @@ impl<'a> SharedTables<'a> {
         Ok(shared)
     }
 
-    /// `of` by the threads of `workers` workers.
+    /// A problem's shared tables for several walks, made by the threads of `workers` workers.
     pub(crate) fn by_threads<R: Threads + Sync>(
         rt: &R,
         alloc: Global,

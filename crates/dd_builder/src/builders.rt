@@ -157,8 +157,8 @@ pub fn from_tables<R: Threads + Sync, G: Gate>(
     build_in(&crew, alloc, store, session, Source::Tables(tables))
 }
 
-/// Builds the reduced diagram of the store's functions from the terms of `cover`. Parts are built
-/// as by `from_tables`.
+/// Builds the reduced diagram of the store's functions from the terms of `cover`. Workers build
+/// parts, as in `from_tables`.
 pub fn from_cover<R: Threads + Sync, G: Gate>(
     rt: &R,
     alloc: Global,

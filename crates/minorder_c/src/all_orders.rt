@@ -39,7 +39,7 @@ pub(crate) struct AllOrders {
 }
 
 impl AllOrders {
-    /// Those of `given` and of the pairs `above`.
+    /// The widths of all sets of the tables `given`, for the orders that keep the pairs `above`.
     pub(crate) fn of(
         alloc: Global,
         given: &GivenTables,

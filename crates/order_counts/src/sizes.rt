@@ -45,8 +45,7 @@ fn after_last_some(counts: &[u64]) -> usize
     0
 }
 
-/// The same counts, without entries for costs below the first or above the last that some order
-/// has.
+/// `counts` without entries for costs below the first or above the last that some order has.
 fn trimmed(alloc: Global, counts: &CostCounts) -> Result<CostCounts, AllocError>
     requires { counts.now.least + length counts.now.orders.items < 2 ^ 32 }
     ensures trimmed { IfOk result (λ s. AreTrimmed s.least s.orders.items) }

@@ -15,7 +15,7 @@ use layer_work::{LayerContext, cells_alone};
 use std::alloc::{AllocError, Global};
 use subset_layers::Costs;
 
-/// `next_layer` on the calling thread.
+/// Computes the layer of `needs`, which comes after those in `done`, on the calling thread.
 fn next_layer_alone(
     alloc: Global,
     instance: &Instance<'_>,
@@ -36,7 +36,8 @@ fn next_layer_alone(
     Ok(Costs::of(layer, cells))
 }
 
-/// `layers_of` on the calling thread.
+/// Prepares the search and computes all layers, on the calling thread: entry k of the result has
+/// the sets of k variables.
 pub(crate) fn layers_alone(alloc: Global, instance: &Instance<'_>) -> Result<Vec<Costs>, AllocError>
     ensures { IfOk result (λ v. AreAllLayers instance.now v.items) }
 {

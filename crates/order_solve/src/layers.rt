@@ -49,6 +49,7 @@ fn next_layer<R: Threads + Sync, G: Gate>(
 }
 
 /// Computes all layers by the workers of `crew`: entry k of the result has the sets of k variables.
+/// Rows of widths that `prepared` lacks are found before the layer that needs them.
 pub(crate) fn layers_of<R: Threads + Sync, G: Gate>(
     crew: &Crew<'_, R, G>,
     alloc: Global,

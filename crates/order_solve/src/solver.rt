@@ -69,7 +69,8 @@ pub fn find_optimum<R: Threads + Sync, G: Gate>(
     optimum_of(alloc, &cells)
 }
 
-/// `find_optimum` on the calling thread.
+/// The first order of the fewest nodes among those that keep the pairs of `sifted`, whose size
+/// bounds the search, found on the calling thread.
 pub fn find_optimum_alone(
     alloc: Global,
     problem: &Problem,
@@ -108,7 +109,8 @@ pub fn solve<R: Threads + Sync, G: Gate>(
     solution_of(alloc, &cells)
 }
 
-/// `solve` on the calling thread.
+/// The first order of the fewest nodes among those that keep the pairs of `sifted`, and the sets and
+/// costs that its certificate lists, found on the calling thread.
 #[tactic(auto, using(crate::proofs::Harmless::harmless_kept))]
 pub fn solve_alone(alloc: Global, problem: &Problem, sifted: Sifted) -> Result<Solution, AllocError>
     requires { sifted.problem ≡ problem.now }

@@ -56,7 +56,7 @@ fn sifted_size_of<R: Threads + Sync>(
 {
     let starting = starting_diagram(rt, alloc, instance)?;
     let manager = manager_of(alloc, instance, starting)?;
-    let sifted = manager.sift_by_threads(rt, alloc, instance.workers)?;
+    let sifted = manager.sift(alloc)?;
     Ok(sifted.size())
 }
 

@@ -41,7 +41,7 @@ fn sift<R: Threads + Sync>(
 ) -> Result<Sifting, AllocError>
     ensures { IfOk result (IsSiftingOf manager) }
 {
-    let found = manager.sift_by_threads(rt, alloc, workers)?;
+    let found = manager.sift(alloc)?;
     let sifted = found.order().try_clone(alloc)?;
     let size = found.size();
     let bound = found.search_bound_by_threads(rt, alloc, workers)?;

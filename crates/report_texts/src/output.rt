@@ -11,7 +11,7 @@ use outcomes::{Fault, Outcome};
 /// The texts that a run writes for a cover.
 #[derive(Drop)]
 pub struct RunTexts {
-    /// The report on the order that was found, or that of `--count`.
+    /// The report on the order that was found, or the text of `--count`, `--orders` or `--sizes`.
     pub report: String,
     /// The text of the certificate; None if none is wanted.
     pub certificate: Option<String>,

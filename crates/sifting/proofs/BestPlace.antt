@@ -11,7 +11,7 @@ use Rattle.definitions.specs.Problems.{functions}
 use Rattle.definitions.specs.Sifting.{smallest_of, placements, best}
 use Rattle.definitions.proofs.Widths.Recurrence.{absent_without, distinct_without}
 use Rattle.sifting.specs.Managed.{Managed, IsManagedOrder}
-use Rattle.sifting.specs.Moves.{Moves, IsMoved, StopsAbove, StopsBelow, FindsBest, PassesBetween, PassesBelow}
+use Rattle.sifting.specs.Moves.{Moves, IsMoved, StopsAbove, StopsBelow, FindsBest, PassesBetween}
 use Rattle.sifting.proofs.Placements.{length-placed, here, above_here, below_here, not_above, not_below, breaks}
 use Rattle.sifting.proofs.MoveSteps.{smallest_is, insert_tells}
 use Rattle.definitions.proofs.Sifting.Placements.{own_place}
@@ -135,27 +135,6 @@ module _ (self raised lowered : Managed) (x top bottom at least : ℕ) (ok : IsM
       (λ t. true≢false (sym kept ∙ breaks self.pairs (slice_index others i) x (insert others i x) t
       (not_above (slice_index others i) x others i i (omega arith) within' refl apart out)))
 
-  -- no variable on the way back down must stay below
-  pub passes_down : PassesBelow raised top at
-  passes_down zs y h e i a b =
-      let l = long in
-      let o = own.1 in
-      let tells = insert_tells zs others top y x h (omega arith) (sym e ∙ raised_is) in
-      let apart = distinct_without x self.order ok.is_order.once in
-      let out = absent_without x self.order in
-      let below = found.below in
-      let within' : i < length others = omega arith in
-      let kept = found.keeps others x place_in_others (sym own.0) (i + 1) (omega arith) (omega arith) in
-      let same : has_pair raised.pairs y (slice_index zs i) ≡ has_pair self.pairs x (slice_index others i) =
-      ap₂ (λ P v. has_pair P y v) up.pairs_stay (ap (λ us. get_or us i 0) tells.0) ∙ ap (λ v. has_pair self.pairs v (slice_index others i)) tells.1 in
-      same ∙ false_from_ne_true (has_pair self.pairs x (slice_index others i))
-      (λ t. true≢false (sym kept ∙ breaks self.pairs x (slice_index others i) (insert others (i + 1) x) t
-      (not_below x (slice_index others i) others (i + 1) i (omega arith) (omega arith) refl apart out)))
-
-  last_from_top : (last : Managed) → IsMoved top at raised last → last.order ≡ insert (without x self.order) at x
-  unfolding Moves
-  last_from_top last back = back.moves (without x self.order) x (let l = long in let o = own.1 in omega arith) raised_is
-
   last_is : (last : Managed) → IsMoved bottom at lowered last → last.order ≡ insert (without x self.order) at x
   unfolding Moves
   last_is last back = back.moves (without x self.order) x (let l = long in omega arith) lowered_is
@@ -182,6 +161,3 @@ module _ (self raised lowered : Managed) (x top bottom at least : ℕ) (ok : IsM
 
   pub best_is : (last : Managed) → IsMoved bottom at lowered last → last.order ≡ best self.problem.inputs (functions self.problem) self.pairs self.order x
   best_is last back = last_is last back ∙ best_at
-
-  pub best_from_top : (last : Managed) → IsMoved top at raised last → last.order ≡ best self.problem.inputs (functions self.problem) self.pairs self.order x
-  best_from_top last back = last_from_top last back ∙ best_at

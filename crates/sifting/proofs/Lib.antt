@@ -10,7 +10,6 @@ pub mod ManagerFields
 pub mod Placements
 pub mod MoveSteps
 pub mod BestPlace
-pub mod BothWalks
 pub mod FallingCounts
 pub mod SiftedOrder
 pub mod SplitCuts

@@ -9,7 +9,7 @@ use Rattle.definitions.specs.Levels.{size_under}
 use Rattle.definitions.specs.Sifting.{smallest_of, smallest_order}
 use Rattle.definitions.proofs.Lists.Swaps.{crossed, crossed_is, length_crossed}
 use Rattle.sifting.specs.Managed.{Managed, size_of, IsManagedOrder}
-use Rattle.sifting.specs.Moves.{Moves, IsMoved, FindsBest, PassesBetween, PassesBelow, placed_from, size_at}
+use Rattle.sifting.specs.Moves.{Moves, IsMoved, FindsBest, PassesBetween, placed_from, size_at}
 use Rattle.sifting.proofs.Placements.{crossed_up, crossed_down, length-placed, here, above_here, below_here}
 
 pub moved_none : (place : ℕ) (m : Managed) → IsMoved place place m m
@@ -58,35 +58,6 @@ module _ (m cur : Managed) (place from to best least size : ℕ) (found : FindsB
   -- no smaller size
   pub finds_same : least ≤ size → FindsBest m place from (to + 1) best least
   finds_same le = grind (arith, keeps_lower, cases_eq, size_here)
-
--- one place higher
-module _ (m cur : Managed) (place from to best least size : ℕ) (some : 0 < from) (found : FindsBest m place from to best least)
-    (moved : IsMoved place (from - 1) m cur) (ok : IsManagedOrder cur) (size_is : size ≡ size_of cur) where
-  keeps_higher : (others : List ℕ) (x : ℕ) → place ≤ length others → m.order ≡ insert others place x → (i : ℕ) → from - 1 ≤ i → i ≤ to →
-      Keeps m.pairs (insert others i x)
-  keeps_higher others x h e i a b = grind (arith, cases_eq, keeps_here)
-
-  -- a size that is no larger
-  pub finds_above : size ≤ least → FindsBest m place (from - 1) to (from - 1) size
-  finds_above le = grind (arith, keeps_higher, size_here, cases_eq)
-
-  -- a larger size
-  pub finds_below : least < size → FindsBest m place (from - 1) to best least
-  finds_below lt = grind (arith, keeps_higher, cases_eq, size_here)
-
--- ---- the places above and those below
-
-module _ (m : Managed) (place top bottom upper less lower least : ℕ) (up : FindsBest m place top place upper less)
-    (down : FindsBest m place place bottom lower least) where
-  keeps_both : (others : List ℕ) (x : ℕ) → place ≤ length others → m.order ≡ insert others place x → (i : ℕ) → top ≤ i → i ≤ bottom →
-      Keeps m.pairs (insert others i x)
-  keeps_both others x h e i a b = grind (arith, cases_lt)
-
-  pub finds_upper : less ≤ least → FindsBest m place top bottom upper less
-  finds_upper le = grind (arith, keeps_both, cases_lt)
-
-  pub finds_lower : least < less → FindsBest m place top bottom lower least
-  finds_lower lt = grind (arith, keeps_both, cases_lt)
 
 -- ---- the first of the smallest orders
 
@@ -187,19 +158,3 @@ lift_lawful m cur from to place within le lt moved passes =
     let lower : slice_index cur.order (i + 1) ≡ x = ap (λ j. get_or cur.order j 0) k ∙ ap (λ o. get_or o place 0) at ∙ here zs x place (omega arith) in
     ap₂ (has_pair cur.pairs) upper lower ∙ ap (λ P. has_pair P (slice_index zs i) x) moved.pairs_stay
     ∙ passes zs x (omega arith) t.2 i (omega arith) (omega arith)
-
-pub lower_lawful : (m cur : Managed) (from to place : ℕ) → to < length m.order → from ≤ place → place < to → IsMoved from place m cur →
-    PassesBelow m from to →
-    IsFalse (has_pair cur.pairs (slice_index cur.order place) (slice_index cur.order (place + 1)))
-unfolding Moves
-lower_lawful m cur from to place within le lt moved passes =
-    let t = taken_out m.order from (omega arith) in
-    let zs = t.0 in
-    let x = t.1 in
-    let long = ap length t.2 ∙ length-placed zs x from in
-    let at = moved.moves zs x (omega arith) t.2 in
-    let upper : slice_index cur.order place ≡ x = ap (λ o. get_or o place 0) at ∙ here zs x place (omega arith) in
-    let lower : slice_index cur.order (place + 1) ≡ slice_index zs place = ap (λ o. get_or o (place + 1) 0) at
-    ∙ ap (λ k. get_or (insert zs place x) k 0) (add-one place) ∙ below_here zs x place (omega arith) in
-    ap₂ (has_pair cur.pairs) upper lower ∙ ap (λ P. has_pair P x (slice_index zs place)) moved.pairs_stay
-    ∙ passes zs x (omega arith) t.2 place (omega arith) (omega arith)

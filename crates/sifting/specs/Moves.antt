@@ -1,10 +1,10 @@
 -- One variable moved among the others.
 --     Moves place other from to      the variable at one place stands at another, and the others keep their order
 --     StopsAbove, StopsBelow      why a variable can't go further
---     PassesBetween, PassesBelow      why a variable can go back up, or down
+--     PassesBetween      why a variable can go back up
 --     size_at m others x i      the size with a variable at a place among others
 --     FindsBest      where a variable has its uppermost place of least size, of those that it went through
---     WalksUp, WalksDown      the result of moving a variable up, or down, as far as the pairs allow
+--     WalksDown      the result of moving a variable down as far as the pairs allow
 use Rattle.std.specs.Prelude.{◌≡◌, ℕ, ◌+◌, ◌-◌, ◌<◌, ◌≤◌, ◌⊎◌, List, length, map, slice_index, IsTrue, IsFalse, Bool, [], nat_lt}
 use Rattle.std.specs.List.{insert, fold, range_with_len}
 use Rattle.definitions.specs.Pairs.{Pair, Keeps, has_pair}
@@ -35,12 +35,6 @@ StopsAbove P order place = (place ≡ 0) ⊎ IsTrue (has_pair P (slice_index ord
 abbrev pub StopsBelow : List Pair → List ℕ → ℕ → Type 0
 StopsBelow P order place = (length order ≤ place + 1)
     ⊎ IsTrue (has_pair P (slice_index order place) (slice_index order (place + 1)))
-
--- of the variables between two places, none must stay below the one at the upper place
-abbrev pub PassesBelow : Managed → ℕ → ℕ → Type 0
-PassesBelow m upper lower = (others : List ℕ) (x : ℕ) → upper ≤ length others → m.order ≡ insert others upper x →
-    (i : ℕ) → upper ≤ i → i < lower →
-    IsFalse (has_pair m.pairs x (slice_index others i))
 
 -- the orders with x at the places from one to another
 abbrev pub placed_from : List ℕ → ℕ → ℕ → ℕ → List (List ℕ)
@@ -79,13 +73,6 @@ pub record FindsBest (m : Managed) (place from to best least : ℕ) : Type 0 whe
   pub uppermost : (others : List ℕ) (x : ℕ) → place ≤ length others → m.order ≡ insert others place x → (i : ℕ) → from ≤ i →
       i < best →
       least < size_at m others x i
-
--- the result of moving a variable up as far as the pairs allow
-pub record WalksUp (m : Managed) (from : ℕ) (w : Walk) : Type 0 where
-  pub moved : IsMoved from w.place m w.manager
-  pub upward : w.place ≤ from
-  pub stops : StopsAbove w.manager.pairs w.manager.order w.place
-  pub best : FindsBest m from w.place from w.best.place w.best.size
 
 -- the result of moving a variable down as far as the pairs allow
 pub record WalksDown (m : Managed) (from : ℕ) (w : Walk) : Type 0 where

@@ -86,6 +86,8 @@ fn number_halves(
     ensures { OnOk result
         (SplitsFirst (length cut.now) nodes.now variable cut.now level.new.items codes.new.keys) }
 {
+    codes.reserve(cut.len())?;
+    level.reserve(cut.len())?;
     for r in cut {
         let (low, high) = halves(nodes, variable, *r);
         let (off, _) = codes.insert_full(code(low))?;
@@ -110,8 +112,8 @@ fn split(
     requires inside { All (IsBefore (length nodes.now)) cut.now }
     ensures { IfOk result (λ r. Splits nodes.now variable cut.now r.0.items r.1.items) }
 {
-    let mut codes = IndexSet::with_capacity(alloc, cut.len())?;
-    let mut level = Vec::with_capacity(alloc, cut.len())?;
+    let mut codes = IndexSet::new(alloc);
+    let mut level = Vec::new(alloc);
     number_halves(n, nodes, variable, cut, &mut codes, &mut level)?;
     let next = references(alloc, codes.as_slice())?;
     Ok((level, next))
@@ -145,8 +147,8 @@ fn first_cut(alloc: Global, size: usize, roots: &[Ref]) -> Result<(Vec<u32>, Vec
     requires inside { All (IsBefore size) roots.now }
     ensures { IfOk result (λ r. Numbers roots.now r.0.items r.1.items) }
 {
-    let mut codes = IndexSet::with_capacity(alloc, roots.len())?;
-    let mut numbers = Vec::with_capacity(alloc, roots.len())?;
+    let mut codes = IndexSet::new(alloc);
+    let mut numbers = Vec::new(alloc);
     number_roots(roots, &mut codes, &mut numbers)?;
     let cut = references(alloc, codes.as_slice())?;
     Ok((numbers, cut))

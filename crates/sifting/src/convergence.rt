@@ -1,11 +1,9 @@
 //! A tight bound for a search: sifting until nothing is gained, from an order and from it reversed.
 
 ghost use Rattle.std.specs.Prelude.{◌≡◌, ◌≤◌, ◌⊎◌, IfOk, IfSome};
-ghost use Rattle.std.specs.Thread.{IsSync};
 
 use crate::manager::Manager;
 use crate::sift::{Sifted, raise};
-use crate::sift_by_threads::{SerialSifter, Sifter, ThreadedSifter};
 use order_model::Workers;
 use std::alloc::{AllocError, Global};
 use std::thread;
@@ -47,14 +45,14 @@ impl Manager {
 impl Sifted {
     ghost use Rattle.sifting.specs.Managed.{IsNoLarger};
 
-    /// Sifts by `sifter` until a pass leaves the size as it is, in at most 16 passes.
-    fn repeat<S: Sifter>(self, sifter: &S, alloc: Global) -> Result<Sifted, AllocError>
+    /// Sifts until a pass leaves the size as it is, in at most 16 passes.
+    fn repeat(self, alloc: Global) -> Result<Sifted, AllocError>
         ensures { IfOk result (IsNoLarger self) }
     {
         let mut sifted = self;
         for _ in 0..MOST_PASSES {
             let size = sifted.size();
-            sifted = sifted.into_manager().sift_by(sifter, alloc)?;
+            sifted = sifted.into_manager().sift(alloc)?;
             if sifted.size() == size {
                 break;
             }
@@ -97,8 +95,8 @@ impl Sifted {
         let Some(other) = self.other_start(alloc)? else {
             return Ok(self);
         };
-        let here = self.repeat(&SerialSifter, alloc)?;
-        let there = other.sift(alloc)?.repeat(&SerialSifter, alloc)?;
+        let here = self.repeat(alloc)?;
+        let there = other.sift(alloc)?.repeat(alloc)?;
         Ok(here.or_smaller(there))
     }
 
@@ -113,9 +111,8 @@ impl Sifted {
         self.sifted_to_convergence(alloc)
     }
 
-    /// `search_bound`, by threads, with the same result for any number of workers. With two or
-    /// three workers each start has a thread, with four or more it has two while its diagram has at
-    /// least 4,096 nodes.
+    /// The order whose size bounds the search, as by `search_bound`. With two workers or more each
+    /// start is sifted by a thread of its own.
     pub fn search_bound_by_threads<R: Threads + Sync>(
         self,
         rt: &R,
@@ -124,11 +121,8 @@ impl Sifted {
     ) -> Result<Sifted, AllocError>
         ensures { IfOk result (IsNoLarger self) }
     {
-        let Some(workers) = Workers::new(workers.count() / 2) else {
+        if workers.count() == 1 || self.order().len() < LEAST_INPUTS {
             return self.search_bound(alloc);
-        };
-        if self.order().len() < LEAST_INPUTS {
-            return Ok(self);
         }
         let Some(other) = self.other_start(alloc)? else {
             return Ok(self);
@@ -136,17 +130,12 @@ impl Sifted {
         let (there, here) = thread::join(
             rt,
             move || -> Result<Sifted, AllocError>
-                requires { IsSync R.row }
                 ensures { IfOk result (λ s. (s.problem ≡ other.problem)
                     × (s.pairs ≡ other.pairs)) }
-            {
-                let threads = ThreadedSifter { rt, workers };
-                other.sift_by(&threads, alloc)?.repeat(&threads, alloc)
-            },
+            { other.sift(alloc)?.repeat(alloc) },
             move || -> Result<Sifted, AllocError>
-                requires { IsSync R.row }
                 ensures { IfOk result (IsNoLarger self) }
-            { self.repeat(&ThreadedSifter { rt, workers }, alloc) },
+            { self.repeat(alloc) },
         );
         Ok(here?.or_smaller(there?))
     }

@@ -8,7 +8,6 @@ mod levels;
 mod manager;
 mod node_table;
 mod sift;
-mod sift_by_threads;
 
 pub use manager::Manager;
 pub use sift::Sifted;

@@ -58,7 +58,8 @@ fn joined_places(pair: (u32, u32)) -> u8
     if pair.0 == pair.1 { halves } else { halves | 8 }
 }
 
-/// For each mask q of places, from 0 to 15, the mask of the variables of `set` at these places.
+/// For each mask q of places, from 0 to 15, the mask of the variables at these places of `set`, a
+/// set of four variables. Place 0 has the highest of them.
 fn masks_by_places(set: Mask) -> [Mask; 16]
     requires { count_ones set ≡ 4 }
     ensures { (q : ℕ) → q < 16 → slice_index result q ≡ mask_at (members 16 set) q }

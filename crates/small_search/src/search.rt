@@ -183,7 +183,8 @@ pub fn find_optimum(
     optimum_of(alloc, &AllCells::of_cells(&instance, cells))
 }
 
-/// The same order, and the sets and costs that its certificate lists.
+/// The first order of the fewest nodes among those that keep `pairs`, and the sets and costs that
+/// its certificate lists. Takes as long as `find_optimum`.
 pub fn solve(alloc: Global, problem: &Problem, pairs: &Pairs) -> Result<Solution, AllocError>
     requires { pairs.now.inputs ≡ problem.now.inputs }
     ensures { IfOk result (IsSolution problem.now pairs.now.pairs) }

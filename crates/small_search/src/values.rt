@@ -58,7 +58,8 @@ fn join_blocks(before: &[u8], x: VarIx, step: usize, shift: u32, values: &mut [u
     }
 }
 
-/// `join_blocks` with entries 2^x apart.
+/// Joins the entries of `before` that are 2^x apart, whatever x is: the lower one and, shifted left
+/// by `shift`, the upper one.
 pub(crate) fn join_values(before: &[u8], x: VarIx, shift: u32, values: &mut [u8])
     requires paired { IsPaired before.now x }
     requires shift { shift ≤ 4 }

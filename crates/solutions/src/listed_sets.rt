@@ -20,7 +20,7 @@ fn count_outside(essential: Mask, mask: Mask) -> u32
 }
 
 /// The sets that a certificate of an order of `total` nodes lists, by rising mask, with their
-/// costs.
+/// costs. Pruned and unlawful sets cost more than any total, so they aren't listed.
 pub(crate) fn listed_cells(
     alloc: Global,
     cells: &AllCells<'_>,

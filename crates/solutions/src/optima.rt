@@ -28,7 +28,8 @@ pub fn optimum_of(alloc: Global, cells: &AllCells<'_>) -> Result<SizedOrder, All
     })
 }
 
-/// The same optimum, and the sets and costs that its certificate lists.
+/// The first order of the fewest nodes that `cells` give, and the sets and costs that its
+/// certificate lists.
 pub fn solution_of(alloc: Global, cells: &AllCells<'_>) -> Result<Solution, AllocError>
     requires { cells.now.lower_bound ≡ Variables }
     ensures { IfOk result (IsSolution cells.now.problem cells.now.pairs.pairs) }

@@ -86,7 +86,7 @@ pub fn make_diagram(
     Ok(())
 }
 
-/// Makes the reduced diagram of the functions of `tables`, as `make_diagram` does.
+/// Makes the reduced diagram of the functions of `tables` under `order` in `memory`.
 fn draw_tables(
     tables: &Tables,
     order: &[VarIx],

@@ -112,7 +112,8 @@ impl Tables {
         Ok(Row::new(n, words))
     }
 
-    /// Overwrites `values` as `write_packed_values` does.
+    /// Overwrites `values` with the functions' values, function by function, one entry a point. The
+    /// points are numbered by `order`.
     pub(crate) fn write_values(
         &self,
         order: &[VarIx],
