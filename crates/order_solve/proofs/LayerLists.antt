@@ -1,13 +1,16 @@
 -- The layers that are done.
 --     layers_done      those before the last one
 --     layers_push      one layer more
+--     each_cell      a cell for each set
 use Rattle.std.proofs.Common.{◌≡◌, ℕ, ◌+◌, ◌<◌, inl, inr, List, [], ◌∷◌, ◌++◌, length, length-append, Some, sym, ap, ◌∙◌, subst, arith}
 use Rattle.std.proofs.lemmas.Bool.{cases_lt}
-use Rattle.std.proofs.lemmas.List.{get_or_append_left, get_or_push}
+use Rattle.std.proofs.lemmas.List.{get_or_append_left, get_or_push, length-map}
 use Rattle.std.proofs.lemmas.Option.{slice_get_within, slice_get-get_or, get_or_from_slice_get}
 use Rattle.subset_layers.specs.Costs.{CostsOf}
-use Rattle.layer_core.specs.Instances.{InstanceOf}
-use Rattle.layer_core.specs.LayerCosts.{AreDone, IsLayerFor, AreLayersFor}
+use Rattle.subset_layers.specs.declared.costs.Cell.{Cell}
+use Rattle.layer_core.specs.Pairing.{pair_of}
+use Rattle.layer_core.specs.Instances.{InstanceOf, cell_for}
+use Rattle.layer_core.specs.LayerCosts.{AreCells, AreDone, IsLayerFor, AreLayersFor}
 
 pub layers_done : (t : InstanceOf) (done layers : List CostsOf) (size n : ℕ) → done ≡ layers → length layers ≡ size + 1 → size < n →
     n ≡ t.problem.inputs → AreLayersFor t layers → AreDone t done
@@ -28,3 +31,6 @@ layers_push t layers c h new k d e = elim (cases_lt k (length layers)) [
       let is : d ≡ c = sym (get_or_from_slice_get (layers ++ c ∷ []) k d d e) ∙ get_or_push layers c d k at in
       subst (λ (z : CostsOf). IsLayerFor t k z) (sym is) (subst (λ (i : ℕ). IsLayerFor t i c) at new)
 ]
+
+pub each_cell : (t : InstanceOf) (masks : List ℕ) (cells : List Cell) → AreCells t masks cells → length cells ≡ length masks
+each_cell t masks cells e = sym (length-map cells pair_of) ∙ ap length e ∙ length-map masks (cell_for t)

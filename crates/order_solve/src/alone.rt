@@ -1,10 +1,11 @@
 //! Computes the cells of all sets on the calling thread, one layer (the sets of one size) after
 //! another.
 
-ghost use Rattle.std.specs.Prelude.{◌≡◌, length, map, IfOk};
+ghost use Rattle.std.specs.Prelude.{◌≡◌, IfOk, length, map};
 ghost use Rattle.subset_layers.specs.Layers.{layer_with, masks_of};
-ghost use Rattle.layer_core.specs.LayerCosts.{AreAllLayers, AreDone, IsLayerFor};
+ghost use Rattle.layer_core.specs.LayerCosts.{AreDone, IsLayerFor};
 ghost use Rattle.layer_core.specs.Needs.{needed};
+ghost use Rattle.solutions.specs.Bounded.{IsBounded};
 
 use crate::layer_needs::LayerNeeds;
 use crate::layers::first_layer;
@@ -12,8 +13,27 @@ use crate::look_ahead::look_ahead;
 use compaction::{Preparation, renaming_of};
 use layer_core::Instance;
 use layer_work::{LayerContext, cells_alone};
+use solutions::AllCells;
 use std::alloc::{AllocError, Global};
 use subset_layers::Costs;
+
+/// Finds the rows of widths that the layer after those in `done` needs and `prepared` lacks.
+fn find_rows_alone(
+    alloc: Global,
+    instance: &Instance<'_>,
+    prepared: &mut Preparation<'_>,
+    done: &[Costs],
+    needs: &LayerNeeds,
+) -> Result<(), AllocError>
+    requires prepared { needs.now.layer.inputs ≡ prepared.old.problem.inputs }
+    requires done { AreDone instance.now done.now }
+    ensures { prepared.new.problem ≡ prepared.old.problem }
+{
+    if let Some(ahead) = look_ahead(alloc, instance, prepared, done, needs)? {
+        prepared.find_alone(alloc, &ahead.requests, ahead.end)?;
+    }
+    Ok(())
+}
 
 /// Computes the layer of `needs`, which comes after those in `done`, on the calling thread.
 fn next_layer_alone(
@@ -36,21 +56,22 @@ fn next_layer_alone(
     Ok(Costs::of(layer, cells))
 }
 
-/// Prepares the search and computes all layers, on the calling thread: entry k of the result has
-/// the sets of k variables.
-pub(crate) fn layers_alone(alloc: Global, instance: &Instance<'_>) -> Result<Vec<Costs>, AllocError>
-    ensures { IfOk result (λ v. AreAllLayers instance.now v.items) }
+/// Prepares the search, and computes the cells of all sets, on the calling thread.
+pub(crate) fn all_cells_alone<'a>(
+    alloc: Global,
+    instance: &'a Instance<'a>,
+) -> Result<AllCells<'a>, AllocError>
+    requires { IsBounded instance.now }
+    ensures { IfOk result (λ a. a ≡ instance.now) }
 {
     let renaming = renaming_of(alloc, instance.problem())?;
     let mut prepared = Preparation::of(alloc, &renaming, instance.pairs())?;
     let mut layers = first_layer(alloc, instance)?;
     for _size in 0..instance.inputs() {
         let needs = LayerNeeds::after(alloc, instance, &layers)?;
-        if let Some(ahead) = look_ahead(alloc, instance, &prepared, &layers, &needs)? {
-            prepared.find_alone(alloc, &ahead.requests, ahead.end)?;
-        }
+        find_rows_alone(alloc, instance, &mut prepared, &layers, &needs)?;
         let next = next_layer_alone(alloc, instance, &prepared, &layers, needs)?;
         layers.push(next)?;
     }
-    Ok(layers)
+    AllCells::of_layers(alloc, instance, &layers)
 }

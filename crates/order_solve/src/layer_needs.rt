@@ -15,6 +15,7 @@ use subset_layers::{Costs, Layer};
 pub(crate) struct LayerNeeds {
     pub(crate) layer: Layer,
     pub(crate) members: Vec<Mask>,
+    ghost each: { length members.items ≡ length (masks_of layer) },
 }
 
 impl LayerNeeds {

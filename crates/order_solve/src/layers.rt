@@ -2,8 +2,9 @@
 
 ghost use Rattle.std.specs.Prelude.{◌≡◌, IfOk, length, map};
 ghost use Rattle.subset_layers.specs.Layers.{layer_with, masks_of};
-ghost use Rattle.layer_core.specs.LayerCosts.{AreAllLayers, AreDone, AreLayersFor, IsLayerFor};
+ghost use Rattle.layer_core.specs.LayerCosts.{AreDone, AreLayersFor, IsLayerFor};
 ghost use Rattle.layer_core.specs.Needs.{needed};
+ghost use Rattle.solutions.specs.Bounded.{IsBounded};
 
 use crate::crews::cells_of_layer;
 use crate::layer_needs::LayerNeeds;
@@ -12,6 +13,7 @@ use compaction::Preparation;
 use layer_core::Instance;
 use layer_work::LayerContext;
 use order_model::{Crew, Gate};
+use solutions::AllCells;
 use std::alloc::{AllocError, Global};
 use std::thread::Threads;
 use subset_layers::Costs;
@@ -24,6 +26,25 @@ pub(crate) fn first_layer(alloc: Global, instance: &Instance<'_>) -> Result<Vec<
     let mut layers = Vec::new(alloc);
     layers.push(Costs::start(alloc, instance.inputs())?)?;
     Ok(layers)
+}
+
+/// Finds the rows of widths that the layer after those in `done` needs and `prepared` lacks.
+fn find_rows<R: Threads + Sync, G: Gate>(
+    crew: &Crew<'_, R, G>,
+    alloc: Global,
+    instance: &Instance<'_>,
+    prepared: &mut Preparation<'_>,
+    done: &[Costs],
+    needs: &LayerNeeds,
+) -> Result<(), AllocError>
+    requires prepared { needs.now.layer.inputs ≡ prepared.old.problem.inputs }
+    requires done { AreDone instance.now done.now }
+    ensures { prepared.new.problem ≡ prepared.old.problem }
+{
+    if let Some(ahead) = look_ahead(alloc, instance, prepared, done, needs)? {
+        prepared.find(crew.rt, alloc, &ahead.requests, ahead.end, crew.workers)?;
+    }
+    Ok(())
 }
 
 /// Computes the layer of `needs`, which comes after those in `done`, by the workers of `crew`.
@@ -48,26 +69,24 @@ fn next_layer<R: Threads + Sync, G: Gate>(
     Ok(Costs::of(layer, cells))
 }
 
-/// Computes all layers by the workers of `crew`: entry k of the result has the sets of k variables.
-/// Rows of widths that `prepared` lacks are found before the layer that needs them.
-pub(crate) fn layers_of<R: Threads + Sync, G: Gate>(
+/// Computes the cells of all sets by the workers of `crew`, and adds to `prepared` the rows of
+/// widths that it lacks.
+pub(crate) fn all_cells<'a, R: Threads + Sync, G: Gate>(
     crew: &Crew<'_, R, G>,
     alloc: Global,
-    instance: &Instance<'_>,
-    prepared: Preparation<'_>,
-) -> Result<Vec<Costs>, AllocError>
-    requires { prepared.problem ≡ instance.now.problem }
-    ensures { IfOk result (λ v. AreAllLayers instance.now v.items) }
+    instance: &'a Instance<'a>,
+    prepared: &mut Preparation<'_>,
+) -> Result<AllCells<'a>, AllocError>
+    requires prepared { prepared.old.problem ≡ instance.now.problem }
+    requires bounded { IsBounded instance.now }
+    ensures { IfOk result (λ a. a ≡ instance.now) }
 {
-    let mut prepared = prepared;
     let mut layers = first_layer(alloc, instance)?;
     for _size in 0..instance.inputs() {
         let needs = LayerNeeds::after(alloc, instance, &layers)?;
-        if let Some(ahead) = look_ahead(alloc, instance, &prepared, &layers, &needs)? {
-            prepared.find(crew.rt, alloc, &ahead.requests, ahead.end, crew.workers)?;
-        }
-        let next = next_layer(crew, alloc, instance, &prepared, &layers, needs)?;
+        find_rows(crew, alloc, instance, prepared, &layers, &needs)?;
+        let next = next_layer(crew, alloc, instance, &*prepared, &layers, needs)?;
         layers.push(next)?;
     }
-    Ok(layers)
+    AllCells::of_layers(alloc, instance, &layers)
 }

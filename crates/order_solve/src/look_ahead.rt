@@ -28,7 +28,6 @@ fn requests_of_layer(
     needs: &LayerNeeds,
 ) -> Result<Requests, AllocError>
     requires inputs { needs.now.layer.inputs ≡ prepared.now.problem.inputs }
-    requires members { length needs.now.members.items ≡ length (masks_of needs.now.layer) }
 {
     let mut requests = prepared.requests(alloc)?;
     for (place, needed) in needs.members.iter().enumerate() {
@@ -54,7 +53,6 @@ pub(crate) fn look_ahead(
 ) -> Result<Option<LookAhead>, AllocError>
     requires done { AreDone instance.now done.now }
     requires inputs { needs.now.layer.inputs ≡ prepared.now.problem.inputs }
-    requires members { length needs.now.members.items ≡ length (masks_of needs.now.layer) }
 {
     let mut requests = requests_of_layer(alloc, prepared, needs)?;
     if requests.is_empty() {

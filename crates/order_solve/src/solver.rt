@@ -10,13 +10,13 @@ ghost use Rattle.symmetries.specs.SymmetricPairs.{IsHarmless};
 ghost use Rattle.solutions.specs.Bounded.{IsBounded};
 ghost use Rattle.solutions.specs.Solutions.{IsOptimumFor, IsSolution};
 
-use crate::alone::layers_alone;
-use crate::layers::layers_of;
+use crate::alone::all_cells_alone;
+use crate::layers::all_cells;
 use crate::preparation::SearchStart;
 use layer_core::Instance;
 use order_model::{Crew, Gate, Limit, LowerBound, Pairs, Problem, SizedOrder, Workers};
 use sifting::Sifted;
-use solutions::{AllCells, Solution, optimum_of, solution_of};
+use solutions::{Solution, optimum_of, solution_of};
 use std::alloc::{AllocError, Global};
 use std::thread::Threads;
 use symmetries::pairs_to_keep;
@@ -63,9 +63,9 @@ pub fn find_optimum<R: Threads + Sync, G: Gate>(
     ensures { IfOk result (IsOptimumFor sifted.problem sifted.pairs) }
 {
     let SearchStart { prepared, kept } = start;
+    let mut prepared = prepared;
     let instance = instance_of(prepared.problem(), &sifted, &kept, LowerBound::Widths);
-    let layers = layers_of(&Crew::new(rt, workers, gate), alloc, &instance, prepared)?;
-    let cells = AllCells::of_layers(alloc, &instance, &layers)?;
+    let cells = all_cells(&Crew::new(rt, workers, gate), alloc, &instance, &mut prepared)?;
     optimum_of(alloc, &cells)
 }
 
@@ -81,8 +81,7 @@ pub fn find_optimum_alone(
 {
     let pairs = pairs_to_keep(alloc, problem, sifted.pairs())?;
     let instance = instance_of(problem, &sifted, &pairs, LowerBound::Widths);
-    let layers = layers_alone(alloc, &instance)?;
-    let cells = AllCells::of_layers(alloc, &instance, &layers)?;
+    let cells = all_cells_alone(alloc, &instance)?;
     optimum_of(alloc, &cells)
 }
 
@@ -102,10 +101,10 @@ pub fn solve<R: Threads + Sync, G: Gate>(
     ensures { IfOk result (IsSolution sifted.problem sifted.pairs) }
 {
     let SearchStart { prepared, kept: _ } = start;
+    let mut prepared = prepared;
     let problem = prepared.problem();
     let instance = instance_of(problem, &sifted, sifted.pairs(), LowerBound::Variables);
-    let layers = layers_of(&Crew::new(rt, workers, gate), alloc, &instance, prepared)?;
-    let cells = AllCells::of_layers(alloc, &instance, &layers)?;
+    let cells = all_cells(&Crew::new(rt, workers, gate), alloc, &instance, &mut prepared)?;
     solution_of(alloc, &cells)
 }
 
@@ -117,8 +116,7 @@ pub fn solve_alone(alloc: Global, problem: &Problem, sifted: Sifted) -> Result<S
     ensures { IfOk result (IsSolution problem.now sifted.pairs) }
 {
     let instance = instance_of(problem, &sifted, sifted.pairs(), LowerBound::Variables);
-    let layers = layers_alone(alloc, &instance)?;
-    let cells = AllCells::of_layers(alloc, &instance, &layers)?;
+    let cells = all_cells_alone(alloc, &instance)?;
     solution_of(alloc, &cells)
 }
 
@@ -131,7 +129,6 @@ pub fn count_widths(alloc: Global, problem: &Problem, sifted: Sifted) -> Result<
         Variables sifted.size) }
 {
     let instance = instance_of(problem, &sifted, sifted.pairs(), LowerBound::Variables);
-    let layers = layers_alone(alloc, &instance)?;
-    let cells = AllCells::of_layers(alloc, &instance, &layers)?;
+    let cells = all_cells_alone(alloc, &instance)?;
     Ok(solutions::count_widths(&cells))
 }

@@ -4,6 +4,7 @@ use Rattle.subset_layers.specs.Layers.{masks_of}
 use Rattle.layer_core.specs.Instances.{cell_for}
 use Rattle.layer_work.specs.LayerContexts.{ContextOf}
 use Rattle.layer_core.proofs.CellPlaces.{layer_is}
+use Rattle.order_solve.proofs.LayerLists.{each_cell}
 use Rattle.order_solve.proofs.layers.next_layer.Goals as goal
 
 pub new-context-requires-clause-context : goal.new-context-requires-clause-context
@@ -16,3 +17,8 @@ returns g c =
     (c.in_ok-cells.ensures
     ∙ ap (λ (b : ContextOf). map (cell_for b.instance) (masks_of b.layer)) c.new-context.ensures)
     c.of.ensures.exact
+
+pub of-requires-clause-cells : goal.of-requires-clause-cells
+of-requires-clause-cells g c =
+    each_cell c.new-context.result.instance (masks_of c.new-context.result.layer) c.in_ok-cells.cells.items c.in_ok-cells.ensures
+    ∙ ap (λ (b : ContextOf). length (masks_of b.layer)) c.new-context.ensures

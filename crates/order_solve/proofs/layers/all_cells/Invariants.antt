@@ -1,6 +1,6 @@
 use Rattle.std.proofs.Common.{◌≡◌, ◌+◌, length}
 use Rattle.layer_core.specs.LayerCosts.{AreLayersFor}
-use Rattle.order_solve.proofs.layers.layers_of.Given as goal
+use Rattle.order_solve.proofs.layers.all_cells.Given as goal
 
 abbrev pub invariant-loop-size : goal.invariant-loop-size
 invariant-loop-size g l = record {

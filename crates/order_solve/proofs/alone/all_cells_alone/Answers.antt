@@ -1,16 +1,30 @@
 use Rattle.std.proofs.Common.{ℕ, ◌+◌, List, [], ◌∷◌, length, length-append, slice_get, sym, ap, ◌∙◌, subst}
+use Rattle.definitions.specs.Problems.{TruthTables}
 use Rattle.subset_layers.specs.Costs.{CostsOf}
-use Rattle.compaction.specs.Preparations.{PreparedOf}
+use Rattle.subset_layers.specs.Layers.{LayerOf}
 use Rattle.layer_core.specs.LayerCosts.{IsLayerFor}
 use Rattle.order_solve.proofs.LayerLists.{layers_done, layers_push}
-use Rattle.order_solve.proofs.alone.layers_alone.Goals as goal
-use Rattle.order_solve.proofs.alone.layers_alone.Goals.{in-Some+in_ok-find_alone, in_default}
+use Rattle.order_solve.proofs.alone.all_cells_alone.Goals as goal
 
-pub look_ahead-requires-clause-done : goal.look_ahead-requires-clause-done
-look_ahead-requires-clause-done c =
+pub after-requires : goal.after-requires
+after-requires c =
+    layers_done c.args.instance.now c.deref.result.now c.loop-size.layers.items c.loop-size._size c.inputs-size-end.result
+    c.deref.ensures.value c.loop-size.invariant.many c.loop-size-test.true c.inputs-size-end.ensures.value
+    c.loop-size.invariant.layers_are
+
+pub find_rows_alone-requires-clause-prepared : goal.find_rows_alone-requires-clause-prepared
+find_rows_alone-requires-clause-prepared c =
+    ap (λ (l : LayerOf). l.inputs) c.in_ok-needs.ensures.layer
+    ∙ ap (λ (t : TruthTables). t.inputs) (sym c.loop-size.invariant.problem)
+
+pub find_rows_alone-requires-clause-done : goal.find_rows_alone-requires-clause-done
+find_rows_alone-requires-clause-done c =
     layers_done c.args.instance.now c.deref-in-loop-size.result.now c.loop-size.layers.items c.loop-size._size c.inputs-size-end.result
     c.deref-in-loop-size.ensures.value c.loop-size.invariant.many c.loop-size-test.true c.inputs-size-end.ensures.value
     c.loop-size.invariant.layers_are
+
+pub next_layer_alone-requires-clause-prepared : goal.next_layer_alone-requires-clause-prepared
+next_layer_alone-requires-clause-prepared c = c.find_rows_alone.ensures ∙ c.loop-size.invariant.problem
 
 pub next_layer_alone-requires-clause-done : goal.next_layer_alone-requires-clause-done
 next_layer_alone-requires-clause-done c =
@@ -26,10 +40,7 @@ loop-size-preserved c =
     let is = c.in_ok-push.ensures.items in
     let w = c.loop-size.invariant in
     record {
-      problem = elim c.match-branch-6.branch [
-        | in-Some+in_ok-find_alone w' ↦ ap (λ (p : PreparedOf). p.problem) w'.prepared-is ∙ w'.find_alone.ensures ∙ w.problem
-        | in_default w' ↦ ap (λ (p : PreparedOf). p.problem) w'.prepared-is ∙ w.problem
-      ];
+      problem = c.find_rows_alone.ensures ∙ w.problem;
       many = ap length is ∙ length-append items (costs ∷ []) ∙ ap (λ n. n + 1) w.many;
       layers_are =
           λ k d at. layers_push t items costs w.layers_are
