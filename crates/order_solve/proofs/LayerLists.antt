@@ -2,7 +2,8 @@
 --     layers_done      those before the last one
 --     layers_push      one layer more
 --     each_cell      a cell for each set
-use Rattle.std.proofs.Common.{◌≡◌, ℕ, ◌+◌, ◌<◌, inl, inr, List, [], ◌∷◌, ◌++◌, length, length-append, Some, sym, ap, ◌∙◌, subst, arith}
+--     last_layer      the last one that is done
+use Rattle.std.proofs.Common.{◌≡◌, ℕ, ◌+◌, ◌-◌, ◌<◌, get_or, inl, inr, List, [], ◌∷◌, ◌++◌, length, length-append, Some, sym, ap, ◌∙◌, subst, arith}
 use Rattle.std.proofs.lemmas.Bool.{cases_lt}
 use Rattle.std.proofs.lemmas.List.{get_or_append_left, get_or_push, length-map}
 use Rattle.std.proofs.lemmas.Option.{slice_get_within, slice_get-get_or, get_or_from_slice_get}
@@ -34,3 +35,9 @@ layers_push t layers c h new k d e = elim (cases_lt k (length layers)) [
 
 pub each_cell : (t : InstanceOf) (masks : List ℕ) (cells : List Cell) → AreCells t masks cells → length cells ≡ length masks
 each_cell t masks cells e = sym (length-map cells pair_of) ∙ ap length e ∙ length-map masks (cell_for t)
+
+pub last_layer : (t : InstanceOf) (done : List CostsOf) (last : CostsOf) → AreDone t done → last ≡ get_or done (length done - 1) last →
+    IsLayerFor t (length done - 1) last
+last_layer t done last h e =
+    h.layers_are (length done - 1) last
+    (slice_get-get_or done (length done - 1) last (let some = h.some in omega (arith, some)) ∙ ap Some (sym e))

@@ -56,6 +56,27 @@ fn next_layer_alone(
     Ok(Costs::of(layer, cells))
 }
 
+/// Computes the cells of all sets on the calling thread, and adds to `prepared` the rows of widths
+/// that it lacks.
+fn cells_with<'a>(
+    alloc: Global,
+    instance: &'a Instance<'a>,
+    prepared: &mut Preparation<'_>,
+) -> Result<AllCells<'a>, AllocError>
+    requires prepared { prepared.old.problem ≡ instance.now.problem }
+    requires bounded { IsBounded instance.now }
+    ensures { IfOk result (λ a. a ≡ instance.now) }
+{
+    let mut layers = first_layer(alloc, instance)?;
+    for _size in 0..instance.inputs() {
+        let needs = LayerNeeds::after(alloc, instance, &layers)?;
+        find_rows_alone(alloc, instance, prepared, &layers, &needs)?;
+        let next = next_layer_alone(alloc, instance, &*prepared, &layers, needs)?;
+        layers.push(next)?;
+    }
+    AllCells::of_layers(alloc, instance, &layers)
+}
+
 /// Prepares the search, and computes the cells of all sets, on the calling thread.
 pub(crate) fn all_cells_alone<'a>(
     alloc: Global,
@@ -66,12 +87,5 @@ pub(crate) fn all_cells_alone<'a>(
 {
     let renaming = renaming_of(alloc, instance.problem())?;
     let mut prepared = Preparation::of(alloc, &renaming, instance.pairs())?;
-    let mut layers = first_layer(alloc, instance)?;
-    for _size in 0..instance.inputs() {
-        let needs = LayerNeeds::after(alloc, instance, &layers)?;
-        find_rows_alone(alloc, instance, &mut prepared, &layers, &needs)?;
-        let next = next_layer_alone(alloc, instance, &prepared, &layers, needs)?;
-        layers.push(next)?;
-    }
-    AllCells::of_layers(alloc, instance, &layers)
+    cells_with(alloc, instance, &mut prepared)
 }

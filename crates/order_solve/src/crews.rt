@@ -54,6 +54,40 @@ fn gather(
     Ok(seat)
 }
 
+/// Has a worker for each of `seats` post cells of the layer of `context` to `board`, and returns
+/// one of the seats.
+fn post_cells<R: Threads + Sync, G: Gate>(
+    crew: &Crew<'_, R, G>,
+    alloc: Global,
+    context: &LayerContext<'_>,
+    board: &Board,
+    seats: Vec<BoardSeat>,
+) -> Result<BoardSeat, AllocError>
+    requires some { 1 ≤ vec_len seats }
+    requires few { vec_len seats ≤ 64 }
+    requires seats { All (λ s. s.board ≡ board.now) seats.items }
+    requires instance { board.now.brief.instance ≡ context.now.instance }
+    requires layer { board.now.brief.layer ≡ context.now.layer }
+    ensures { IfOk result (λ s. s.board ≡ board.entry.now) }
+{
+    let jobs = number_seats(alloc, board, seats)?;
+    let gate = crew.gate;
+    let ended = thread::map_vec(
+        crew.rt,
+        jobs,
+        &|job: Job| -> Result<WorkerResult, AllocError>
+            requires { IsSync G.row × (job.seat.board ≡ board.now)
+                × (board.now.brief.instance ≡ context.now.instance)
+                × (board.now.brief.layer ≡ context.now.layer) }
+            ensures { IfOk result (λ e. e.seat.board ≡ board.entry.now) }
+        {
+            let Job { worker, seat } = job;
+            work_layer(alloc, board, seat, worker, context, gate)
+        },
+    )?;
+    gather(board, ended)
+}
+
 /// Computes the cells of the sets of the layer of `context`, by rising mask, by the workers of
 /// `crew`. If a cell is missing although memory was refused to no worker, the calling thread
 /// computes the whole layer anew.
@@ -74,23 +108,7 @@ pub(crate) fn cells_of_layer<R: Threads + Sync, G: Gate>(
         busy_workers(instance, context.layer(), crew.workers),
         instance.pairs(),
     )?;
-    let jobs = number_seats(alloc, &board, seats)?;
-    let gate = crew.gate;
-    let shared = &board;
-    let ended = thread::map_vec(
-        crew.rt,
-        jobs,
-        &|job: Job| -> Result<WorkerResult, AllocError>
-            requires { IsSync G.row × (job.seat.board ≡ shared.now)
-                × (shared.now.brief.instance ≡ context.now.instance)
-                × (shared.now.brief.layer ≡ context.now.layer) }
-            ensures { IfOk result (λ e. e.seat.board ≡ shared.entry.now) }
-        {
-            let Job { worker, seat } = job;
-            work_layer(alloc, shared, seat, worker, context, gate)
-        },
-    )?;
-    let seat = gather(&board, ended)?;
+    let seat = post_cells(crew, alloc, context, &board, seats)?;
     match board.close(alloc, seat) {
         Ok(cells) => Ok(cells),
         Err((_, CloseError::Missing(_))) => cells_alone(alloc, context),

@@ -65,7 +65,8 @@ pub fn find_optimum<R: Threads + Sync, G: Gate>(
     let SearchStart { prepared, kept } = start;
     let mut prepared = prepared;
     let instance = instance_of(prepared.problem(), &sifted, &kept, LowerBound::Widths);
-    let cells = all_cells(&Crew::new(rt, workers, gate), alloc, &instance, &mut prepared)?;
+    let crew = Crew::new(rt, workers, gate);
+    let cells = all_cells(&crew, alloc, &instance, &mut prepared)?;
     optimum_of(alloc, &cells)
 }
 
@@ -100,11 +101,11 @@ pub fn solve<R: Threads + Sync, G: Gate>(
     requires { sifted.problem ≡ start.problem }
     ensures { IfOk result (IsSolution sifted.problem sifted.pairs) }
 {
-    let SearchStart { prepared, kept: _ } = start;
-    let mut prepared = prepared;
-    let problem = prepared.problem();
+    let mut start = start;
+    let problem = start.prepared.problem();
     let instance = instance_of(problem, &sifted, sifted.pairs(), LowerBound::Variables);
-    let cells = all_cells(&Crew::new(rt, workers, gate), alloc, &instance, &mut prepared)?;
+    let crew = Crew::new(rt, workers, gate);
+    let cells = all_cells(&crew, alloc, &instance, &mut start.prepared)?;
     solution_of(alloc, &cells)
 }
 

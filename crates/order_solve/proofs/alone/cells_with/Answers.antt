@@ -4,7 +4,7 @@ use Rattle.subset_layers.specs.Costs.{CostsOf}
 use Rattle.subset_layers.specs.Layers.{LayerOf}
 use Rattle.layer_core.specs.LayerCosts.{IsLayerFor}
 use Rattle.order_solve.proofs.LayerLists.{layers_done, layers_push}
-use Rattle.order_solve.proofs.alone.all_cells_alone.Goals as goal
+use Rattle.order_solve.proofs.alone.cells_with.Goals as goal
 
 pub after-requires : goal.after-requires
 after-requires c =

@@ -1,6 +1,6 @@
 use Rattle.std.proofs.Common.{◌≡◌, ◌+◌, length}
 use Rattle.layer_core.specs.LayerCosts.{AreLayersFor}
-use Rattle.order_solve.proofs.alone.all_cells_alone.Given as goal
+use Rattle.order_solve.proofs.alone.cells_with.Given as goal
 
 abbrev pub invariant-loop-size : goal.invariant-loop-size
 invariant-loop-size l = record {
