@@ -1,1 +1,2 @@
 pub mod SearchStarts
+pub mod CellFinders

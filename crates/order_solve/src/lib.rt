@@ -10,6 +10,7 @@ mod layer_needs;
 mod layers;
 mod look_ahead;
 mod preparation;
+mod row_finders;
 mod solver;
 
 pub use compaction::{Preparation, renaming_of};

@@ -11,7 +11,7 @@ ghost use Rattle.solutions.specs.Bounded.{IsBounded};
 ghost use Rattle.solutions.specs.Solutions.{IsOptimumFor, IsSolution};
 
 use crate::alone::all_cells_alone;
-use crate::layers::all_cells;
+use crate::crews::all_cells_by_workers;
 use crate::preparation::SearchStart;
 use layer_core::Instance;
 use order_model::{Crew, Gate, Limit, LowerBound, Pairs, Problem, SizedOrder, Workers};
@@ -66,7 +66,7 @@ pub fn find_optimum<R: Threads + Sync, G: Gate>(
     let mut prepared = prepared;
     let instance = instance_of(prepared.problem(), &sifted, &kept, LowerBound::Widths);
     let crew = Crew::new(rt, workers, gate);
-    let cells = all_cells(&crew, alloc, &instance, &mut prepared)?;
+    let cells = all_cells_by_workers(&crew, alloc, &instance, &mut prepared)?;
     optimum_of(alloc, &cells)
 }
 
@@ -105,7 +105,7 @@ pub fn solve<R: Threads + Sync, G: Gate>(
     let problem = start.prepared.problem();
     let instance = instance_of(problem, &sifted, sifted.pairs(), LowerBound::Variables);
     let crew = Crew::new(rt, workers, gate);
-    let cells = all_cells(&crew, alloc, &instance, &mut start.prepared)?;
+    let cells = all_cells_by_workers(&crew, alloc, &instance, &mut start.prepared)?;
     solution_of(alloc, &cells)
 }
 

@@ -13,21 +13,21 @@ after-requires g c =
     c.loop-size.invariant.layers_are
 
 pub find_rows-requires-clause-prepared : goal.find_rows-requires-clause-prepared
-find_rows-requires-clause-prepared g c κs within =
+find_rows-requires-clause-prepared g c =
     ap (λ (l : LayerOf). l.inputs) c.in_ok-needs.ensures.layer
     ∙ ap (λ (t : TruthTables). t.inputs) (sym c.loop-size.invariant.problem)
 
 pub find_rows-requires-clause-done : goal.find_rows-requires-clause-done
-find_rows-requires-clause-done g c κs within =
+find_rows-requires-clause-done g c =
     layers_done c.args.instance.now c.deref-in-loop-size.result.now c.loop-size.layers.items c.loop-size._size c.inputs-size-end.result
     c.deref-in-loop-size.ensures.value c.loop-size.invariant.many c.loop-size-test.true c.inputs-size-end.ensures.value
     c.loop-size.invariant.layers_are
 
 pub next_layer-requires-clause-prepared : goal.next_layer-requires-clause-prepared
-next_layer-requires-clause-prepared g c κs within = c.find_rows.ensures ∙ c.loop-size.invariant.problem
+next_layer-requires-clause-prepared g c = c.find_rows.ensures ∙ c.loop-size.invariant.problem
 
 pub next_layer-requires-clause-done : goal.next_layer-requires-clause-done
-next_layer-requires-clause-done g c κs within =
+next_layer-requires-clause-done g c =
     layers_done c.args.instance.now c.deref-in-loop-size-2.result.now c.loop-size.layers.items c.loop-size._size c.inputs-size-end.result
     c.deref-in-loop-size-2.ensures.value c.loop-size.invariant.many c.loop-size-test.true c.inputs-size-end.ensures.value
     c.loop-size.invariant.layers_are

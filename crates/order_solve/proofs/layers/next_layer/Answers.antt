@@ -1,4 +1,4 @@
-use Rattle.std.proofs.Common.{map, length, ap, ◌∙◌, arith}
+use Rattle.std.proofs.Common.{map, length, ap, ◌∙◌, arith, rules, Ok}
 use Rattle.std.proofs.lemmas.Option.{slice_get_read}
 use Rattle.subset_layers.specs.Layers.{masks_of}
 use Rattle.layer_core.specs.Instances.{cell_for}
@@ -12,13 +12,15 @@ new-context-requires-clause-context g c = grind (arith, slice_get_read)
 
 pub returns : goal.returns
 returns g c =
+    let cells = c.requires.cells c.new-context.result (Ok c.in_ok-cells.cells) (search rules) in
     layer_is c.args.instance.now (length c.args.done.now) c.args.needs.layer c.in_ok-cells.cells.items c.of.result
     c.requires.layer c.of.ensures.value
-    (c.in_ok-cells.ensures
+    (cells
     ∙ ap (λ (b : ContextOf). map (cell_for b.instance) (masks_of b.layer)) c.new-context.ensures)
     c.of.ensures.exact
 
 pub of-requires-clause-cells : goal.of-requires-clause-cells
 of-requires-clause-cells g c =
-    each_cell c.new-context.result.instance (masks_of c.new-context.result.layer) c.in_ok-cells.cells.items c.in_ok-cells.ensures
+    let cells = c.requires.cells c.new-context.result (Ok c.in_ok-cells.cells) (search rules) in
+    each_cell c.new-context.result.instance (masks_of c.new-context.result.layer) c.in_ok-cells.cells.items cells
     ∙ ap (λ (b : ContextOf). length (masks_of b.layer)) c.new-context.ensures

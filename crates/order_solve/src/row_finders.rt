@@ -1,0 +1,64 @@
+//! Who finds rows of widths: the calling thread, or several workers.
+
+ghost use Rattle.std.specs.Prelude.{◌≡◌};
+
+use crate::look_ahead::LookAhead;
+use compaction::Preparation;
+use order_model::Workers;
+use std::alloc::{AllocError, Global};
+use std::thread::Threads;
+
+/// Who finds rows of widths.
+pub(crate) trait RowFinder {
+    // What a call requires.
+    ghost ready: { Self → Type 0 };
+
+    /// Finds the rows that `ahead` requests, and adds them to `prepared`.
+    fn find_rows(
+        &self,
+        alloc: Global,
+        prepared: &mut Preparation<'_>,
+        ahead: &LookAhead,
+    ) -> Result<(), AllocError>
+        requires { ready self.now }
+        ensures { prepared.new.problem ≡ prepared.old.problem };
+}
+
+/// The calling thread.
+#[derive(Drop)]
+pub(crate) struct CallingThread;
+
+/// Workers, whose threads `rt` starts.
+#[derive(Drop)]
+pub(crate) struct ByWorkers<'r, R> {
+    pub(crate) rt: &'r R,
+    pub(crate) workers: Workers,
+}
+
+impl RowFinder for CallingThread {
+    ghost ready = { λ _. Unit {0} };
+
+    fn find_rows(
+        &self,
+        alloc: Global,
+        prepared: &mut Preparation<'_>,
+        ahead: &LookAhead,
+    ) -> Result<(), AllocError> {
+        prepared.find_alone(alloc, &ahead.requests, ahead.end)
+    }
+}
+
+impl<'r, R: Threads + Sync> RowFinder for ByWorkers<'r, R> {
+    ghost use Rattle.std.specs.Thread.{IsSync};
+
+    ghost ready = { λ _. IsSync R.row };
+
+    fn find_rows(
+        &self,
+        alloc: Global,
+        prepared: &mut Preparation<'_>,
+        ahead: &LookAhead,
+    ) -> Result<(), AllocError> {
+        prepared.find(self.rt, alloc, &ahead.requests, ahead.end, self.workers)
+    }
+}
