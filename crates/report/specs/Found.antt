@@ -1,6 +1,7 @@
 -- What the search of a cover finds.
 --     IsSiftedFromFirst cover t P order size      the order sifted from the first one that keeps the pairs, and its size
 --     IsStartingManager instance m      the diagram under the first order that keeps the pairs, as it is sifted
+--     IsSiftedOnce m r      the order after one pass of sifting, and its size
 --     IsSiftingOf m s, IsSiftingFor instance s      the sifted order, and one of the same functions to bound the search
 --     IsFound instance f      the best order, the sifted one with its size, and the size under the file order
 use Rattle.std.specs.Prelude.{◌≡◌, ℕ, List, sum}
@@ -28,6 +29,11 @@ pub record IsStartingManager (i : SearchInput) (m : Managed) : Type 0 where
   pub first : IsFirstOrder i.cover.now.inputs i.pairs.now.pairs m.order
   pub functions : m.problem ≡ i.tables.now
   pub pairs : m.pairs ≡ i.pairs.now.pairs
+
+-- the order after one pass of sifting, and its size
+pub record IsSiftedOnce (m : Managed) (r : List ℕ × ℕ) : Type 0 where
+  pub order : r.0 ≡ sifted m.problem.inputs (functions m.problem) m.pairs m.order
+  pub size : r.1 ≡ size_under m.problem.inputs (functions m.problem) r.0
 
 -- the sifted order, its size, and an order of the same functions that keeps the same pairs
 pub record IsSiftingOf (m : Managed) (s : Sifting) : Type 0 where

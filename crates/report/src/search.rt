@@ -2,10 +2,11 @@
 //! bound of the search, while workers prepare it. Sifting starts from the diagram under the
 //! starting order, the lexicographically first that keeps the pairs.
 
-ghost use Rattle.std.specs.Prelude.{◌≡◌, IfOk, sum};
+ghost use Rattle.std.specs.Prelude.{◌≡◌, IfOk, Ok, sum};
 ghost use Rattle.std.specs.Thread.{IsSync};
 ghost use Rattle.order_solve.specs.SearchStarts.{IsStartFor};
-ghost use Rattle.report.specs.Found.{IsStartingManager, IsFound, IsSiftingFor, IsSiftingOf};
+ghost use Rattle.report.specs.Bests.{IsBestFor};
+ghost use Rattle.report.specs.Found.{IsStartingManager, IsFound, IsSiftedOnce, IsSiftingFor, IsSiftingOf};
 ghost use Rattle.report.specs.StartingDiagrams.{IsStartingDiagram};
 ghost use Rattle.report_texts.specs.Texts.{file_order_levels};
 
@@ -93,6 +94,19 @@ fn prepare_below<'a, R: Threads + Sync>(
     Ok(start)
 }
 
+/// The two results; Err if memory was refused to one of them.
+fn both<'a>(
+    sifting: Result<Sifting, AllocError>,
+    start: Result<SearchStart<'a>, AllocError>,
+) -> Result<(Sifting, SearchStart<'a>), AllocError>
+    ensures sifting { IfOk result (λ r. sifting ≡ Ok r.0) }
+    ensures start { IfOk result (λ r. start.entry ≡ Ok r.1) }
+{
+    let sifting = sifting?;
+    let start = start?;
+    Ok((sifting, start))
+}
+
 /// Sifts the diagram of `manager` and prepares the search, at the same time if there is more than
 /// one busy worker.
 fn sift_and_prepare<'a, R: Threads + Sync>(
@@ -111,9 +125,8 @@ fn sift_and_prepare<'a, R: Threads + Sync>(
     let size = manager.size();
     let workers = instance.workers;
     if instance.busy_workers().count() == 1 {
-        let start = prepare_below(rt, alloc, instance, renaming, size)?;
-        let sifting = sift(rt, alloc, manager, workers)?;
-        return Ok((sifting, start));
+        let start = prepare_below(rt, alloc, instance, renaming, size);
+        return both(sift(rt, alloc, manager, workers), start);
     }
     // The closures own what they take (`move`): `join` ensures nothing of a closure that owns one
     // value and borrows another.
@@ -127,7 +140,7 @@ fn sift_and_prepare<'a, R: Threads + Sync>(
             (IsStartFor instance.entry.now.tables.now instance.entry.now.pairs.now.pairs) }
     { prepare_below(rt, alloc, instance, renaming, size) };
     let (sifting, start) = thread::join(rt, sifting, preparing);
-    Ok((sifting?, start?))
+    both(sifting, start)
 }
 
 /// The number of nodes of the cover's functions under the file order.
@@ -157,6 +170,15 @@ pub(crate) struct Found {
     pub file_size: u64,
 }
 
+/// The order and the number of nodes after one pass of sifting.
+fn sift_once(alloc: Global, manager: Manager) -> Result<(Order, u32), AllocError>
+    ensures { IfOk result (IsSiftedOnce manager) }
+{
+    let sifted = manager.sift(alloc)?;
+    let order = sifted.order().try_clone(alloc)?;
+    Ok((order, sifted.size()))
+}
+
 /// Finds the sifted order and the best one by a search that is fast for small truth tables.
 fn search_small(
     alloc: Global,
@@ -168,7 +190,7 @@ fn search_small(
     requires file { file_size ≡ sum (file_order_levels instance.now.cover.now) }
     ensures { IfOk result (IsFound instance.now) }
 {
-    let sifted = manager.sift(alloc)?;
+    let (sifted, sifted_size) = sift_once(alloc, manager)?;
     let best = small_best(
         alloc,
         instance.tables.problem(),
@@ -177,9 +199,35 @@ fn search_small(
     )?;
     Ok(Found {
         best,
-        sifted: sifted.order().try_clone(alloc)?,
-        sifted_size: sifted.size(),
+        sifted,
+        sifted_size,
         file_size,
+    })
+}
+
+/// Finds the best order by a search that begins with `start`. The size of `bound` bounds it.
+fn search_from<R: Threads + Sync>(
+    rt: &R,
+    alloc: Global,
+    instance: &SearchInput<'_>,
+    start: SearchStart<'_>,
+    bound: Sifted,
+) -> Result<Best, AllocError>
+    requires start { IsStartFor instance.now.tables.now instance.now.pairs.now.pairs start }
+    requires functions { bound.problem ≡ instance.now.tables.now }
+    requires pairs { bound.pairs ≡ instance.now.pairs.now.pairs }
+    ensures { IfOk result
+        (IsBestFor instance.now.tables.now instance.now.pairs.now.pairs instance.now.certify) }
+{
+    let workers = instance.workers;
+    if instance.certify {
+        let solution = solve(rt, alloc, start, bound, workers, &NoGate)?;
+        return Ok(Best::of(solution));
+    }
+    let optimum = find_optimum(rt, alloc, start, bound, workers, &NoGate)?;
+    Ok(Best {
+        optimum,
+        cells: None,
     })
 }
 
@@ -204,21 +252,7 @@ pub(crate) fn search<R: Threads + Sync>(
         size,
         bound,
     } = sifting;
-    let workers = instance.workers;
-    if instance.certify {
-        let solution = solve(rt, alloc, start, bound, workers, &NoGate)?;
-        return Ok(Found {
-            best: Best::of(solution),
-            sifted,
-            sifted_size: size,
-            file_size,
-        });
-    }
-    let optimum = find_optimum(rt, alloc, start, bound, workers, &NoGate)?;
-    let best = Best {
-        optimum,
-        cells: None,
-    };
+    let best = search_from(rt, alloc, instance, start, bound)?;
     Ok(Found {
         best,
         sifted,
