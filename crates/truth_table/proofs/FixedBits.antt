@@ -131,7 +131,12 @@ number-fixed p x b h = by (get_or p x false) refl b
 -- a place of a table's words, with a bit of a variable from 6 on fixed
 pub fixed_rows_room : (n x : ℕ) (b : Bool) (words : List ℕ) → 6 ≤ x → x < n → length words ≡ words_per_table n → (i : ℕ) →
     i < length words → fixed_bit (x - 6) b i < length words
-fixed_rows_room n x b words high small long i h = grind (arith, whole_words, fixed_inside)
+fixed_rows_room n x b words high small long i h = elim (whole_words n) [
+  | inl w ↦
+      let size = long ∙ w.2 in
+      subst (λ z. fixed_bit (x - 6) b i < z) (sym size) (fixed_inside (n - 6) (x - 6) b i (omega arith) (subst (λ z. i < z) size h))
+  | inr w ↦ absurd (omega (arith, w.0))
+]
 
 -- ---- words
 
@@ -180,7 +185,10 @@ module _ (word lower x : ℕ) (small : x < 6) (low : (b : ℕ) → b < 64 → bi
   ]
 
   pub lower_bit : (k : ℕ) → k < 64 → bit_at (bit_or (bit_and word lower) (bit_and word lower * 2 ^ (2 ^ x) % 2 ^ 64)) k ≡ bit_at word (fixed_bit x false k)
-  lower_bit k h = grind (arith, doubled_zero, doubled_one, down_one)
+  lower_bit k h = elim (zero_or_one k x) [
+    | inl e ↦ doubled_zero word lower x small low k h e ∙ ap (bit_at word) (sym (down_zero k x e))
+    | inr e ↦ doubled_one word lower x small low k h e ∙ ap (bit_at word) (sym (down_one k x e))
+  ]
 
 -- ---- truth tables
 

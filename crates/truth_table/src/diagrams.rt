@@ -1,11 +1,12 @@
 //! Reduced diagrams of truth tables, made level by level from the bottom, without a store.
 
 ghost use Rattle.std.specs.Prelude.{◌≡◌, ◌<◌, ◌≤◌, ◌^◌, length, map, IfOk, OnOk};
+ghost use Rattle.definitions.specs.OrderedGraphs.{IsDiagramUnder};
 ghost use Rattle.definitions.specs.Orders.{IsOrder};
 ghost use Rattle.definitions.specs.Problems.{TruthTables, functions, packed_tables};
 ghost use Rattle.truth_table.specs.Assignments.{AreValuesUnder};
 ghost use Rattle.truth_table.specs.PackedTables.{ArePacked};
-ghost use Rattle.truth_table.specs.Reduced.{IsByLevel, IsDiagramOf, IsNumberedDiagram};
+ghost use Rattle.truth_table.specs.Reduced.{IsByLevel, IsDiagramOf, IsNumberedDiagram, graph_named};
 ghost use Rattle.truth_table.specs.Levels.{node_named, ref_named};
 ghost use Rattle.std.specs.List.{All};
 
@@ -133,6 +134,22 @@ fn nodes_of(alloc: Global, numbered: &[NumberedNode]) -> Result<Vec<Node>, Alloc
     Ok(nodes)
 }
 
+/// The diagram under `order` that `memory` has.
+fn diagram_of(alloc: Global, memory: &DiagramMemory, order: &Order) -> Result<Diagram, AllocError>
+    requires diagram { IsDiagramUnder order.now (map node_named memory.now.nodes.items)
+        (map ref_named memory.now.roots.items) }
+    requires few { length memory.now.nodes.items ≤ 2 ^ 20 }
+    ensures { IfOk result (λ d. d ≡ (record {
+      order = order.now;
+      graph = graph_named memory.now.nodes.items memory.now.roots.items;
+    })) }
+{
+    prove!(order.len() <= 16);
+    let nodes = nodes_of(alloc, &memory.nodes)?;
+    let roots = refs_of(alloc, &memory.roots)?;
+    Ok(Diagram::new(order.try_clone(alloc)?, nodes, roots))
+}
+
 /// The reduced diagram of the functions of `tables` under `order`, lower levels first. Takes time
 /// in proportion to the number of outputs times that of points.
 pub fn reduced_diagram(alloc: Global, tables: &Tables, order: &Order) -> Result<Diagram, AllocError>
@@ -142,10 +159,7 @@ pub fn reduced_diagram(alloc: Global, tables: &Tables, order: &Order) -> Result<
     ensures by_level { IfOk result (λ d. IsByLevel order.now d.graph.nodes) }
     ensures few { IfOk result (λ d. length d.graph.nodes ≤ 2 ^ 20) }
 {
-    prove!(order.len() <= 16);
     let mut memory = DiagramMemory::new(alloc);
     draw_tables(tables, order.variables(), &mut memory)?;
-    let nodes = nodes_of(alloc, &memory.nodes)?;
-    let roots = refs_of(alloc, &memory.roots)?;
-    Ok(Diagram::new(order.try_clone(alloc)?, nodes, roots))
+    diagram_of(alloc, &memory, order)
 }

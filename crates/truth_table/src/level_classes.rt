@@ -1,6 +1,6 @@
 //! Class numbers of subfunctions, level by level.
 
-ghost use Rattle.std.specs.Prelude.{◌≡◌, ◌++◌, ◌/◌, ◌<◌, ◌≤◌, ◌^◌, bit_or, if◌then◌else◌, length, map, IfOk, OnOk};
+ghost use Rattle.std.specs.Prelude.{◌≡◌, [], ◌++◌, ◌/◌, ◌<◌, ◌≤◌, ◌^◌, bit_or, if◌then◌else◌, length, map, IfOk, OnOk};
 ghost use Rattle.std.specs.List.{All};
 ghost use Rattle.definitions.specs.Problems.{packed_bit};
 ghost use Rattle.truth_table.specs.Assignments.{assignments};
@@ -20,15 +20,19 @@ pub(crate) struct Merged {
     pub(crate) unequal: u32,
 }
 
-/// Numbers the pairs (`classes[2j]`, `classes[2j + 1]`), the classes of the cofactors of a
-/// subfunction, by first occurrence. An odd last entry is ignored.
-pub(crate) fn merge(alloc: Global, classes: &[u32]) -> Result<Merged, AllocError>
+/// Numbers the pairs as `merge` does, and collects them in `seen`.
+fn number_pairs(
+    alloc: Global,
+    classes: &[u32],
+    seen: &mut IndexSet<(u32, u32)>,
+) -> Result<Merged, AllocError>
     requires few { length classes.now < 2 ^ 32 }
+    requires unseen { seen.old.keys ≡ [] }
     ensures numbers { IfOk result (λ r. IsNumbering (pairs_of classes.now) r.numbers.items) }
     ensures unequal { IfOk result (λ r. r.unequal ≡ unequal_count (pairs_of classes.now)) }
 {
     let half = classes.len() / 2;
-    let mut seen = IndexSet::with_capacity(alloc, half)?;
+    seen.reserve(half)?;
     let mut numbers = Vec::with_capacity(alloc, half)?;
     let mut unequal = 0u32;
     for j in 0..half {
@@ -41,6 +45,17 @@ pub(crate) fn merge(alloc: Global, classes: &[u32]) -> Result<Merged, AllocError
         numbers.push(number as u32)?;
     }
     Ok(Merged { numbers, unequal })
+}
+
+/// Numbers the pairs (`classes[2j]`, `classes[2j + 1]`), the classes of the cofactors of a
+/// subfunction, by first occurrence. An odd last entry is ignored.
+pub(crate) fn merge(alloc: Global, classes: &[u32]) -> Result<Merged, AllocError>
+    requires few { length classes.now < 2 ^ 32 }
+    ensures numbers { IfOk result (λ r. IsNumbering (pairs_of classes.now) r.numbers.items) }
+    ensures unequal { IfOk result (λ r. r.unequal ≡ unequal_count (pairs_of classes.now)) }
+{
+    let mut seen = IndexSet::new(alloc);
+    number_pairs(alloc, classes, &mut seen)
 }
 
 /// Appends a copy of each of `points` with bit x set. If memory is refused, some may be appended.

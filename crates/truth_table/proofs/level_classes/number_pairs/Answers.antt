@@ -3,13 +3,13 @@ use Rattle.std.specs.List.{list_any}
 use Rattle.definitions.specs.Widths.{same_pair}
 use Rattle.truth_table.specs.Numberings.{pair_at, is_unequal}
 use Rattle.truth_table.proofs.PairNumbers.{Merging, merging_none, merging_step, merging_end}
-use Rattle.truth_table.proofs.level_classes.merge.Goals as goal
+use Rattle.truth_table.proofs.level_classes.number_pairs.Goals as goal
 use Rattle.std.proofs.lemmas.Grind.{common_steps}
-use Rattle.truth_table.proofs.level_classes.merge.Goals.{then-is_new+then-lower-upper, else-is_new, else-is_new-via-then-is_new+else-lower-upper, else-is_new-via-else-is_new}
+use Rattle.truth_table.proofs.level_classes.number_pairs.Goals.{then-is_new+then-lower-upper, else-is_new, else-is_new-via-then-is_new+else-lower-upper, else-is_new-via-else-is_new}
 
 pub loop-j-init : goal.loop-j-init
 loop-j-init c =
-    subst (λ (ks : List (ℕ × ℕ)). Merging ks [] c.in_ok-numbers.numbers.items 0) (sym c.in_ok-seen.ensures.empty)
+    subst (λ (ks : List (ℕ × ℕ)). Merging ks [] c.in_ok-numbers.numbers.items 0) (sym (c.in_ok-reserve.ensures.keys ∙ c.requires.unseen))
     (subst (λ (ns : List ℕ). Merging [] [] ns 0) (sym c.in_ok-numbers.ensures.items) merging_none)
 
 pub loop-j-preserved : goal.loop-j-preserved
