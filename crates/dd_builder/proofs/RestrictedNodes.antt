@@ -96,7 +96,7 @@ pub restriction_piece : (b : Plan) (q count top_assignments' output path : ℕ) 
     → fixed (take count (order_of b)) path (output_at b.problem.value output) ≡ piece_function b q
 restriction_piece b q count top_assignments' output path is short top w o r = grind (arith, take_taken, part_restriction, part_piece)
 
-restrictions_count : (kind : PieceKind) (order : List ℕ) (t : TruthTables) → AreRestrictions kind →
+pub restrictions_count : (kind : PieceKind) (order : List ℕ) (t : TruthTables) → AreRestrictions kind →
     parts_count kind order t ≡ outputs_of t * top_assignments order
 restrictions_count Restrictions order t is = refl
 restrictions_count (Products terms) order t is = absurd is

@@ -2,8 +2,10 @@
 --     stays      a session that does nothing goes on
 --     means_same      an id denotes each function of the same values
 --     makes_same, makes_node      a call makes the id of each function of the same values; a node that is made
+--     makes_refused      a call that met a full store
 --     function_zero, function_one      the functions of the terminals
-use Rattle.std.proofs.Common.{◌≡◌, ℕ, ◌<◌, true, false, Result, Ok, Err, IfOk, IfErr, OnErr, length, refl, ◌∙◌, subst, arith}
+use Rattle.std.proofs.Common.{◌≡◌, ℕ, ◌<◌, true, false, Result, Ok, Err, IfOk, IfErr, OnErr, IsErr, length, refl, ◌∙◌, subst, arith}
+use Rattle.std.proofs.lemmas.Bool.{false≢true}
 use Rattle.definitions.specs.Functions.{Point, Function, SameFunction}
 use Rattle.node_words.specs.Nodes.{node_word}
 use Rattle.node_words.specs.Meaning.{function_of, branch}
@@ -60,6 +62,12 @@ err_same P Q (Err e) p h = h e p
 pub makes_same : (s1 s2 s3 : Knowledge) (r : Result ℕ StoreFull) (f g : Function) → Follows s1 s2 → Makes s2 s3 r f →
     ((id : ℕ) → Means s3 id f → Means s3 id g) → Makes s1 s3 r g
 makes_same s1 s2 s3 r f g on made same = search (follows_trans, ok_same)
+
+-- a session went on, and then met a full store
+pub makes_refused : (s1 s2 s3 : Knowledge) (r : Result ℕ StoreFull) (e : StoreFull) (f g : Function) → Follows s1 s2 → Makes s2 s3 (Err e) f →
+    IsErr r → Makes s1 s3 r g
+makes_refused s1 s2 s3 (Ok id) e f g on made h = absurd (false≢true h)
+makes_refused s1 s2 s3 (Err _) e f g on made h = record { follows = follows_trans s1 s2 s3 on made.follows; function = tt; full = made.full }
 
 -- what the id of a node denotes, with the variable of the store's plan
 node_means : (s : Knowledge) (store : StoreId) (level low high id : ℕ) → s.store ≡ store → IsNodeOf s level low high id →

@@ -27,3 +27,13 @@ returns-clause-shares g c = shares_of c.args.source c.args.session c.args.count 
       slice_get-get_or jobs.items k h.job low ∙ ap Some (sym h.job_read),
       subst (λ z. Continues c.args.source h.job.session (session_of z)) (get_or_from_slice_get ended.items k end end at) on,
     ))
+
+pub map_vec-requires-after_bounds : goal.map_vec-requires-after_bounds
+map_vec-requires-after_bounds g c = λ κs bounds i job low is.
+    let made = c.in_ok-jobs.ensures.jobs in
+    let at = slice_get-get_or c.in_ok-jobs.jobs.items i job low ∙ ap Some (sym is) in
+    let number = made.numbers i job at in
+    let count = made.count in (
+      (search rules, made.sessions i job at, c.requires.source, omega (arith, number), omega (arith, number, count, low)),
+      search rules,
+    )

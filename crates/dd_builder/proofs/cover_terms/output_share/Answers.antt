@@ -3,7 +3,7 @@ use Rattle.std.proofs.lemmas.List.{length-map, get_or-map}
 use Rattle.definitions.specs.Products.{product_function}
 use Rattle.unique_table.specs.Plans.{share, products_of}
 use Rattle.unique_table.proofs.SessionsGoOn.{follows_trans}
-use Rattle.dd_builder.proofs.SessionSteps.{stays, means_same, means_at}
+use Rattle.dd_builder.proofs.SessionSteps.{stays, means_same, means_at, makes_refused}
 use Rattle.dd_builder.proofs.RestrictedNodes.{constant_means}
 use Rattle.dd_builder.proofs.Shares.{share_start, share_next, none}
 use Rattle.std.proofs.lemmas.Grind.{common_steps}
@@ -24,7 +24,7 @@ pub loop-number-preserved : goal.loop-number-preserved
 loop-number-preserved c = grind (arith, length-map, get_or-map, none, follows_trans, means_same, share_next, means_at)
 
 pub returns-in_err-id : goal.returns-in_err-id
-returns-in_err-id c = grind (arith, follows_trans)
+returns-in_err-id c = makes_refused _ _ _ _ _ _ _ c.loop-number.invariant.follows c.in_err-id.ensures c.from_residual.ensures.0
 
 pub returns : goal.returns
 returns c = grind (arith, common_steps)

@@ -2,8 +2,8 @@ use Rattle.std.proofs.Common.{◌+◌, ◌-◌, ◌^◌, ◌<◌, length, take, 
 use Rattle.std.proofs.lemmas.List.{length-take}
 use Rattle.unique_table.specs.Plans.{order_of, output_at, fixed, top_variables}
 use Rattle.unique_table.specs.Sessions.{Means}
-use Rattle.unique_table.proofs.SessionsGoOn.{follows_trans}
-use Rattle.dd_builder.proofs.SessionSteps.{makes_node}
+use Rattle.unique_table.proofs.SessionsGoOn.{follows_trans, known_below_follows}
+use Rattle.dd_builder.proofs.SessionSteps.{makes_node, makes_refused, ok_same}
 use Rattle.dd_builder.proofs.Ends.{parts_follow}
 use Rattle.dd_builder.proofs.SubfunctionNodes.{keeps_step, keeps_node}
 use Rattle.dd_builder.proofs.RestrictedNodes.{restriction_at, restricted_node, path_up, path_small}
@@ -50,7 +50,8 @@ returns-clause-made t c =
     (path_up 64 c.args.level c.args.path _ (omega arith) refl) c.in_ok-high.ensures.made.function) m)
 
 pub returns-in_err-high-clause-made : goal.returns-in_err-high-clause-made
-returns-in_err-high-clause-made t c = grind (arith, follows_trans)
+returns-in_err-high-clause-made t c =
+    makes_refused _ _ _ _ _ _ _ c.of_restrictions.ensures.made.follows c.in_err-high.ensures.made c.from_residual-in_err-high.ensures.0
 
 pub returns-then-level-top_variables-clause-kept : goal.returns-then-level-top_variables-clause-kept
 returns-then-level-top_variables-clause-kept t c = keeps_step c.args.session.now c.part_id.new.session c.part_id.ensures.follows c.part_id.ensures.made
@@ -75,3 +76,17 @@ make-requires-clause-high t c = search rules
 
 pub of_restrictions-requires : goal.of_restrictions-requires
 of_restrictions-requires t c = grind (arith, common_steps)
+
+pub make-requires-clause-low : goal.make-requires-clause-low
+make-requires-clause-low t c =
+    let below = c.in_ok-low.ensures.level in
+    known_below_follows c.of_restrictions.new.session c.of_restrictions-2.new.session c.args.level c.in_ok-low.low
+    c.of_restrictions-2.ensures.made.follows (c.in_ok-low.ensures.made.function.known, omega (arith, below))
+
+pub make-requires-clause-level : goal.make-requires-clause-level
+make-requires-clause-level t c =
+    let top = c.top_variables-top_variables.ensures.value ∙ ap (λ xs. length (top_variables xs)) (c.variables.ensures.value ∙ c.order.ensures.value) in
+    omega (arith, length-take 2 (order_of c.args.store.now.plan))
+
+pub returns-clause-level : goal.returns-clause-level
+returns-clause-level t c = ok_same _ _ c.make.result c.make.ensures.node (λ id n. n.depth)

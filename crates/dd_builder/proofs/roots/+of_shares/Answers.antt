@@ -1,6 +1,6 @@
 use Rattle.std.proofs.Common.{◌≡◌, ◌+◌, ◌-◌, ◌/◌, arith, rules}
 use Rattle.unique_table.proofs.SessionsGoOn.{follows_trans}
-use Rattle.dd_builder.proofs.SessionSteps.{makes_same}
+use Rattle.dd_builder.proofs.SessionSteps.{makes_same, makes_refused}
 use Rattle.dd_builder.proofs.Ends.{parts_follow}
 use Rattle.dd_builder.proofs.Unions.{part_union, halves_union}
 use Rattle.dd_builder.proofs.roots.+of_shares.Goals as goal
@@ -20,7 +20,7 @@ returns t c =
     all c.in_ok-lower.ensures.function c.of_shares-2.ensures.follows c.in_ok-upper.ensures.function c.apply.ensures.made.follows m)
 
 pub returns-in_err-upper : goal.returns-in_err-upper
-returns-in_err-upper t c = grind (arith, follows_trans)
+returns-in_err-upper t c = makes_refused _ _ _ _ _ _ _ c.of_shares.ensures.follows c.in_err-upper.ensures c.from_residual-in_err-upper.ensures.0
 
 pub apply-requires-clause-known : goal.apply-requires-clause-known
 apply-requires-clause-known t c = search rules

@@ -1,12 +1,12 @@
-use Rattle.std.proofs.Common.{◌+◌, ◌*◌, ◌%◌, ◌^◌, ◌≤◌, ◌<◌, get_or, length, take, refl, sym, ap, ap₂, ◌∙◌, subst, arith, bit_or, rules}
+use Rattle.std.proofs.Common.{◌+◌, ◌*◌, ◌%◌, ◌^◌, ◌≤◌, ◌<◌, get_or, length, take, refl, sym, ap, ap₂, ◌∙◌, subst, arith, bit_or}
 use Rattle.definitions.specs.Orders.{IsOrder}
 use Rattle.definitions.specs.Problems.{TruthTables, outputs_of}
 use Rattle.unique_table.specs.Plans.{order_of, levels_of, output_at, fixed}
 use Rattle.unique_table.specs.Sessions.{StoreId, Means}
-use Rattle.unique_table.proofs.SessionsGoOn.{follows_trans}
+use Rattle.unique_table.proofs.SessionsGoOn.{follows_trans, known_below_follows}
 use Rattle.dd_builder.specs.Paths.{IsPointAbove}
 use Rattle.dd_builder.proofs.Pathways.{point_whole, point_low, point_high}
-use Rattle.dd_builder.proofs.SessionSteps.{stays, makes_node}
+use Rattle.dd_builder.proofs.SessionSteps.{stays, makes_node, makes_refused, ok_same}
 use Rattle.dd_builder.proofs.SubfunctionNodes.{keeps_node}
 use Rattle.dd_builder.proofs.RestrictedNodes.{output_leaf, restricted_node, path_up, path_small}
 use Rattle.dd_builder.proofs.tables.+output_below.Goals as goal
@@ -49,7 +49,11 @@ returns-clause-made t c =
     (path_up 32 c.args.path.level c.args.path.bits _ (omega arith) refl) c.in_ok-high.ensures.made.function) m)
 
 pub returns-in_err-high-clause-made : goal.returns-in_err-high-clause-made
-returns-in_err-high-clause-made t c = grind (arith, follows_trans)
+returns-in_err-high-clause-made t c =
+    makes_refused _ _ _ _ _ _ _ c.output_below.ensures.made.follows c.in_err-high.ensures.made c.from_residual-in_err-high.ensures.0
+
+pub returns-in_err-high-clause-kept : goal.returns-in_err-high-clause-kept
+returns-in_err-high-clause-kept t c = λ made. c.output_below-2.ensures.kept (c.output_below.ensures.kept made)
 
 pub output_below-requires : goal.output_below-requires
 output_below-requires t c =
@@ -122,4 +126,17 @@ returns-clause-kept t c =
     (path_up 32 c.args.path.level c.args.path.bits _ (omega arith) refl) c.in_ok-high.ensures.made.function)
 
 pub make-requires-clause-low : goal.make-requires-clause-low
-make-requires-clause-low t c = search rules
+make-requires-clause-low t c =
+    let below = c.in_ok-low.ensures.level in
+    known_below_follows c.output_below.new.session c.output_below-2.new.session c.args.path.level c.in_ok-low.low
+    c.output_below-2.ensures.made.follows (c.in_ok-low.ensures.made.function.known, omega (arith, below))
+
+pub make-requires-clause-high : goal.make-requires-clause-high
+make-requires-clause-high t c = let below = c.in_ok-high.ensures.level in (c.in_ok-high.ensures.made.function.known, omega (arith, below))
+
+pub make-requires-clause-level : goal.make-requires-clause-level
+make-requires-clause-level t c =
+    omega (arith, ap length (c.variables-order.ensures.value ∙ c.order.ensures.value))
+
+pub returns-clause-level : goal.returns-clause-level
+returns-clause-level t c = ok_same _ _ c.make.result c.make.ensures.node (λ id n. n.depth)

@@ -4,7 +4,7 @@ use Rattle.unique_table.specs.Plans.{order_of}
 use Rattle.dd_builder.specs.Paths.{IsPointOf}
 use Rattle.dd_builder.proofs.Pathways.{point_above}
 use Rattle.dd_builder.proofs.SessionSteps.{stays, makes_same}
-use Rattle.dd_builder.proofs.RestrictedNodes.{restriction_piece}
+use Rattle.dd_builder.proofs.RestrictedNodes.{restriction_piece, restrictions_count}
 use Rattle.dd_builder.proofs.tables.restriction.Goals as goal
 
 pub returns-clause-made : goal.returns-clause-made
@@ -22,3 +22,6 @@ output_below-requires-clause-path c =
       point = point_above (order_of c.args.store.now.plan) c.top_variables-level.result bits c.point_of-point.result small
           (subst (λ xs. IsPointOf xs bits c.point_of-point.result) (c.variables-order.ensures.value ∙ c.order.ensures.value) c.point_of-point.ensures);
     }
+
+pub output_below-requires-clause-output : goal.output_below-requires-clause-output
+output_below-requires-clause-output c = grind (arith, one_shl, restrictions_count)

@@ -1,7 +1,8 @@
-use Rattle.std.proofs.Common.{◌%◌, ap, ◌∙◌, sym, subst, arith}
-use Rattle.unique_table.specs.Sessions.{Knowledge}
+use Rattle.std.proofs.Common.{◌%◌, refl, ap, ◌∙◌, sym, subst, arith}
+use Rattle.unique_table.specs.Sessions.{Knowledge, StoreId}
 use Rattle.unique_table.proofs.SessionsGoOn.{follows_trans}
 use Rattle.dd_builder.specs.Parts.{HasPart, Continues}
+use Rattle.dd_builder.proofs.SessionSteps.{stays}
 use Rattle.dd_builder.proofs.Ends.{part_made, share_more, share_other}
 use Rattle.dd_builder.proofs.SubfunctionNodes.{kept_on, kept_step, continues_on}
 use Rattle.dd_builder.proofs.workers.build_parts.Goals as goal
@@ -42,3 +43,20 @@ pub returns-in_default-clause-continues : goal.returns-in_default-clause-continu
 returns-in_default-clause-continues g c =
     continues_on c.args.source c.args.session c.loop-piece.session c.part.new.session c.loop-piece.invariant.continues
     record { follows = c.part.ensures.made.follows; kept = c.part.ensures.kept }
+
+pub loop-piece-init : goal.loop-piece-init
+loop-piece-init g c = record {
+  store = c.requires.session;
+  continues = record {
+    follows = stays c.args.session;
+    kept = kept_step c.args.source c.args.session c.args.session (stays c.args.session) refl;
+  };
+  built = λ q low own. absurd (omega (arith, low));
+}
+
+pub returns-clause-end : goal.returns-clause-end
+returns-clause-end g c =
+    let all = c.loop-piece-test.false in
+    let roots = c.roots-piece-end.ensures.value in
+    let same = ap (λ (z : StoreId). z.plan.roots) c.loop-piece.invariant.store in
+    (c.loop-piece.invariant.store, λ q low own. c.loop-piece.invariant.built q (omega (arith, all, roots, same, low)) own)
