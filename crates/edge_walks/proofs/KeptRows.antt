@@ -1,8 +1,8 @@
 -- Rows that are kept one after another.
 --     IsKept w numbers kept number      what is kept of so many rows
 --     kept_row, kept_again, kept_all      of one more, which is kept, or has come before; of all
---     rows_are, slice_is      how many rows there are, and one of them, as the code has them
-use Rattle.std.proofs.Common.{◌≡◌, ℕ, suc, ◌+◌, ◌-◌, ◌*◌, ◌/◌, ◌<◌, ◌≤◌, List, ◌++◌, length, take, drop, sym, ap, ◌∙◌, subst, arith}
+--     rows_are      how many rows there are, as the code has them
+use Rattle.std.proofs.Common.{◌≡◌, ℕ, suc, ◌+◌, ◌*◌, ◌/◌, ◌<◌, ◌≤◌, List, ◌++◌, length, take, drop, sym, ap, ◌∙◌, subst, arith}
 use Rattle.std.proofs.lemmas.Nat.{div-mul-add}
 use Rattle.std.proofs.lemmas.List.{append_assoc, append-nil, length-append, length-take, length-drop, take-append-drop, drop_all, drop-drop}
 use Rattle.edge_walks.specs.Rows.{AreWholeRows, IsShortened}
@@ -82,7 +82,3 @@ module _ (w : ℕ) (numbers : List ℕ) where
 -- as the code has them
 pub rows_are : (w rows len : ℕ) → 0 < w → len ≡ rows * w → len / w ≡ rows
 rows_are w rows len some e = ap (λ k. k / w) (let s : len ≡ rows * w + 0 = omega arith in s) ∙ div-mul-add rows w 0 some
-
-pub slice_is : (step w number : ℕ) (numbers : List ℕ) → step ≡ w →
-    take ((number + 1) * step - number * step) (drop (number * step) numbers) ≡ take w (drop (number * w) numbers)
-slice_is step w number numbers e = grind arith

@@ -1,11 +1,22 @@
 //! Takes repeated rows out of a class table's entries. A row is 2^y entries that stand one behind
 //! the other, from a multiple of 2^y on.
 
-ghost use Rattle.std.specs.Prelude.{◌≡◌, ℕ, ◌*◌, ◌^◌, ◌<◌, ◌≤◌, ◌++◌, List, [], length, IfOk, IfSome, IsTrue, OnOk};
+ghost use Rattle.std.specs.Prelude.{◌≡◌, ℕ, ◌+◌, ◌*◌, ◌^◌, ◌<◌, ◌≤◌, ◌++◌, List, [], length, take, drop, IfOk, IfSome, IsTrue, OnOk};
 ghost use Rattle.edge_walks.specs.Rows.{AreWholeRows, IsShortened};
 
 use order_model::{HASH_MULTIPLIER, VarIx};
 use std::alloc::{AllocError, Global};
+
+/// Row `number` of `numbers`, of rows of `width` entries.
+#[inline(always)]
+fn row_at(numbers: &[u32], width: usize, number: usize) -> &[u32]
+    requires some { 0 < width }
+    requires inside { (number + 1) * width ≤ length numbers.now }
+    ensures row { result.now ≡ take width (drop (number * width) numbers.now) }
+    ensures long { length result.now ≡ width }
+{
+    &numbers[number * width..(number + 1) * width]
+}
 
 /// The bucket of `row`: a hash of the entries in whole groups of four. If `buckets` is no power of
 /// two, some stay empty.
@@ -53,7 +64,7 @@ fn has_repeat(alloc: Global, numbers: &[u32], y: VarIx) -> Result<bool, AllocErr
     let rows = numbers.len() / width / 2;
     let mut places = vec![in alloc; 0u32; (2 * rows).next_power_of_two()]?;
     for number in 0..rows {
-        let row = &numbers[number * width..(number + 1) * width];
+        let row = row_at(numbers, width, number);
         let home = bucket_of(row, places.len());
         if is_kept(numbers, places[home] as usize, row) {
             return Ok(true);
@@ -80,7 +91,7 @@ fn keep_rows(
 {
     let width = 1usize << y;
     for number in 0..numbers.len() / width {
-        let row = &numbers[number * width..(number + 1) * width];
+        let row = row_at(numbers, width, number);
         let home = bucket_of(row, places.len());
         if !is_kept(kept, places[home] as usize, row) {
             kept.extend_from_slice(row)?;

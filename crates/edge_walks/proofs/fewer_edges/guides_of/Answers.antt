@@ -5,6 +5,7 @@ use Rattle.std.proofs.lemmas.List.Elements.{All-pop, All-push}
 use Rattle.definitions.specs.Problems.{functions}
 use Rattle.symmetries.specs.Orbits.{ExchangeOf, IsExchangeOf}
 use Rattle.edge_walks.specs.FewerEdges.{AreGuides, AreKept}
+use Rattle.edge_walks.specs.Walks.{AreAllGuides}
 use Rattle.edge_walks.proofs.Guides.{guided}
 use Rattle.edge_walks.proofs.fewer_edges.guides_of.Goals as goal
 
@@ -25,3 +26,9 @@ loop-exchange-preserved-in-Continue-branch-2 c =
 
 pub loop-exchange-preserved : goal.loop-exchange-preserved
 loop-exchange-preserved c = grind (arith, common_steps)
+
+pub loop-exchange-init : goal.loop-exchange-init
+loop-exchange-init c = (
+  c.in_ok-exchanges.ensures,
+  subst (AreAllGuides c.args.edges) (sym c.new-guides.ensures.items) (λ k d low. absurd (omega (arith, low))),
+)

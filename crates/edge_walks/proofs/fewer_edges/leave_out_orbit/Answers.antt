@@ -1,4 +1,4 @@
-use Rattle.std.proofs.Common.{◌++◌, [], ◌∷◌, inl, inr, sym, ap, ◌∙◌, subst, arith, rules}
+use Rattle.std.proofs.Common.{◌++◌, [], ◌∷◌, inl, inr, sym, ap, ◌∙◌, subst, arith}
 use Rattle.std.specs.List.{All}
 use Rattle.std.proofs.lemmas.List.Elements.{All-push}
 use Rattle.definitions.specs.Problems.{functions}
@@ -20,4 +20,6 @@ loop-place-init c =
     )
 
 pub step_from-requires-clause-set : goal.step_from-requires-clause-set
-step_from-requires-clause-set c = search rules
+step_from-requires-clause-set c =
+    subst (LeadsToFirst c.args.edges c.args.first) (sym c.index-set.ensures)
+    (c.loop-place.invariant.1 c.loop-place.place c.index-set.result.now (omega (arith, c.loop-place.reached.sets.ok)))
