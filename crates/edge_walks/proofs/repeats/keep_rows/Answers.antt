@@ -66,5 +66,7 @@ overflow_cast-places-then-not-is_kept c =
     let step = 1 * 2 ^ c.args.y % 18446744073709551616 in
     let below : c.loop-number.number + 1 ≤ length c.args.numbers.now / step = omega arith in
     let few : length kept ≤ c.loop-number.number * step = subst (λ w. length kept ≤ c.loop-number.number * w) (sym s) c.loop-number.invariant.kept.few in
-    omega (arith, div-le_self c.len.result step, more, c.row_at-row.ensures.long, few, mul-le-mul_right step below,
-    div-mul-le_self (length c.args.numbers.now) step)
+    let inside = mul-le-mul_right step below in
+    let whole = div-mul-le_self (length c.args.numbers.now) step in
+    let row_long = c.row_at-row.ensures.long in
+    omega (arith, div-le_self c.len.result step)

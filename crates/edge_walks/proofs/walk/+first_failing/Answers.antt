@@ -1,4 +1,7 @@
-use Rattle.std.proofs.Common.{◌≡◌, ◌+◌, ◌-◌, arith}
+use Rattle.std.proofs.Common.{◌≡◌, ℕ, ◌+◌, ◌-◌, ◌<◌, IfOk, IfSome, cond, ap, subst, arith}
+use Rattle.edge_walks.specs.Edges.{IsFirstEdge}
+use Rattle.edge_walks.specs.Tables.{TableOf, rows_at}
+use Rattle.edge_walks.specs.Walks.{FailsInBlock}
 use Rattle.edge_walks.proofs.FirstEdges.{first_half, first_halves, none_judged}
 use Rattle.edge_walks.proofs.WalkTables.{stands_lower, stands_shorter}
 use Rattle.edge_walks.proofs.walk.+first_failing.Goals as goal
@@ -22,3 +25,17 @@ returns-then-passes t c = grind (arith, first_half)
 
 pub returns : goal.returns
 returns t c = grind (arith, first_halves)
+
+pub returns-in-Some : goal.returns-in-Some
+returns-in-Some t c =
+    let at = c.args.at in
+    let shorter = subst (λ o. IfSome o (λ (z : TableOf). (z ≡ rows_at at.table.now at.free) × (at.free < at.table.now.level))) c.in-Some.is
+    c.in_ok-shorter.ensures in
+    let set = ap (λ (z : TableOf). z.set) shorter.0 in
+    subst (λ s. IfOk c.first_failing.result (IsFirstEdge (FailsInBlock at.edges s at.free))) set c.first_failing.ensures
+
+pub first_failing-requires : goal.first_failing-requires
+first_failing-requires t c = (let left = ap {B = ℕ} (λ b. cond b 0 1) c.if-not-short.true in omega (arith, left), tt)
+
+pub overflow_sub-upper : goal.overflow_sub-upper
+overflow_sub-upper t c = omega arith
