@@ -20,7 +20,8 @@ pub(crate) struct Merged {
     pub(crate) unequal: u32,
 }
 
-/// Numbers the pairs as `merge` does, and collects them in `seen`.
+/// Numbers the pairs (`classes[2j]`, `classes[2j + 1]`) by first occurrence, and collects them in
+/// `seen`, which is empty.
 fn number_pairs(
     alloc: Global,
     classes: &[u32],
