@@ -1,4 +1,5 @@
 -- The sizes of all orders, from the counts of the set of all variables.
+--     limited      what counting requires
 --     counts_of_all      the counts of the last set
 --     sizes_of_all      how many orders have each size
 use Rattle.std.proofs.Common.{◌≡◌, ℕ, ◌+◌, ◌-◌, ◌^◌, ◌<◌, ◌≤◌, inl, inr, List, length, get_or, min, slice_index_or, count_ones, sym, ap, ◌∙◌, subst, arith}
@@ -9,15 +10,31 @@ use Rattle.definitions.specs.Functions.{Function}
 use Rattle.definitions.specs.Orders.{IsOrder, variables}
 use Rattle.definitions.specs.Pairs.{Keeps, Pair}
 use Rattle.definitions.specs.Problems.{functions}
-use Rattle.definitions.specs.AllOrders.{ways}
+use Rattle.definitions.specs.AllOrders.{ways, AreAllWidths}
 use Rattle.definitions.proofs.Bits.Ones.{ones-members}
 use Rattle.definitions.proofs.Widths.AllOrders.{members_all}
 use Rattle.definitions.proofs.Widths.OrderSizes.{sizes_are_ways}
 use Rattle.order_counts.specs.declared.cost_counts.CostCounts.{CostCounts}
 use Rattle.order_counts.specs.declared.set_counts.Recurrence.{Recurrence}
-use Rattle.order_counts.specs.Sizes.{AreCountsInLayer, AreCountsOf, AreLimits, AreSizesOfOrders, AreTrimmed, counts_at}
+use Rattle.order_counts.specs.Sizes.{AreCountsInLayer, AreCountsOf, AreLimits, AreSizesOfOrders, AreTrimmed, counts_at, AreLimited}
 use Rattle.order_counts.proofs.Rows.{no_large}
 use Rattle.order_counts.proofs.SetCounts.{beyond}
+
+-- widths and limits that were found are those that counting requires
+pub limited : (given : Recurrence) (limit : ℕ) (limits : List ℕ) → given.pairs.now.inputs ≤ 16 → length (functions given.problem.now) ≤ 16 →
+    AreAllWidths given.pairs.now.inputs (functions given.problem.now) given.widths.now →
+    AreLimits given.pairs.now.inputs (functions given.problem.now) limit limits → given.limits.now ≡ limits → limit < 2 ^ 20 → AreLimited given
+limited given limit limits inputs few widths are same small =
+    let n = given.pairs.now.inputs in
+    let F = functions given.problem.now in
+    let h = subst (AreLimits n F limit) (sym same) are in
+    record {
+      inputs = inputs;
+      few = few;
+      widths = widths;
+      limits = subst (λ m. AreLimits n F m given.limits.now) (sym h.last) h;
+      small = omega (arith, h.last);
+    }
 
 module _ (given : Recurrence) (limit k code : ℕ) (items : List ℕ) (counts : List CostCounts) (all : CostCounts) where
   pub counts_of_all : AreCountsInLayer given k counts → k ≡ given.pairs.now.inputs →

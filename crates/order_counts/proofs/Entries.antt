@@ -1,15 +1,23 @@
 -- The entries of counts of orders by cost.
+--     none      entries that are all 0
 --     at_entry      the count at a cost that has an entry
 --     raised_entry, raised_below, raised_beyond      the counts with a width added to each cost
 --     taken      as many entries as are needed, or all
 --     sums_fit, added      entries of other counts added to the last ones
-use Rattle.std.proofs.Common.{◌≡◌, ℕ, ◌+◌, ◌-◌, ◌<◌, ◌≤◌, inl, inr, ◌^◌, ◌++◌, List, length, length-append, take, get_or, min, refl, sym, ap, ◌∙◌, arith}
+use Rattle.std.proofs.Common.{◌≡◌, ℕ, ◌+◌, ◌-◌, ◌<◌, ◌≤◌, inl, inr, ◌^◌, ◌++◌, List, length, length-append, take, get_or, min, refl, sym, ap, ◌∙◌, arith, replicate}
 use Rattle.std.proofs.lemmas.Bool.{cases_lt}
-use Rattle.std.proofs.lemmas.List.{get_or-append_right, get_or-take, get_or_append_left, get_or_past, length-take}
+use Rattle.std.proofs.lemmas.List.{get_or-append_right, get_or-take, get_or_append_left, get_or_past, length-take, get_or-replicate, length-replicate}
 use Rattle.order_counts.specs.declared.cost_counts.CostCounts.{CostCounts}
 use Rattle.order_counts.specs.Figures.{raised}
 use Rattle.order_counts.specs.Sizes.{counts_at}
 use Rattle.order_counts.proofs.Counts.{raised_high, raised_low}
+
+pub none : (n i : ℕ) → get_or {A = ℕ} (replicate n 0) i 0 ≡ 0
+none n i =
+    elim (cases_lt i n) [
+      | inl lt ↦ get_or-replicate n i 0 0 lt
+      | inr le ↦ get_or_past (replicate n 0) i 0 (omega (arith, length-replicate {A = ℕ} n 0))
+    ]
 
 module _ (s : CostCounts) where
   pub at_entry : (c : ℕ) → s.least ≤ c → counts_at s c ≡ get_or s.orders.items (c - s.least) 0

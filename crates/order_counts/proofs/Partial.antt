@@ -2,8 +2,10 @@
 --     ArePartial n F P set x s      the figures of those with a member below x on top
 --     partial_none, partial_with, partial_lacking, partial_all      at first, with one variable more, and at the end
 --     counts_small, totals_small      the sums stay small
---     below_at      the figures of the set without one of its members
-use Rattle.std.proofs.Common.{◌≡◌, ◌≢◌, ℕ, ◌+◌, ◌*◌, ◌-◌, ◌^◌, ◌<◌, ◌≤◌, true, List, length, slice_index_or, sym, ap, ◌∙◌, subst, arith}
+--     below_at, figures_more      the figures of the set without one of its members; those of one mask more
+use Rattle.std.proofs.lemmas.Bool.{cases_lt}
+use Rattle.std.proofs.lemmas.List.{get_or_append_left, get_or_push}
+use Rattle.std.proofs.Common.{◌≡◌, ◌≢◌, ℕ, ◌+◌, ◌*◌, ◌-◌, ◌^◌, ◌<◌, ◌≤◌, true, List, length, slice_index_or, sym, ap, ◌∙◌, subst, arith, ◌++◌, [], ◌∷◌, length-append, inl, inr}
 use Rattle.std.specs.Int.{bit_at}
 use Rattle.std.specs.List.{sum_by}
 use Rattle.std.proofs.lemmas.Nat.{pow_pos}
@@ -114,6 +116,21 @@ pub below_at : (n : ℕ) (F : List Function) (P : List Pair) (set x code : ℕ) 
 below_at n F P set x code figures d smaller bit e =
     subst (λ k. AreFiguresOf n F P (members n (set - k)) (slice_index_or figures (set - code) d)) e
     (smaller.each (set - code) d (omega (arith, power_le set x bit, pow_pos x, e)))
+
+-- the figures of one mask more
+pub figures_more : (n : ℕ) (F : List Function) (P : List Pair) (set : ℕ) (figures : List Figures) (new : Figures) →
+    AreFiguresBelow n F P set figures → AreFiguresOf n F P (members n set) new → AreFiguresBelow n F P (set + 1) (figures ++ new ∷ [])
+figures_more n F P set figures new h is = record {
+  long = length-append figures (new ∷ []) ∙ ap (λ m. m + 1) h.long;
+  each = λ mask s lt. elim (cases_lt mask set) [
+    | inl below ↦
+        subst (AreFiguresOf n F P (members n mask)) (sym (get_or_append_left figures (new ∷ []) s mask (omega (arith, h.long)))) (h.each mask s below)
+    | inr le ↦
+        let e : mask ≡ set = omega arith in
+        subst (AreFiguresOf n F P (members n mask)) (sym (get_or_push figures new s mask (h.long ∙ sym e)))
+        (subst (λ m. AreFiguresOf n F P (members n m) new) (sym e) is)
+  ];
+}
 
 -- the greatest cost with one member more stays small
 pub most_small : (n : ℕ) (F : List Function) → n ≤ 16 → length F ≤ 16 → (P : List Pair) (set x w : ℕ) (below : Figures) → x < n → bit_at set x ≡ 1 →

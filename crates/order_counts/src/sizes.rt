@@ -58,10 +58,7 @@ fn trimmed(alloc: Global, counts: &CostCounts) -> Result<CostCounts, AllocError>
     if end <= start {
         return Ok(CostCounts::none(alloc));
     }
-    let mut orders = Vec::with_capacity(alloc, end - start)?;
-    for i in start..end {
-        orders.push(counts.orders[i])?;
-    }
+    let orders = counts.orders[start..end].to_vec(alloc)?;
     Ok(CostCounts {
         least: counts.least + start as u32,
         orders,

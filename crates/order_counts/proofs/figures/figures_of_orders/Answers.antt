@@ -1,10 +1,11 @@
-use Rattle.std.proofs.Common.{◌≡◌, ◌*◌, ◌-◌, ◌%◌, ◌^◌, [], ◌∷◌, ◌++◌, length, slice_index_or, sym, ap, ◌∙◌, subst, arith}
+use Rattle.order_counts.proofs.Partial.{figures_more}
+use Rattle.std.proofs.Common.{◌≡◌, ◌*◌, ◌-◌, ◌%◌, ◌^◌, [], ◌∷◌, ◌++◌, length, slice_index_or, sym, ap, ◌∙◌, subst, arith, ◌+◌}
 use Rattle.std.proofs.lemmas.Nat.{one_shl, pow_pos}
 use Rattle.definitions.specs.Problems.{functions}
 use Rattle.definitions.specs.Orders.{members}
 use Rattle.definitions.proofs.Precedence.Cycles.{acyclic_kept}
 use Rattle.definitions.proofs.Widths.AllOrders.{members_all, members_none}
-use Rattle.order_counts.specs.Figures.{AreFiguresOf}
+use Rattle.order_counts.specs.Figures.{AreFiguresOf, AreFiguresBelow}
 use Rattle.order_counts.proofs.Whole.{figures_empty, figures_of_all}
 use Rattle.order_counts.proofs.figures.figures_of_orders.Goals as goal
 
@@ -41,3 +42,10 @@ returns c =
     (subst (AreFiguresOf n (functions c.args.problem.now) P (members n (1 * 2 ^ c.inputs.result % 18446744073709551616 - 1))) (sym c.index.ensures) last) in
     figures_of_all n (functions c.args.problem.now) P order.0 order.2.is_order order.2.kept c.index.result.now
     (subst (λ S. AreFiguresOf n (functions c.args.problem.now) P S c.index.result.now) (members_all n) whole)
+
+pub loop-set-preserved : goal.loop-set-preserved
+loop-set-preserved c =
+    subst (AreFiguresBelow c.args.pairs.now.inputs (functions c.args.problem.now) c.args.pairs.now.pairs (c.loop-set.set + 1))
+    (sym c.in_ok-push-2.ensures.items)
+    (figures_more c.args.pairs.now.inputs (functions c.args.problem.now) c.args.pairs.now.pairs c.loop-set.set c.loop-set.figures.items
+    c.figures_of_set-of_set.result c.loop-set.invariant c.figures_of_set-of_set.ensures)

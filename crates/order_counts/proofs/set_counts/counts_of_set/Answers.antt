@@ -1,4 +1,6 @@
-use Rattle.std.proofs.Common.{◌≡◌, ◌-◌, ◌≤◌, length, get_or, sym, ◌∙◌, subst, arith}
+use Rattle.order_counts.proofs.Entries.{none}
+use Rattle.order_counts.proofs.Counts.{raised_none}
+use Rattle.std.proofs.Common.{◌≡◌, ◌-◌, ◌≤◌, length, get_or, sym, ◌∙◌, subst, arith, ap}
 use Rattle.definitions.specs.Problems.{functions}
 use Rattle.order_counts.proofs.SetCounts.{counts_of_empty_span, counts_of_span, counts_of_unlawful}
 use Rattle.order_counts.proofs.set_counts.counts_of_set.Goals as goal
@@ -31,3 +33,19 @@ returns c =
     c.add_orders.ensures.least (omega (arith, c.add_orders.ensures.least, c.add_orders.ensures.long, long, end, more))
     (λ k low high. c.add_orders.ensures.counts k (omega (arith, c.add_orders.ensures.least))
     (omega (arith, c.add_orders.ensures.least, c.add_orders.ensures.long)))
+
+pub add_orders-requires : goal.add_orders-requires
+add_orders-requires c =
+    let start = c.span_of_set-span.result.start in
+    let items = c.in_ok-vec.field-0.items in
+    record {
+      given_are = c.requires.given;
+      some = c.requires.some;
+      within = c.requires.within;
+      lawful = sym c.lawful.ensures ∙ c.if-not-lawful.false;
+      smaller_are = c.requires.smaller;
+      none = raised_none (λ i. get_or items i 0) start
+          (λ i. ap (λ xs. get_or xs i 0) (c.in_ok-vec.ensures.items_if_clones_equal (λ y e. e)) ∙ none (c.min-end.result - start) i);
+      limit = omega (arith, c.in_ok-vec.field-0.ok.0, c.in_ok-vec.ensures.len, c.min-end.ensures, c.if-end-span.false);
+      least = λ x s small bit some. (c.span_of_set-span.ensures x s small bit some).0;
+    }

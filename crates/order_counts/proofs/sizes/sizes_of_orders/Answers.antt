@@ -1,11 +1,12 @@
-use Rattle.std.proofs.Common.{◌≡◌, ◌+◌, ◌-◌, ◌*◌, ◌%◌, ◌^◌, Err, IfOk, Ok, Result, ap, ◌∙◌, subst, arith}
+use Rattle.order_counts.specs.declared.set_counts.Recurrence.{Recurrence}
+use Rattle.std.proofs.Common.{◌≡◌, ◌+◌, ◌-◌, ◌*◌, ◌%◌, ◌^◌, Err, IfOk, Ok, Result, ap, ◌∙◌, subst, arith, sym}
 use Rattle.std.proofs.lemmas.Nat.{one_shl}
 use Rattle.definitions.specs.Orders.{variables}
 use Rattle.definitions.specs.Problems.{functions}
 use Rattle.definitions.proofs.Precedence.Cycles.{acyclic_kept}
 use Rattle.order_counts.specs.declared.cost_counts.CostCounts.{CostCounts}
-use Rattle.order_counts.specs.Sizes.{AreCountsOf}
-use Rattle.order_counts.proofs.AllSizes.{counts_of_all, sizes_of_all}
+use Rattle.order_counts.specs.Sizes.{AreCountsOf, AreCountsInLayer}
+use Rattle.order_counts.proofs.AllSizes.{counts_of_all, sizes_of_all, limited}
 use Rattle.order_counts.proofs.sizes.sizes_of_orders.Goals as goal
 
 -- all that a result is said to be
@@ -48,3 +49,15 @@ returns g c =
     c.index.result.now s
     (subst (λ m. AreCountsOf n (functions c.args.problem.now) c.args.pairs.now.pairs (variables n) (m + 1) c.index.result.now) limit whole)
     trimmed same within)
+
+pub counts_of_layer-requires-clause-smaller : goal.counts_of_layer-requires-clause-smaller
+counts_of_layer-requires-clause-smaller g c = λ k e.
+    let given : Recurrence = record { problem = c.args.problem; pairs = c.args.pairs; widths = c.args.widths; limits = c.deref.result } in
+    subst (AreCountsInLayer given k) (sym c.deref-in-loop-size.ensures.value)
+    (subst (λ m. AreCountsInLayer given m c.loop-size.counts.items) (omega (arith, c.from.ensures)) c.loop-size.invariant)
+
+pub counts_of_layer-requires-clause-given : goal.counts_of_layer-requires-clause-given
+counts_of_layer-requires-clause-given g c =
+    limited (record { problem = c.args.problem; pairs = c.args.pairs; widths = c.args.widths; limits = c.deref.result }) (c.min.result + 1)
+    c.in_ok-limits.limits.items c.inputs-inputs.ensures.kept.few c.requires.few c.requires.widths c.in_ok-limits.ensures c.deref.ensures.value
+    (omega (arith, c.min.ensures))

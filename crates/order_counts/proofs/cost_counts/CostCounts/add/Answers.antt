@@ -1,6 +1,8 @@
+use Rattle.order_counts.specs.Sizes.{counts_at}
+use Rattle.order_counts.proofs.Counts.{raised_none}
 use Rattle.std.proofs.Common.{◌≡◌, ℕ, ◌+◌, ◌<◌, ◌^◌, ◌++◌, length, length-append, take, get_or, min, refl, sym, ap, ◌∙◌, subst, arith}
 use Rattle.std.specs.Vec.{with_items}
-use Rattle.std.proofs.lemmas.List.{with_items_is}
+use Rattle.std.proofs.lemmas.List.{with_items_is, get_or_past}
 use Rattle.std.proofs.lemmas.Grind.{common_steps}
 use Rattle.order_counts.proofs.Entries.{added, raised_below, sums_fit}
 use Rattle.order_counts.proofs.cost_counts.CostCounts.add.Goals as goal
@@ -40,3 +42,23 @@ pub returns-else-start-len-clause-added : goal.returns-else-start-len-clause-add
 returns-else-start-len-clause-added c = λ cost low high.
     let past = c.if-start-len.false in
     omega (arith, raised_below c.args.below.now c.args.width cost (omega arith))
+
+pub returns-then-start-len-clause-long : goal.returns-then-start-len-clause-long
+returns-then-start-len-clause-long c =
+    let own = c.args.self.now.orders in
+    let front = c.split_at_mut-entries.result.0.now in
+    let back = c.split_at_mut-entries.result.1.now in
+    let joined = sym c.deref_mut.ensures.value ∙ c.split_at_mut-entries.ensures.value in
+    let same = length-append front c.add_counts.new.counts ∙ ap (λ k. length front + k) c.add_counts.ensures.long ∙ sym (length-append front back)
+    ∙ ap length (sym joined) in
+    ap length (with_items_is own (front ++ c.add_counts.new.counts) (same ∙ sym own.ok.0)) ∙ same
+
+pub returns-then-is_empty-clause-added : goal.returns-then-is_empty-clause-added
+returns-then-is_empty-clause-added c = λ cost low high.
+    let below = c.args.below.now in
+    let none : length below.orders.items ≡ 0 = grind (arith, common_steps) in
+    omega (
+      arith,
+      raised_none (counts_at below) c.args.width (raised_none (λ i. get_or below.orders.items i 0) below.least
+          (λ i. get_or_past below.orders.items i 0 (omega arith))) cost,
+    )

@@ -1,4 +1,4 @@
-use Rattle.std.proofs.Common.{◌≡◌, ◌*◌, ◌%◌, ◌^◌, IfOk, Ok, Err, Result, ap, ◌∙◌, arith}
+use Rattle.std.proofs.Common.{◌≡◌, ◌*◌, ◌%◌, ◌^◌, ap, ◌∙◌, arith}
 use Rattle.std.proofs.lemmas.Nat.{one_shl}
 use Rattle.order_counts.proofs.LayerCounts.{whole_if_ok}
 use Rattle.order_counts.proofs.layer_counts.CallingThreadCounter.counts_of_layer.Goals as goal
