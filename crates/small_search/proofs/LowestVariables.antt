@@ -1,15 +1,24 @@
 -- A set and its lowest variable, by masks.
 --     IsLowest set x, lowest      x is the lowest variable of a set; the trailing zeros of a mask tell it
 --     parent_is, parent_free, size_more      the set without it, and the sizes of both
+--     sets_are, within      how many sets there are, and that a mask is one of theirs
 --     way_own, way_above      the part of a set from a bound on: all of it, or that of the mask before
-use Rattle.std.proofs.Common.{◌≡◌, ℕ, zero, suc, ◌+◌, ◌-◌, ◌*◌, ◌/◌, ◌%◌, ◌^◌, ◌<◌, ◌≤◌, inl, inr, count_ones, refl, sym, ap, ◌∙◌, arith, w16, zero-mul}
+use Rattle.std.proofs.Common.{◌≡◌, ℕ, zero, suc, ◌+◌, ◌-◌, ◌*◌, ◌/◌, ◌%◌, ◌^◌, ◌<◌, ◌≤◌, inl, inr, count_ones, refl, sym, ap, ◌∙◌, arith, w16, zero-mul, subst, pow_mono}
 use lib.Count.{ones}
 use Rattle.std.specs.Int.{bit_at, trailing_zeros}
 use Rattle.std.proofs.Math.Nat.{mod-lt}
 use Rattle.std.proofs.lemmas.Bool.{cases_lt}
-use Rattle.std.proofs.lemmas.Nat.{pow_pos, pow-add, div-add-mod', div-mul-add, ones_cat, zero_from_ones}
+use Rattle.std.proofs.lemmas.Nat.{pow_pos, pow-add, div-add-mod', div-mul-add, ones_cat, zero_from_ones, one_shl}
 use Rattle.std.proofs.lemmas.Nat.Bits.{bit_at-trailing_zeros}
 use Rattle.subfunction_classes.proofs.HighSets.{low_bits, multiple}
+
+pub sets_are : (n m : ℕ) → n ≡ m → n ≤ 16 → (1 * 2 ^ n % 2 ^ 32 ≡ 2 ^ m) × (2 ^ m ≤ 65536)
+sets_are n m e few =
+    let s = one_shl n 32 (omega (arith, few)) in
+    (s ∙ ap (λ k. 2 ^ k) e, let b : m ≤ 16 = omega (arith, e, few) in pow_mono b)
+
+pub within : (number n m : ℕ) → number < 1 * 2 ^ n % 2 ^ 32 → n ≡ m → n ≤ 16 → number < 2 ^ m
+within number n m lt e few = subst (λ k. number < k) (sets_are n m e few).0 lt
 
 pub record IsLowest (set x : ℕ) : Type 0 where
   pub below : set % 2 ^ x ≡ 0

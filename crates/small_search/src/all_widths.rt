@@ -1,6 +1,6 @@
 //! The widths of all sets of a small problem's variables.
 
-ghost use Rattle.std.specs.Prelude.{◌^◌, ◌<◌, IfOk};
+ghost use Rattle.std.specs.Prelude.{◌≡◌, ◌^◌, ◌<◌, [], IfOk, OnOk};
 ghost use Rattle.definitions.specs.AllOrders.{AreAllWidths, AreWidthsIn};
 ghost use Rattle.definitions.specs.Problems.{functions};
 ghost use Rattle.subfunction_classes.specs.Table.{classes_of};
@@ -32,6 +32,31 @@ fn row_of_set(search: &SmallSearch<'_>, subfunctions: &Subfunctions<'_>, set: Ma
     row
 }
 
+/// Appends the row of each set of the search's variables, by rising mask, to `rows`, which has
+/// none. `tables` is working memory. If memory is refused, `rows` may have a part.
+fn push_rows(
+    alloc: Global,
+    search: &SmallSearch<'_>,
+    tables: &mut PathTables,
+    rows: &mut Vec<WidthRow>,
+) -> Result<(), AllocError>
+    requires { rows.old.items ≡ [] }
+    ensures { OnOk result
+        (AreAllWidths search.now.problem.inputs (functions search.now.problem) rows.new.items) }
+{
+    tables.restart(alloc, search)?;
+    let sets = 1u32 << search.inputs();
+    rows.reserve(sets as usize)?;
+    rows.push([0; 16])?;
+    for number in 1..sets {
+        let set = number as Mask;
+        tables.add_lowest(search, set)?;
+        let subfunctions = subfunctions_in(search, tables, set);
+        rows.push(row_of_set(search, &subfunctions, set))?;
+    }
+    Ok(())
+}
+
 /// A row for each set of variables, at its mask: at each member x the width of x over the other
 /// members, and 0 elsewhere. For small problems: takes a step for each entry of the class tables.
 pub fn widths_of_all_sets(alloc: Global, problem: &Problem) -> Result<Vec<WidthRow>, AllocError>
@@ -42,15 +67,7 @@ pub fn widths_of_all_sets(alloc: Global, problem: &Problem) -> Result<Vec<WidthR
     let pairs = Pairs::none(problem.inputs());
     let search = SmallSearch::new(problem.inputs(), problem.outputs(), &words, &pairs);
     let mut tables = PathTables::new(alloc);
-    tables.restart(alloc, &search)?;
-    let sets = 1u32 << search.inputs();
-    let mut rows = Vec::with_capacity(alloc, sets as usize)?;
-    rows.push([0; 16])?;
-    for number in 1..sets {
-        let set = number as Mask;
-        tables.add_lowest(&search, set)?;
-        let subfunctions = subfunctions_in(&search, &tables, set);
-        rows.push(row_of_set(&search, &subfunctions, set))?;
-    }
+    let mut rows = Vec::new(alloc);
+    push_rows(alloc, &search, &mut tables, &mut rows)?;
     Ok(rows)
 }

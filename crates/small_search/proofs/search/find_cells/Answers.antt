@@ -1,7 +1,8 @@
-use Rattle.std.proofs.Common.{◌≡◌, ℕ, ◌+◌, ◌-◌, ◌*◌, ◌%◌, ◌^◌, ◌≤◌, true, refl, inl, inr, List, [], ◌∷◌, ◌++◌, sym, ap, ◌∙◌, subst, arith, pow_mono}
+use Rattle.small_search.proofs.LowestVariables.{sets_are, within}
+use Rattle.std.proofs.Common.{◌≡◌, ℕ, ◌+◌, ◌-◌, ◌^◌, ◌≤◌, true, refl, inl, inr, List, [], ◌∷◌, ◌++◌, sym, ap, ◌∙◌, subst, arith}
 use Rattle.std.proofs.lemmas.Bool.{cases_lt}
 use Rattle.std.proofs.lemmas.List.{get_or_append_left, get_or_push}
-use Rattle.std.proofs.lemmas.Nat.{one_shl, pow_pos}
+use Rattle.std.proofs.lemmas.Nat.{pow_pos}
 use Rattle.definitions.specs.Orders.{members}
 use Rattle.definitions.specs.Pairs.{Pair, is_lawful}
 use Rattle.subset_layers.specs.declared.costs.Cell.{Cell}
@@ -12,12 +13,6 @@ use Rattle.small_search.specs.FirstCells.{AreFewCells, IsFew}
 use Rattle.small_search.specs.Paths.{HoldPath}
 use Rattle.small_search.proofs.search.find_cells.Goals as goal
 use Rattle.small_search.proofs.search.find_cells.Goals.{then-all_lawful, else-all_lawful}
-
--- how many sets there are
-sets_are : (n m : ℕ) → n ≡ m → n ≤ 16 → (1 * 2 ^ n % 2 ^ 32 ≡ 2 ^ m) × (2 ^ m ≤ 65536)
-sets_are n m e few =
-    let s = one_shl n 32 (omega (arith, few)) in
-    (s ∙ ap (λ k. 2 ^ k) e, let b : m ≤ 16 = omega (arith, e, few) in pow_mono b)
 
 pub overflow_cast-set : goal.overflow_cast-set
 overflow_cast-set c =
@@ -84,3 +79,12 @@ returns c =
       none = h.none;
       each = λ mask low lt. h.each mask low (omega (arith, lt, all));
     }
+
+pub cell_of_set-cell-requires-clause-within : goal.cell_of_set-cell-requires-clause-within
+cell_of_set-cell-requires-clause-within c = within _ _ _ c.loop-number-test.true c.inputs.ensures.value c.inputs.ensures.few
+
+pub add_lowest-requires-clause-within : goal.add_lowest-requires-clause-within
+add_lowest-requires-clause-within c = within _ _ _ c.loop-number-test.true c.inputs.ensures.value c.inputs.ensures.few
+
+pub subfunctions_in-subfunctions-requires-clause-within : goal.subfunctions_in-subfunctions-requires-clause-within
+subfunctions_in-subfunctions-requires-clause-within c = within _ _ _ c.loop-number-test.true c.inputs.ensures.value c.inputs.ensures.few
