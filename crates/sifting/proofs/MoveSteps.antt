@@ -1,7 +1,7 @@
 -- One swap more while a variable moves.
 use Rattle.std.proofs.Common.{◌≡◌, ℕ, zero, suc, ◌+◌, ◌-◌, ◌<◌, ◌≤◌, Bool, true, false, cond, inl, inr, List, [], ◌∷◌, map, length, get_or, swap, slice_index, refl, sym, ap, ap₂, ◌∙◌, subst, arith, add-one, IsFalse, ltb}
 use Rattle.std.specs.List.{insert, range_with_len}
-use Rattle.std.proofs.lemmas.Bool.{cases_eq, cases_lt, lt-ltb, le-ltb}
+use Rattle.std.proofs.lemmas.Bool.{cases_eq, lt-ltb, le-ltb}
 use Rattle.definitions.specs.Functions.{Function}
 use Rattle.definitions.specs.Pairs.{Keeps, has_pair}
 use Rattle.definitions.specs.Problems.{functions}
@@ -10,7 +10,7 @@ use Rattle.definitions.specs.Sifting.{smallest_of, smallest_order}
 use Rattle.definitions.proofs.Lists.Swaps.{crossed, crossed_is, length_crossed}
 use Rattle.sifting.specs.Managed.{Managed, size_of, IsManagedOrder}
 use Rattle.sifting.specs.Moves.{Moves, IsMoved, FindsBest, PassesBetween, placed_from, size_at}
-use Rattle.sifting.proofs.Placements.{crossed_up, crossed_down, length-placed, here, above_here, below_here}
+use Rattle.sifting.proofs.Placements.{crossed_up, crossed_down, length-placed, here, above_here}
 
 pub moved_none : (place : ℕ) (m : Managed) → IsMoved place place m m
 unfolding Moves

@@ -1,10 +1,11 @@
+use Rattle.sifting.proofs.Insertions.{inserted}
 use Rattle.std.proofs.Common.{ℕ, Bool, false, true, length, sym, ap, subst, ◌∙◌, arith, nat_eq}
 use Rattle.definitions.specs.declared.refs.Ref.{Ref}
 use Rattle.definitions.specs.declared.refs.Ref.TheVariants.{Terminal}
 use Rattle.definitions.specs.Diagrams.{IsBefore}
 use Rattle.definitions.proofs.Nodes.Paths.{before_more}
 use Rattle.sifting.specs.Cuts.{code_of, split_ref, ref_at}
-use Rattle.sifting.proofs.LevelNodes.{numbers_step}
+use Rattle.sifting.proofs.LevelNodes.{numbers_step, numbers_none}
 use Rattle.sifting.proofs.SplitCuts.{half, split_before}
 use Rattle.definitions.proofs.Lists.Sets.{nat_decides}
 use Rattle.sifting.proofs.build.number_halves.Goals as goal
@@ -43,3 +44,42 @@ loop-r-preserved c =
 
 pub returns : goal.returns
 returns c = grind arith
+
+pub loop-r-init : goal.loop-r-init
+loop-r-init c =
+    numbers_none 0 (λ k. code_of (split_ref c.args.nodes.now c.args.variable (ref_at c.args.cut.now k)).0)
+    (λ k. code_of (split_ref c.args.nodes.now c.args.variable (ref_at c.args.cut.now k)).1) c.reserve-2.new.self.items c.reserve.new.self.keys
+    (c.in_ok-reserve-2.ensures.items ∙ c.requires.level) (c.in_ok-reserve.ensures.keys ∙ c.requires.codes)
+
+pub overflow_cast-off : goal.overflow_cast-off
+overflow_cast-off c =
+    let one = (inserted nat_eq nat_decides 0 c.code.result c.loop-r.codes.keys).few in
+    record {
+      fits = omega (
+        arith,
+        c.in_ok-off.ensures.within,
+        ap length c.in_ok-off.ensures.keys,
+        one,
+        c.loop-r.invariant.few,
+        c.loop-r-test.true,
+        c.requires.few,
+      );
+    }
+
+pub overflow_cast-on : goal.overflow_cast-on
+overflow_cast-on c =
+    let one = (inserted nat_eq nat_decides 0 c.code.result c.loop-r.codes.keys).few in
+    let two = (inserted nat_eq nat_decides 0 c.code-in-loop-r.result c.insert_full.new.self.keys).few in
+    record {
+      fits = omega (
+        arith,
+        c.in_ok-on.ensures.within,
+        ap length c.in_ok-off.ensures.keys,
+        ap length c.in_ok-on.ensures.keys,
+        one,
+        two,
+        c.loop-r.invariant.few,
+        c.loop-r-test.true,
+        c.requires.few,
+      );
+    }

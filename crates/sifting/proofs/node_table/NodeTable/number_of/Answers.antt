@@ -1,7 +1,7 @@
 use Rattle.std.proofs.Common.{◌≡◌, ◌+◌, ◌<◌, ℕ, length, sym, subst, arith}
 use Rattle.sifting.specs.NodeTables.{IsFreeSlot, IsSet, HasSlot, Inserted}
 use Rattle.sifting.proofs.BranchingNodes.{branching_counted}
-use Rattle.sifting.proofs.Insertions.{inserted_new}
+use Rattle.sifting.proofs.Insertions.{inserted_new, inserted_again}
 use Rattle.sifting.proofs.NodeSlots.{absent, slotted_more}
 use Rattle.sifting.proofs.node_table.NodeTable.number_of.Goals as goal
 
@@ -45,3 +45,8 @@ returns-clause-inserted c =
     let count = c.len-number.ensures in
     let number : c.len-number.result ≡ length t.nodes.items = omega arith in
     subst (λ z. z) (λ i. Inserted (0, 0) t.nodes.items (sym c.in_ok-push.ensures.items i) c.args.node (sym number i)) new
+
+pub returns-in-Ok-clause-inserted : goal.returns-in-Ok-clause-inserted
+returns-in-Ok-clause-inserted c =
+    let found = rw (c.deref-2.ensures.value) at c.in-Ok.ensures.found in
+    inserted_again (0, 0) c.args.node c.args.self.now.nodes.items c.in-Ok.number found.0 found.1
