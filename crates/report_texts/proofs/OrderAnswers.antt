@@ -2,7 +2,7 @@
 --     sizes_answered      the counts of all sizes make the text of --sizes
 --     some_orders      some order keeps the pairs
 --     orders_answered      the figures make that of --orders
-use Rattle.std.proofs.Common.{◌≡◌, ℕ, zero, suc, ◌+◌, ◌-◌, ◌^◌, ◌<◌, ◌≤◌, max, inl, inr, List, [], ◌∷◌, ◌++◌, length, map, get_or, nat_eq, nat_lt, refl, sym, ap, ◌∙◌, subst, append-nil, arith}
+use Rattle.std.proofs.Common.{◌≡◌, ℕ, zero, suc, ◌+◌, ◌-◌, ◌^◌, ◌<◌, ◌≤◌, max, inl, inr, List, [], ◌++◌, length, map, get_or, nat_eq, nat_lt, refl, sym, ap, ◌∙◌, subst, append-nil, arith}
 use Rattle.std.specs.List.{count_by, flat_map, fold, range_with_len, sum_by}
 use Rattle.std.proofs.lemmas.Bool.{cases_lt}
 use Rattle.std.proofs.lemmas.Grind.{flat_map-append}
@@ -15,7 +15,6 @@ use Rattle.definitions.specs.Pairs.{IsFirstOrder, Keeps, Pair}
 use Rattle.definitions.specs.Levels.{size_under}
 use Rattle.definitions.specs.Problems.{TruthTables, functions}
 use Rattle.definitions.specs.Sifting.{sifted}
-use Rattle.definitions.specs.Widths.{least}
 use Rattle.definitions.specs.AllOrders.{all_orders, most, most_of, orders_of_size, size_total, ways}
 use Rattle.definitions.proofs.Certificates.Same.{least_same}
 use Rattle.definitions.proofs.Functions.Same.{AllSame, size_same}
@@ -35,7 +34,6 @@ use Rattle.truth_table.specs.OfCovers.{AreTablesOf}
 use Rattle.truth_table.proofs.OfCovers.{tables_keep}
 use Rattle.report_texts.specs.Answers.{IsOrdersAnswer}
 use Rattle.report_texts.specs.OrderTexts.{orders_lines, size_line, sizes_text}
-use Rattle.report_texts.specs.Texts.{nodes_under}
 use Rattle.report_texts.proofs.SameAnswers.{sifted_same}
 
 -- ---- lines of sizes

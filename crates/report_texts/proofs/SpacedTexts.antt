@@ -1,5 +1,5 @@
 -- Texts with one space between each two pieces.
-use Rattle.std.proofs.Common.{◌≡◌, ℕ, ◌+◌, List, [], ◌∷◌, ◌++◌, map, sym, ap, ◌∙◌, decimal, codes, append_assoc, append-nil}
+use Rattle.std.proofs.Common.{◌≡◌, ℕ, List, [], ◌∷◌, ◌++◌, map, sym, ap, ◌∙◌, decimal, codes, append_assoc, append-nil}
 use Rattle.std.specs.List.{flat_map, join_with_byte, sum}
 use Rattle.certificate.specs.Values.{each_spaced}
 use Rattle.certificate.proofs.WrittenLines.{after}

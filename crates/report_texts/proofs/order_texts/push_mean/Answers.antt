@@ -1,4 +1,3 @@
-use Rattle.std.proofs.Common.{refl}
 use Rattle.report_texts.proofs.OrderLines.{mean_pushed}
 use Rattle.report_texts.proofs.order_texts.push_mean.Goals as goal
 
