@@ -48,8 +48,8 @@ fn find_rows<S: RowFinder>(
     Ok(())
 }
 
-/// Computes the layer of `needs`, which comes after those in `done`. `cells_of` gives the cells of a
-/// layer.
+/// Computes the layer of `needs`, which comes after those in `done`. `cells_of` gives the cells of
+/// a layer.
 fn next_layer<C: Fn(&LayerContext<'_>) -> Result<Vec<Cell>, AllocError>>(
     cells_of: &C,
     instance: &Instance<'_>,
@@ -72,8 +72,8 @@ fn next_layer<C: Fn(&LayerContext<'_>) -> Result<Vec<Cell>, AllocError>>(
     Ok(Costs::of(layer, cells))
 }
 
-/// Computes the cells of all sets, and adds to `prepared` the rows of widths that it lacks, found by
-/// `finder`. `cells_of` gives the cells of a layer.
+/// Computes the cells of all sets, and adds to `prepared` the rows of widths that it lacks, found
+/// by `finder`. `cells_of` gives the cells of a layer.
 pub(crate) fn all_cells<
     'a,
     S: RowFinder,

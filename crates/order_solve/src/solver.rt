@@ -109,8 +109,8 @@ pub fn solve<R: Threads + Sync, G: Gate>(
     solution_of(alloc, &cells)
 }
 
-/// The first order of the fewest nodes among those that keep the pairs of `sifted`, and the sets and
-/// costs that its certificate lists, found on the calling thread.
+/// The first order of the fewest nodes among those that keep the pairs of `sifted`, and the sets
+/// and costs that its certificate lists, found on the calling thread.
 #[tactic(auto, using(crate::proofs::Harmless::harmless_kept))]
 pub fn solve_alone(alloc: Global, problem: &Problem, sifted: Sifted) -> Result<Solution, AllocError>
     requires { sifted.problem ≡ problem.now }

@@ -68,8 +68,8 @@ impl Manager {
         Ok(manager)
     }
 
-    /// The manager of a diagram whose order keeps `pairs`. Takes a step for each node and each entry
-    /// of the levels.
+    /// The manager of a diagram whose order keeps `pairs`. Takes a step for each node and each
+    /// entry of the levels.
     pub fn with_pairs(alloc: Global, diagram: Diagram, pairs: Pairs) -> Result<Manager, AllocError>
         requires few { length diagram.graph.roots ≤ 16 }
         requires ordered { IsOrdered diagram.order diagram.graph }
