@@ -1,7 +1,7 @@
 -- The rows of all sets.
 --     row_is      a row with all members of its set
 --     AllTo, all_none, all_pushed      rows one mask after another
-use Rattle.std.proofs.Common.{◌≡◌, ℕ, ◌+◌, ◌^◌, ◌<◌, true, false, cond, ◌&&◌, inl, inr, List, [], ◌∷◌, ◌++◌, length, length-append, slice_index, get_or, Bool, sym, ap, ◌∙◌, arith, refl, eq-eqb, ne_eqb}
+use Rattle.std.proofs.Common.{◌≡◌, ℕ, ◌+◌, ◌^◌, ◌<◌, true, false, cond, ◌&&◌, inl, inr, List, [], ◌∷◌, ◌++◌, length, length-append, get_or, Bool, sym, ap, ◌∙◌, arith, refl, eq-eqb, ne_eqb}
 use Rattle.std.specs.Prelude.{◌==◌}
 use Rattle.std.specs.Int.{bit_at}
 use Rattle.std.proofs.lemmas.Bool.{cases_lt, cases_eq}

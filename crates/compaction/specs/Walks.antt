@@ -5,7 +5,6 @@
 --     FillsOwn t w old new      the row of the table's own set is filled
 use Rattle.std.specs.Prelude.{◌≡◌, ◌≢◌, ℕ, ◌+◌, ◌*◌, ◌<◌, List, length, slice_index, bit_and}
 use Rattle.std.specs.Int.{bit_at}
-use Rattle.definitions.specs.Problems.{TruthTables}
 use Rattle.subfunction_classes.specs.Table.{ClassesOf}
 use Rattle.compaction.specs.HighBytes.{HasByte}
 use Rattle.compaction.specs.Rows.{AreRowsFilled, IsRowFilled}

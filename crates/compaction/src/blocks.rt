@@ -1,17 +1,16 @@
 //! The widths of the sets of a block.
 
 ghost use Rattle.std.specs.Prelude.{◌≡◌, ◌+◌, ◌^◌, ◌<◌, ◌≤◌, length, slice_get, IfOk, OnOk, OnErr};
+ghost use Rattle.definitions.specs.Problems.{TruthTables};
 ghost use Rattle.subset_layers.specs.Layers.{block_masks};
 ghost use Rattle.compaction.specs.Requests.{Asks};
 ghost use Rattle.compaction.specs.Rows.{AreWidthRows, AreMembers, HoldsRows, wanted_count, most_compactions};
 
-use crate::high_walk::{ByteRows, walked_rows};
+use crate::high_walk::{ByteRows, rows_by_one_walk};
 use crate::request::WidthRequest;
-use crate::shared_tables::SharedTables;
 use crate::strips::members_only;
 use crate::tally::Tally;
 use order_model::{Mask, Problem, WidthRow};
-use pair_numbering::PairMemory;
 use std::alloc::{AllocError, Global};
 use std::marker::Model;
 use subset_layers::Block;
@@ -57,31 +56,28 @@ impl BlockWidths {
     }
 }
 
-impl<'a> SharedTables<'a> {
-    /// A row for each set of the block, copied from `byte`: for set i, at each x in `needed[i]`,
-    /// the width of x over the other members, and 0 elsewhere.
-    fn rows_of_block(
-        &self,
-        alloc: Global,
-        byte: &ByteRows,
-        block: &Block,
-        needed: &[Mask],
-    ) -> Result<Vec<WidthRow>, AllocError>
-        requires rows { HoldsRows self.now byte.now }
-        requires inputs { block.now.inputs ≡ byte.now.inputs }
-        requires low { block.now.low ≡ byte.now.low }
-        requires needed { length needed.now ≡ length (block_masks block.now) }
-        requires asked { Asks byte.now.needed (block_masks block.now) needed.now }
-        ensures { IfOk result
-            (λ rows. AreWidthRows self.now (block_masks block.now) needed.now rows.items) }
-    {
-        let mut rows = Vec::with_capacity(alloc, block.len())?;
-        for (i, mask) in block.masks().iter().enumerate() {
-            let row = byte.rows[usize::from(*mask >> 8)];
-            rows.push(members_only(row, needed[i]))?;
-        }
-        Ok(rows)
+/// A row for each set of the block, copied from `byte`: for set i, at each x in `needed[i]`, the
+/// width of x over the other members, and 0 elsewhere.
+fn rows_of_block(
+    alloc: Global,
+    byte: &ByteRows,
+    block: &Block,
+    needed: &[Mask],
+) -> Result<Vec<WidthRow>, AllocError>
+    requires each { length byte.now.rows ≡ length byte.now.needed }
+    requires inputs { block.now.inputs ≡ byte.now.inputs }
+    requires low { block.now.low ≡ byte.now.low }
+    requires needed { length needed.now ≡ length (block_masks block.now) }
+    requires asked { Asks byte.now.needed (block_masks block.now) needed.now }
+    ensures { IfOk result (λ rows. (p : TruthTables) → HoldsRows p byte.now →
+        AreWidthRows p (block_masks block.now) needed.now rows.items) }
+{
+    let mut rows = Vec::with_capacity(alloc, block.len())?;
+    for (i, mask) in block.masks().iter().enumerate() {
+        let row = byte.rows[usize::from(*mask >> 8)];
+        rows.push(members_only(row, needed[i]))?;
     }
+    Ok(rows)
 }
 
 /// Computes a row for each set of the block: for set i, at each x in `needed[i]`, the width of x
@@ -106,11 +102,10 @@ pub fn block_widths(
 {
     prove!(block.len() <= 256);
     prove!(problem.inputs() <= 16);
-    let shared = SharedTables::bare(alloc, problem)?;
     let mut request = WidthRequest::none(alloc, block.inputs(), block.low())?;
     request.add_block(block, needed);
-    let (byte, compactions) = walked_rows(&mut PairMemory::new(alloc), &shared, request)?;
-    let rows = shared.rows_of_block(alloc, &byte, block, needed)?;
+    let (byte, compactions) = rows_by_one_walk(alloc, problem, request)?;
+    let rows = rows_of_block(alloc, &byte, block, needed)?;
     tally.add_wanted(needed);
     Ok(BlockWidths { rows, compactions })
 }

@@ -1,17 +1,18 @@
 //! A walk over the high variables, from the class table of a low byte.
 
-ghost use Rattle.std.specs.Prelude.{◌≡◌, ℕ, ◌+◌, ◌%◌, ◌^◌, ◌<◌, ◌≤◌, length, IfOk, IfSome, IsNone, OnOk};
+ghost use Rattle.std.specs.Prelude.{◌≡◌, ◌≢◌, ℕ, ◌+◌, ◌%◌, ◌^◌, ◌<◌, ◌≤◌, length, slice_index, IfOk, IfSome, IsNone, OnOk};
 ghost use Rattle.std.specs.Int.{bit_at};
 ghost use Rattle.subfunction_classes.specs.Table.{classes_of, free_below};
-ghost use Rattle.compaction.specs.Rows.{HoldsRows, most_compactions};
+ghost use Rattle.compaction.specs.HighBytes.{HasByte};
+ghost use Rattle.compaction.specs.Rows.{AreByteRows, HoldsRows, most_compactions};
 ghost use Rattle.compaction.specs.Strips.{low_variables as low_of};
 ghost use Rattle.compaction.specs.Walks.{AreWanted, FillsOwn, FillsRows, HasDecided};
 
 use crate::high_bytes::HighBytes;
 use crate::request::WidthRequest;
 use crate::shared_tables::SharedTables;
-use crate::strips::{Strips, low_variables};
-use order_model::{Mask, VarIx, WidthRow, contains};
+use crate::strips::Strips;
+use order_model::{Mask, Problem, VarIx, WidthRow, contains};
 use pair_numbering::PairMemory;
 use std::alloc::{AllocError, Global};
 use std::marker::Model;
@@ -172,6 +173,57 @@ impl Model for ByteRows {
     ghost invariant = { λ b. IsRequest b.request.inputs b.request.low b.request.needed.items };
 }
 
+/// Writes the rows that `request` needs to `rows`, each at its set's high byte, by a walk from
+/// `table`, the class table of the low byte. `wanted` has the high bytes of the sets whose rows are
+/// needed. Returns how many class tables were compacted, one for each variable in the low byte
+/// among them.
+fn walk_from_low(
+    memory: &mut PairMemory,
+    table: &Strips<'_>,
+    wanted: HighBytes,
+    request: &WidthRequest,
+    rows: &mut [WidthRow],
+) -> Result<u32, AllocError>
+    requires inputs { request.now.inputs ≡ table.now.problem.inputs }
+    requires table { table.now ≡ classes_of table.now.problem request.now.low }
+    requires wanted { (h : ℕ) → h < length request.now.needed.items →
+        slice_index request.now.needed.items h ≢ 0 → HasByte wanted.words h }
+    requires rows { length rows.old ≡ length request.now.needed.items }
+    ensures rows { OnOk result
+        (AreByteRows table.now.problem request.now.low request.now.needed.items rows.new) }
+    ensures compactions { IfOk result (λ count. count ≤ most_compactions) }
+{
+    // All sets of this walk have the request's low byte, so every low variable is decided.
+    let decided = (1 << request.inputs.min(8)) - 1;
+    let walked = walk(memory, table, &Branch { decided, wanted }, request, rows)?;
+    Ok(request.low.count_ones() + walked)
+}
+
+/// Writes the rows that `request` needs to `rows`, each at its set's high byte, by a walk from a
+/// table in `shared`. Returns how many class tables were compacted.
+fn fill_rows(
+    memory: &mut PairMemory,
+    shared: &SharedTables<'_>,
+    request: &WidthRequest,
+    rows: &mut [WidthRow],
+) -> Result<u32, AllocError>
+    requires inputs { request.now.inputs ≡ shared.now.inputs }
+    requires rows { length rows.old ≡ length request.now.needed.items }
+    ensures rows { OnOk result
+        (AreByteRows shared.now request.now.low request.now.needed.items rows.new) }
+    ensures compactions { IfOk result (λ count. count ≤ most_compactions) }
+{
+    let wanted = HighBytes::wanted(&request.needed);
+    if wanted.is_empty() {
+        return Ok(0);
+    }
+    let low = Mask::from(request.low);
+    let (first, known) = shared.first_table(low);
+    let made = with_members(memory, first, low, known)?;
+    let table = made.as_ref().unwrap_or(&*first);
+    walk_from_low(memory, table, wanted, request, rows)
+}
+
 /// The rows that `request` needs, found by a walk from a table in `shared`, and how many class
 /// tables were compacted for them. Each variable in the low byte counts as one, even if its table
 /// was made beforehand.
@@ -186,20 +238,24 @@ pub(crate) fn walked_rows(
     ensures rows { IfOk result (λ r. HoldsRows shared.now r.0) }
     ensures compactions { IfOk result (λ r. r.1 ≤ most_compactions) }
 {
-    prove!(shared.problem().inputs() <= 16);
     let mut rows = vec![in memory.alloc; [0; 16]; request.needed.len()]?;
-    let wanted = HighBytes::wanted(&request.needed);
-    if wanted.is_empty() {
-        return Ok((ByteRows { request, rows }, 0));
-    }
-    let low = Mask::from(request.low);
-    let (first, known) = shared.first_table(low);
-    let made = with_members(memory, first, low, known)?;
-    let table = made.as_ref().unwrap_or(&*first);
-    // All sets of this walk have the request's low byte, so every low variable is decided.
-    let decided = (1 << low_variables(shared.problem())) - 1;
-    let branch = Branch { decided, wanted };
-    let walked = walk(memory, table, &branch, &request, &mut rows)?;
-    let compactions = low.count_ones() + walked;
+    let compactions = fill_rows(memory, shared, &request, &mut rows)?;
     Ok((ByteRows { request, rows }, compactions))
+}
+
+/// The rows that `request` needs, and how many class tables were compacted for them, as
+/// `walked_rows` finds them, in memory of this walk's own.
+pub(crate) fn rows_by_one_walk(
+    alloc: Global,
+    problem: &Problem,
+    request: WidthRequest,
+) -> Result<(ByteRows, u32), AllocError>
+    requires { request.inputs ≡ problem.now.inputs }
+    ensures low { IfOk result (λ r. r.0.low ≡ request.low) }
+    ensures needed { IfOk result (λ r. r.0.needed ≡ request.needed.items) }
+    ensures rows { IfOk result (λ r. HoldsRows problem.now r.0) }
+    ensures compactions { IfOk result (λ r. r.1 ≤ most_compactions) }
+{
+    let shared = SharedTables::bare(alloc, problem)?;
+    walked_rows(&mut PairMemory::new(alloc), &shared, request)
 }

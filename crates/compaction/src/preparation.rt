@@ -93,8 +93,8 @@ impl<'a> Preparation<'a> {
         })
     }
 
-    /// A preparation without rows, made by the calling thread. Sets that aren't lawful by `pairs`, of
-    /// the variables before the renaming, get no rows later.
+    /// A preparation without rows, made by the calling thread. Sets that aren't lawful by `pairs`,
+    /// of the variables before the renaming, get no rows later.
     pub fn of(
         alloc: Global,
         renaming: &'a Renaming<'a>,

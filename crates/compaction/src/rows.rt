@@ -5,13 +5,11 @@ ghost use Rattle.std.specs.Prelude.{◌≡◌, ◌^◌, ◌<◌, ◌≤◌, IfOk
 ghost use Rattle.compaction.specs.Requests.{AreMembersOf};
 ghost use Rattle.compaction.specs.Rows.{IsWidthRow};
 
-use crate::high_walk::walked_rows;
+use crate::high_walk::rows_by_one_walk;
 use crate::preparation::Preparation;
 use crate::request::WidthRequest;
-use crate::shared_tables::SharedTables;
 use crate::strips::members_only;
 use order_model::{Mask, Problem, WidthRow};
-use pair_numbering::PairMemory;
 use std::alloc::{AllocError, Global};
 
 /// At each x in `needed` the width of x over the other members of `set`, and 0 elsewhere, found by
@@ -27,10 +25,9 @@ fn walked_row(
     ensures { IfOk result (IsWidthRow problem.now set needed) }
 {
     prove!(problem.inputs() <= 16);
-    let shared = SharedTables::bare(alloc, problem)?;
     let mut request = WidthRequest::none(alloc, problem.inputs(), (set % 256) as u8)?;
     request.add(set, needed);
-    let (byte, _) = walked_rows(&mut PairMemory::new(alloc), &shared, request)?;
+    let (byte, _) = rows_by_one_walk(alloc, problem, request)?;
     let row = byte.rows[usize::from(set >> 8)];
     Ok(members_only(row, needed))
 }

@@ -1,4 +1,4 @@
-use Rattle.std.proofs.Common.{◌≡◌, ℕ, ◌+◌, ◌/◌, ◌%◌, ◌^◌, ◌<◌, List, [], cond, eqb, length, get_or, slice_index, sym, ap, ◌∙◌, subst, arith}
+use Rattle.std.proofs.Common.{◌≡◌, ℕ, ◌/◌, ◌%◌, ◌<◌, List, [], cond, eqb, length, get_or, slice_index, sym, ap, ◌∙◌, subst, arith}
 use Rattle.std.specs.Int.{bit_at}
 use Rattle.std.proofs.lemmas.List.{get_or_default}
 use Rattle.compaction.specs.Requests.{asked}
@@ -16,7 +16,7 @@ returns c =
       needed = c.byte.inside.request.needed.items;
       rows = c.byte.inside.rows.items;
     } in
-    let held = subst (HoldsRows p) (sym c.byte.view_is) (subst (λ q. HoldsRows q c.in_ok-byte.byte) c.in_ok-shared.ensures c.in_ok-byte.ensures.rows) in
+    let held = subst (HoldsRows p) (sym c.byte.view_is) c.in_ok-byte.ensures.rows in
     let needed = ap (λ (r : RowsOf). r.needed) c.byte.view_is ∙ c.in_ok-byte.ensures.needed in
     let low : c.args.set % 256 ≡ c.byte.inside.request.low =
     omega (arith, ap (λ (r : RowsOf). r.low) c.byte.view_is, c.in_ok-byte.ensures.low, c.add.ensures.low, c.in_ok-request.ensures.low) in

@@ -7,7 +7,7 @@ use Rattle.subset_layers.specs.Layers.{BlockOf, block_masks}
 use Rattle.compaction.specs.Requests.{Asks, asked}
 use Rattle.compaction.specs.Rows.{HoldsRows, IsWidthRow, RowsOf}
 use Rattle.compaction.proofs.BlockRows.{RowsTo, block_of_byte, row_of_byte, rows_pushed}
-use Rattle.compaction.proofs.shared_tables.SharedTables.rows_of_block.Goals as goal
+use Rattle.compaction.proofs.blocks.rows_of_block.Goals as goal
 
 -- what the block's set at a place has among the rows of its byte
 module _ (b : BlockOf) (inside now : RowsOf) (items : List ℕ) (i : ℕ) (view : inside ≡ now) (inputs : b.inputs ≡ now.inputs) (low : b.low ≡ now.low)
@@ -53,13 +53,12 @@ index-row-requires c =
     c.masks-mask-items.ensures c.loop-i-test.true c.byte.invariant.all in
     let f = place c.args.block.now inside now c.masks-mask-items.result.now c.loop-i.i c.byte.view_is c.requires.inputs c.requires.low
     c.masks-mask-items.ensures c.loop-i-test.true c.byte.invariant.all c.from.result c.from.ensures in
-    let r = (subst (HoldsRows c.args.self.now) (sym c.byte.view_is) c.requires.rows).rows.each in
+    let r = subst (λ (b : RowsOf). length b.rows ≡ length b.needed) (sym c.byte.view_is) c.requires.each in
     let k = c.byte.inside.rows.ok in
     omega (arith, a, f, r, k)
 
 pub loop-i-preserved : goal.loop-i-preserved
-loop-i-preserved c =
-    let p = c.args.self.now in
+loop-i-preserved c p holds =
     let i = c.loop-i.i in
     let inside : RowsOf = record {
       inputs = c.byte.inside.request.inputs;
@@ -70,12 +69,12 @@ loop-i-preserved c =
     let row : IsWidthRow p (slice_index (block_masks c.args.block.now) i) (slice_index c.args.needed.now i) c.members_only.result =
     row_here c.args.block.now inside c.args.byte.now c.masks-mask-items.result.now i c.byte.view_is c.requires.inputs c.requires.low
     c.masks-mask-items.ensures c.loop-i-test.true c.byte.invariant.all p c.args.needed.now c.from.result c.index-row.result.now
-    c.members_only.result c.requires.rows c.requires.asked c.from.ensures c.index-row.ensures c.members_only.ensures in
+    c.members_only.result holds c.requires.asked c.from.ensures c.index-row.ensures c.members_only.ensures in
     subst (RowsTo p (block_masks c.args.block.now) c.args.needed.now (i + 1)) (sym c.in_ok-push.ensures.items)
-    (rows_pushed p (block_masks c.args.block.now) c.args.needed.now i c.loop-i.rows.items c.members_only.result c.loop-i.invariant row)
+    (rows_pushed p (block_masks c.args.block.now) c.args.needed.now i c.loop-i.rows.items c.members_only.result (c.loop-i.invariant p holds) row)
 
 pub bounds-needed-i : goal.bounds-needed-i
 bounds-needed-i c = grind (arith, common_steps)
 
 pub returns : goal.returns
-returns c = grind arith
+returns c p holds = let rows = c.loop-i.invariant p holds in grind arith

@@ -1,6 +1,0 @@
-use Rattle.subset_layers.specs.Layers.{block_masks}
-use Rattle.compaction.proofs.BlockRows.{RowsTo}
-use Rattle.compaction.proofs.shared_tables.SharedTables.rows_of_block.Given as goal
-
-abbrev pub invariant-loop-i : goal.invariant-loop-i
-invariant-loop-i l = RowsTo l.self (block_masks l.block) l.needed l.i l.rows.items
