@@ -1,5 +1,6 @@
-use Rattle.std.proofs.Common.{◌^◌, inl, inr, sym, subst, arith}
+use Rattle.std.proofs.Common.{◌^◌, ◌∙◌, inl, inr, sym, subst, arith}
 use Rattle.std.proofs.lemmas.Bool.{cases_eq}
+use Rattle.subfunction_classes.specs.PairTables.{AllBelow}
 use Rattle.subfunction_classes.specs.Numbering.{IsFirstOccurrence}
 use Rattle.class_tables.specs.Chains.{lower_at}
 use Rattle.subfunction_classes.specs.Places.{pair_at}
@@ -17,3 +18,14 @@ loop-lower-preserved c = record {
 
 pub returns : goal.returns
 returns c = grind arith
+
+pub walk_chain-requires-clause-rows : goal.walk_chain-requires-clause-rows
+walk_chain-requires-clause-rows c =
+    let rows = c.requires.rows in
+    let long = c.loop-lower.auto in
+    record {
+      paired = rows.paired;
+      classes = subst (AllBelow c.args.chains.now.entries.now.numbers) (sym long.stamps) rows.classes;
+      marks_len = long.marks ∙ rows.marks_len ∙ sym long.stamps;
+      first_len = long.first ∙ rows.first_len;
+    }

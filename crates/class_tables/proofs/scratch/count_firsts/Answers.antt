@@ -4,6 +4,7 @@ use Rattle.subfunction_classes.specs.Dependence.{joined_mask}
 use Rattle.subfunction_classes.specs.Places as places
 use Rattle.class_tables.proofs.CountedFirsts.{Counting, counting_first, counting_again, counting_all}
 use Rattle.subfunction_classes.proofs.Index.{first_listed, pair_listed, length-pairs}
+use Rattle.pair_numbering.proofs.InBlocks.{pair_inside}
 use Rattle.class_tables.proofs.scratch.count_firsts.Goals as goal
 use Rattle.class_tables.proofs.scratch.count_firsts.Goals.{then-f-j, else-f-j}
 
@@ -38,3 +39,7 @@ returns c =
       arith,
       length-pairs cs step,
     )) c.loop-j.invariant
+
+pub join_mask-mask-requires-clause-upper : goal.join_mask-mask-requires-clause-upper
+join_mask-mask-requires-clause-upper c =
+    (pair_inside c.rank.ensures.paired c.args.pairs.now.below (subst (λ n. c.loop-j.j < n) c.requires.first.long c.loop-j-test.true) c.pair.ensures).1

@@ -1,7 +1,6 @@
-use Rattle.std.proofs.Common.{◌^◌, bit_or, sym, subst, arith}
+use Rattle.std.proofs.Common.{bit_or, sym, subst, arith}
 use Rattle.std.proofs.lemmas.Nat.{one_shl}
 use Rattle.subfunction_classes.specs.Table.{ClassesOf, HoldsClasses, classes_of}
-use Rattle.subfunction_classes.proofs.OneMoreVariable.{is_ready}
 use Rattle.class_tables.proofs.classes.Classes.with_numbers.Goals as goal
 
 pub invariant_of-result : goal.invariant_of-result
