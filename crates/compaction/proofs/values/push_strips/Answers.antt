@@ -29,3 +29,12 @@ loop-place-preserved c =
           (let e : length c.args.found.now.outer.items * 256 + (place * 256 + b) ≡ length outer * 256 + b = omega (arith, before.long) in e))
           c.in_ok-name.name c.insert_full.new.self.keys e.index e.keys e.within);
     }
+
+pub overflow_cast-name : goal.overflow_cast-name
+overflow_cast-name c =
+    let e = c.in_ok-name.ensures in
+    let m = ap length e.keys in
+    let strips = c.loop-place.found.strips.keys in
+    let strip = strip_of c.args.words.now c.loop-place.place in
+    let f = few_more (list_any (pointwise eqb strip) strips) strips strip in
+    omega (arith, e.index, e.within, c.loop-place.invariant.room)
