@@ -1,5 +1,6 @@
 use Rattle.std.proofs.Common.{ℕ, List, ◌≡◌, refl, ◌+◌, ◌*◌, ◌/◌, ◌^◌, ◌<◌, ◌≤◌, length, get_or, sym, ap, ◌∙◌, subst, arith}
 use Rattle.std.proofs.lemmas.Grind.{common_steps}
+use Rattle.std.proofs.lemmas.List.{length-take}
 use Rattle.std.proofs.Math.Nat.{add-mul-div_right, div-eq_of_lt, mul-le-mul_left}
 use Rattle.std.proofs.lemmas.Nat.{pow_pos, pow-add}
 use Rattle.subfunction_classes.specs.Strips.{AreNamed, names_of, unrolled}
@@ -172,3 +173,16 @@ returns c =
           let m = length-pairs paired len in
           omega arith;
     })
+
+pub slice_bounds-to_vec-end : goal.slice_bounds-to_vec-end
+slice_bounds-to_vec-end c = omega (arith, length-take {A = ℕ})
+
+pub of_strips-requires-clause-few : goal.of_strips-requires-clause-few
+of_strips-requires-clause-few c = c.table.invariant.few
+
+-- a part of a small sum is small
+lt_of_sum : (a b n : ℕ) → a + b < n → a < n
+lt_of_sum a b n h = omega arith
+
+pub of_strips-requires-clause-bits : goal.of_strips-requires-clause-bits
+of_strips-requires-clause-bits c = lt_of_sum _ _ _ c.table.invariant.small_rank
