@@ -1,8 +1,8 @@
 //! Runs of minorder, over any reader and writers.
 
-ghost use Rattle.std.specs.Prelude.{◌≡◌, [], ◌∷◌, IfOk, IfErr, None, Ok, option_map, string_bytes};
+ghost use Rattle.std.specs.Prelude.{◌≡◌, [], ◌∷◌, IfOk, None, Ok, option_map, string_bytes};
 ghost use Rattle.report.specs.Planned.{ArePlanned};
-ghost use Rattle.report_texts.specs.Answers.{HasCertificate, Hinders, IsTextOf};
+ghost use Rattle.report_texts.specs.Answers.{HasCertificate, IsTextOf};
 ghost use Rattle.report_texts.specs.Runs.{RunEnds, devices, failures_in, held};
 
 use crate::all_orders::{orders_answer, sizes_answer};
@@ -53,29 +53,6 @@ fn texts_for<'a, R: Threads + Sync>(
     }
 }
 
-/// The texts of a run on `cover`. Err is `Pairs` with the fault of the plan's list of pairs, or
-/// `OutOfMemory`.
-fn planned_texts<'a, R: Threads + Sync>(
-    rt: &R,
-    alloc: Global,
-    plan: &RunPlan<'a>,
-    cover: &Cover,
-    certify: bool,
-) -> Result<RunTexts, Fault>
-    ensures report { IfOk result (λ t. IsTextOf plan.now cover.now (string_bytes t.report)) }
-    ensures certificate { IfOk result
-        (λ t. HasCertificate plan.now.output plan.now.above cover.now certify t.certificate) }
-    ensures fault { IfErr result (Hinders plan.now cover.now) }
-{
-    match pairs_of(plan, cover.inputs()) {
-        Ok(pairs) => match texts_for(rt, alloc, plan, cover, &pairs, certify) {
-            Ok(texts) => Ok(texts),
-            Err(_) => Err(Fault::OutOfMemory),
-        },
-        Err(fault) => Err(Fault::Pairs(fault)),
-    }
-}
-
 /// Reads the PLA file `file` to its end, makes all texts of the run, then writes them, and returns
 /// how the run ended. What the plan prints goes to `out`. A report's certificate, that of the first
 /// order of the fewest nodes among those that keep the plan's pairs, goes to `cert` before it,
@@ -98,9 +75,13 @@ pub fn run<'a, R: Threads + Sync, F: CountedRead, W: CountedWrite, C: CountedWri
         Ok(cover) => cover,
         Err(error) => return Outcome::Refused(Fault::from(error)),
     };
-    let texts = match planned_texts(rt, alloc, plan, &cover, cert.is_some()) {
+    let pairs = match pairs_of(plan, cover.inputs()) {
+        Ok(pairs) => pairs,
+        Err(fault) => return Outcome::Refused(Fault::Pairs(fault)),
+    };
+    let texts = match texts_for(rt, alloc, plan, &cover, &pairs, cert.is_some()) {
         Ok(texts) => texts,
-        Err(fault) => return Outcome::Refused(fault),
+        Err(_) => return Outcome::Refused(Fault::OutOfMemory),
     };
     write_texts(&texts, out, cert)
 }

@@ -10,7 +10,7 @@ use Rattle.report.proofs.runs.run.Goals as goal
 pub returns : goal.returns
 returns g c =
     let plan = c.args.plan.now in
-    let texts = c.in-Ok-planned_texts.texts in
+    let texts = c.in-Ok-texts_for.texts in
     let report = string_bytes texts.report in
     let outcome = c.write_texts.result in
     let sends = c.write_texts.ensures.sends in
@@ -19,7 +19,7 @@ returns g c =
     let delivered : (IsRead : NamedCover → Type 0) → IsRead c.in-Ok.cover → Delivers plan IsRead before after outcome = λ IsRead read.
     delivers g.C.CountedWrite.contents plan IsRead c.in-Ok.cover report c.is_some.result texts.certificate
     (g.W.CountedWrite.contents c.args.out.now) c.args.cert.now after outcome read
-    c.in-Ok-planned_texts.ensures.report c.in-Ok-planned_texts.ensures.certificate c.is_some.ensures sends in
+    c.in-Ok-texts_for.ensures.report c.in-Ok-texts_for.ensures.certificate c.is_some.ensures sends in
     record {
       optimum = with_read _ c.in-Ok.cover _ c.in-Ok.ensures.answer
           (λ bytes reads. optimum plan bytes before after outcome (delivered (Reads bytes) reads));
