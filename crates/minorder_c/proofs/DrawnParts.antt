@@ -2,6 +2,9 @@
 --     AreDrawnSoFar given i orders levels totals nodes roots      the answers of the first i problems, with diagrams
 --     more_drawn      those of one problem more, put behind the others
 --     all_drawn      those of all problems
+--     same_drawn      the same by other names
+--     none_drawn      those of none
+--     drawn_shape      the call has its shape
 use Rattle.std.proofs.Common.{◌≡◌, ℕ, ◌+◌, ◌*◌, ◌<◌, ◌≤◌, List, [], ◌∷◌, ◌++◌, length, take, drop, slice_index, sum, sym, ◌∙◌, ap, ap₂, subst, arith, below_more}
 use Rattle.std.proofs.lemmas.List.{length-drop, length-append, drop-append-le, take-append-le, take_all, take_more, drop_at, get_or_append_left, get_or_at}
 use Rattle.std.proofs.lemmas.List.Sums.{sum_by-append, sum_by-take-le}
@@ -12,8 +15,8 @@ use Rattle.definitions.proofs.Widths.SizeBounds.{order_length}
 use Rattle.truth_table.specs.Reduced.{IsNumberedDiagram}
 use Rattle.truth_table.specs.declared.levels.NumberedNode.{NumberedNode}
 use Rattle.minorder_c.specs.declared.arguments.GivenTables.{GivenTables}
-use Rattle.minorder_c.specs.Many.{AreDiagrams, AreDrawn, IsPutDrawn, nodes_at, tables_at}
-use Rattle.minorder_c.proofs.Parts.{IsSoFar, kept_part, last_part, more_put}
+use Rattle.minorder_c.specs.Many.{AreDiagrams, AreDrawn, HasManyDiagramShape, HasManyShape, IsPutDrawn, nodes_at, tables_at}
+use Rattle.minorder_c.proofs.Parts.{IsSoFar, kept_part, last_part, more_put, none_put}
 
 pub record AreDrawnSoFar (given : GivenTables) (i : ℕ) (orders levels totals : List ℕ) (nodes : List NumberedNode) (roots : List ℕ) : Type 0 where
   pub answers : IsSoFar given i orders levels totals
@@ -119,3 +122,25 @@ all_drawn given i many orders levels totals nodes roots e far =
       nodes_long = far.nodes_long;
       roots_long = far.roots_long;
     })
+
+-- the same answers by other names
+pub same_drawn : (given given' : GivenTables) (many : ℕ) (orders orders' levels levels' totals totals' : List ℕ) (nodes nodes' : List NumberedNode)
+    (roots roots' : List ℕ) → given ≡ given' → orders' ≡ orders → levels' ≡ levels → totals' ≡ totals → nodes' ≡ nodes → roots' ≡ roots →
+    AreDrawn given many orders levels totals nodes roots → AreDrawn given' (length totals') orders' levels' totals' nodes' roots'
+same_drawn given given' many orders orders' levels levels' totals totals' nodes nodes' roots roots' g o l t n r d =
+    let m = ap length t ∙ d.totals_long in
+    subst (λ z. z) (λ i. AreDrawn (g i) (sym m i) (sym o i) (sym l i) (sym t i) (sym n i) (sym r i)) d
+
+pub drawn_shape : (given given' : GivenTables) (places counts roots many : ℕ) → given ≡ given' → HasManyShape given places counts many →
+    roots ≡ many * given'.outputs → HasManyDiagramShape given' places counts roots many
+drawn_shape given given' places counts roots many g shape long =
+    record { call = subst (λ (x : GivenTables). HasManyShape x places counts many) g shape; roots_are = long }
+
+pub none_drawn : (given : GivenTables) (orders levels totals : List ℕ) (nodes : List NumberedNode) (roots : List ℕ) → orders ≡ [] → levels ≡ [] →
+    totals ≡ [] → nodes ≡ [] → roots ≡ [] → AreDrawnSoFar given 0 orders levels totals nodes roots
+none_drawn given orders levels totals nodes roots o l t n r = record {
+  answers = none_put given orders levels totals o l t;
+  nodes_long = ap length n ∙ sym (ap sum t);
+  roots_long = ap length r ∙ omega arith;
+  diagrams = λ k low. absurd (omega arith);
+}

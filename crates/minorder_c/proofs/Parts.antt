@@ -2,6 +2,9 @@
 --     IsSoFar given i orders levels totals      the answers of the first i problems
 --     part_tables      a problem's words are truth tables
 --     more_put      those of one problem more, put behind the others
+--     none_put      those of none
+--     block_fits      the words of a problem are there
+--     same_answers      answers by other names
 use Rattle.std.proofs.Common.{◌≡◌, ℕ, ◌+◌, ◌*◌, ◌<◌, ◌≤◌, List, [], ◌∷◌, ◌++◌, length, take, drop, slice_index, sym, ◌∙◌, ap, ap₂, subst, arith, below_more}
 use Rattle.std.proofs.lemmas.List.{length-drop, length-append, length-take-le, drop-append-le, take-append-le, take_all, drop_at, get_or_append_left, get_or_at}
 use Rattle.std.proofs.lemmas.Nat.{row_fits}
@@ -100,3 +103,25 @@ more_put given i part orders orders' levels levels' totals totals' far words inp
     let with_orders = subst (λ (x : List ℕ). IsSoFar given (i + 1) x (levels ++ put.counts) (totals ++ put.total ∷ [])) (sym put.orders_are) more in
     let with_levels = subst (λ (x : List ℕ). IsSoFar given (i + 1) orders' x (totals ++ put.total ∷ [])) (sym put.levels_are) with_orders in
     subst (λ (x : List ℕ). IsSoFar given (i + 1) orders' levels' x) (sym put.totals_are) with_levels
+
+pub none_put : (given : GivenTables) (orders levels totals : List ℕ) → orders ≡ [] → levels ≡ [] → totals ≡ [] → IsSoFar given 0 orders levels totals
+none_put given orders levels totals o l t = record {
+  orders_long = ap length o ∙ omega arith;
+  levels_long = ap length l ∙ omega arith;
+  totals_long = ap length t;
+  answers = λ k low. absurd (omega arith);
+}
+
+pub block_fits : (given : GivenTables) (places counts many i w : ℕ) → HasManyShape given places counts many → i < many →
+    w ≡ words_per_table given.inputs → i * (given.outputs * w) + given.outputs * w ≤ length given.words.now
+block_fits given places counts many i w shape low e =
+    let size = given.outputs * w in
+    let fits : i * size + size ≤ many * size = row_fits i size many size low (omega arith) in
+    omega (arith, fits, shape.long, ap (λ v. many * (given.outputs * v)) e)
+
+-- answers by other names
+pub same_answers : (given given' : GivenTables) (many : ℕ) (orders orders' levels levels' totals totals' : List ℕ) → given ≡ given' →
+    orders' ≡ orders → levels' ≡ levels → totals' ≡ totals → AreFirstFewest given many orders levels totals →
+    AreFirstFewest given' many orders' levels' totals'
+same_answers given given' many orders orders' levels levels' totals totals' g o l t h =
+    subst (λ z. z) (λ i. AreFirstFewest (g i) many (sym o i) (sym l i) (sym t i)) h

@@ -80,12 +80,11 @@ fn optima_of(alloc: Global, given: &GivenTables, many: usize) -> Result<Answers,
     ensures levels { IfOk result (λ a. length a.levels.items ≡ many * given.now.inputs) }
     ensures totals { IfOk result (λ a. length a.totals.items ≡ many) }
 {
-    let n = given.inputs as usize;
     let size = given.outputs as usize * words_per_table(given.inputs as u8);
     let mut answers = Answers {
-        orders: Vec::with_capacity(alloc, many * n)?,
-        levels: Vec::with_capacity(alloc, many * n)?,
-        totals: Vec::with_capacity(alloc, many)?,
+        orders: Vec::new(alloc),
+        levels: Vec::new(alloc),
+        totals: Vec::new(alloc),
     };
     let mut workspace = Workspace::new(alloc);
     for i in 0..many {

@@ -1,7 +1,6 @@
-ghost use Rattle.std.specs.Prelude.{◌≡◌, ◌≢◌, ◌<◌, ℕ, length, slice_index, IfOk, IfErr, OnOk};
+ghost use Rattle.std.specs.Prelude.{◌≡◌, ◌≢◌, length, IfOk, IfErr, OnOk};
 ghost use Rattle.definitions.specs.Orders.{IsOrder};
-ghost use Rattle.definitions.specs.Problems.{functions};
-ghost use Rattle.definitions.specs.Levels.{level_count};
+ghost use Rattle.order_model.specs.SizedOrders.{HasItsSize};
 ghost use Rattle.minorder_c.specs.Answers.{AllStay, HasCallShape, HasLengths, IsSiftedFrom, given};
 ghost use Rattle.minorder_c.specs.Statuses.{IsOrderStatus, RefusesOrder, ShowsOrder, ShowsShape};
 
@@ -12,15 +11,18 @@ use order_model::{Pairs, SizedOrder};
 use sifting::Sifted;
 use std::alloc::{AllocError, Global};
 
-fn levels_of(alloc: Global, sifted: &Sifted) -> Result<Vec<u32>, AllocError>
-    ensures long { IfOk result (λ v. length v.items ≡ length sifted.now.order) }
-    ensures counts { IfOk result
-        (λ v. (i : ℕ) → i < length sifted.now.order →
-        slice_index v.items i ≡ level_count sifted.now.problem.inputs
-        (functions sifted.now.problem) sifted.now.order i) }
+/// The order that sifting found, with its level counts and its size.
+fn sized_order(alloc: Global, sifted: &Sifted) -> Result<SizedOrder, AllocError>
+    ensures order { IfOk result (λ s. s.order ≡ sifted.now.order) }
+    ensures sized { IfOk result (HasItsSize sifted.now.problem) }
 {
+    let order = sifted.order().try_clone(alloc)?;
     let counts = sifted.levels();
-    counts[..sifted.order().len()].to_vec(alloc)
+    Ok(SizedOrder {
+        levels: counts[..order.len()].to_vec(alloc)?,
+        total: sifted.size(),
+        order,
+    })
 }
 
 /// The order after one pass of sifting from `order`, if a slice of `counts` entries fits.
@@ -42,11 +44,7 @@ fn sifted_order(
     let arguments = arguments_of(alloc, given, order, counts)?;
     let pairs = Pairs::none(given.inputs as u8);
     let sifted = sifted_from(alloc, &arguments.tables, &arguments.order, pairs)?;
-    Ok(SizedOrder {
-        order: sifted.order().try_clone(alloc)?,
-        levels: levels_of(alloc, &sifted)?,
-        total: sifted.size(),
-    })
+    Ok(sized_order(alloc, &sifted)?)
 }
 
 /// Replaces `order` by the order after one pass of sifting from it, and writes its level counts and

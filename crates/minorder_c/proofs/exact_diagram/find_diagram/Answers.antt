@@ -1,3 +1,6 @@
+use Rattle.std.proofs.Common.{List, subst}
+use Rattle.definitions.specs.Pairs.{Pair}
+use Rattle.minorder_c.specs.Answers.{IsFirstFewestOf}
 use Rattle.minorder_c.proofs.Roots.{optimum_nodes, roots_long}
 use Rattle.minorder_c.proofs.exact_diagram.find_diagram.Goals as goal
 
@@ -11,3 +14,13 @@ returns-in_ok-make_diagram-clause-diagram c =
           c.in_ok-total.ensures.optimum is;
       long = roots_long c.args.given.now c.optimum.new.order m.nodes.items m.roots.items is;
     }
+
+pub returns-in_ok-make_diagram-clause-optimum : goal.returns-in_ok-make_diagram-clause-optimum
+returns-in_ok-make_diagram-clause-optimum c =
+    subst (λ (P : List Pair). IsFirstFewestOf c.args.given.now P c.optimum.new.order c.optimum.new.levels c.in_ok-total.total) c.none-pairs.ensures.pairs
+    c.in_ok-total.ensures.optimum
+
+pub returns-else-total-room-clause-optimum : goal.returns-else-total-room-clause-optimum
+returns-else-total-room-clause-optimum c =
+    subst (λ (P : List Pair). IsFirstFewestOf c.args.given.now P c.optimum.new.order c.optimum.new.levels c.in_ok-total.total) c.none-pairs.ensures.pairs
+    c.in_ok-total.ensures.optimum

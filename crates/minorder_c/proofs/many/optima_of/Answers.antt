@@ -1,6 +1,6 @@
-use Rattle.std.proofs.Common.{ℕ, ◌*◌, refl, ap, ◌∙◌}
+use Rattle.std.proofs.Common.{◌≡◌, ℕ, ◌*◌, refl, ap, ◌∙◌, arith}
 use Rattle.definitions.specs.Problems.{words_of}
-use Rattle.minorder_c.proofs.Parts.{more_put, part_tables}
+use Rattle.minorder_c.proofs.Parts.{block_fits, more_put, none_put, part_tables}
 use Rattle.minorder_c.proofs.many.optima_of.Goals as goal
 
 pub put-requires : goal.put-requires
@@ -17,3 +17,19 @@ loop-i-preserved c =
     (c.block-words.ensures
     ∙ ap (λ (w : ℕ). words_of (c.args.given.now.outputs * w) c.args.given.now.words.now c.loop-i.i) c.words_per_table.ensures.value) refl refl
     c.in_ok-put.ensures
+
+pub loop-i-init : goal.loop-i-init
+loop-i-init c = none_put _ _ _ _ c.new.ensures.items c.new-2.ensures.items c.new-3.ensures.items
+
+pub block-words-requires : goal.block-words-requires
+block-words-requires c = block_fits c.args.given.now _ _ c.args.many _ _ c.requires c.loop-i-test.true c.words_per_table.ensures.value
+
+pub returns-clause-orders : goal.returns-clause-orders
+returns-clause-orders c =
+    let all : c.loop-i.i ≡ c.args.many = omega arith in
+    c.loop-i.invariant.orders_long ∙ ap (λ k. k * c.args.given.now.inputs) all
+
+pub returns-clause-levels : goal.returns-clause-levels
+returns-clause-levels c =
+    let all : c.loop-i.i ≡ c.args.many = omega arith in
+    c.loop-i.invariant.levels_long ∙ ap (λ k. k * c.args.given.now.inputs) all

@@ -1,7 +1,7 @@
 use Rattle.std.proofs.Common.{ℕ, ◌*◌, refl, ap, ◌∙◌, arith}
 use Rattle.definitions.specs.Problems.{words_of}
-use Rattle.minorder_c.proofs.DrawnParts.{all_drawn, more_drawn}
-use Rattle.minorder_c.proofs.Parts.{part_tables}
+use Rattle.minorder_c.proofs.DrawnParts.{all_drawn, more_drawn, none_drawn}
+use Rattle.minorder_c.proofs.Parts.{block_fits, part_tables}
 use Rattle.minorder_c.proofs.many_diagrams.drawn_of.Goals as goal
 
 pub put_drawn-requires : goal.put_drawn-requires
@@ -25,3 +25,10 @@ returns c =
     let d = c.loop-i.drawn in
     all_drawn c.args.given.now c.loop-i.i c.args.many d.answers.orders.items d.answers.levels.items d.answers.totals.items d.nodes.items d.roots.items
     (omega arith) c.loop-i.invariant
+
+pub loop-i-init : goal.loop-i-init
+loop-i-init c =
+    none_drawn _ _ _ _ _ _ c.new.ensures.items c.new-2.ensures.items c.new-3.ensures.items c.new-4.ensures.items c.new-5.ensures.items
+
+pub block-words-requires : goal.block-words-requires
+block-words-requires c = block_fits c.args.given.now _ _ c.args.many _ _ c.requires c.loop-i-test.true c.words_per_table.ensures.value

@@ -1,7 +1,5 @@
-use Rattle.std.proofs.Common.{◌≡◌, ℕ, ◌+◌, ◌<◌, ◌≤◌, List, [], ◌++◌, length, take, get_or, slice_index, sym, ap, ◌∙◌, subst, arith}
-use Rattle.std.specs.List.{range_with_len}
+use Rattle.std.proofs.Common.{◌≡◌, [], ◌++◌, take, get_or, ap, ◌∙◌, arith}
 use Rattle.definitions.specs.Problems.{functions}
-use Rattle.minorder_c.specs.OrderFigures.{widths_listed}
 use Rattle.minorder_c.proofs.ListedWidths.{listed_more, listed_none}
 use Rattle.minorder_c.proofs.order_figures.listed.Goals as goal
 

@@ -1,4 +1,4 @@
-use Rattle.std.proofs.Common.{◌≡◌, ℕ, ◌*◌, ◌^◌, length, sym, ap, ◌∙◌}
+use Rattle.std.proofs.Common.{◌^◌, length, sym, ap, ◌∙◌}
 use Rattle.minorder_c.specs.Answers.{functions_in}
 use Rattle.minorder_c.proofs.ListedWidths.{listed_long}
 use Rattle.minorder_c.proofs.order_figures.minorder_widths_with_lengths.Goals as goal
