@@ -2,7 +2,7 @@
 #![tactic(auto)]
 
 use counted_io::{CountedWrite, Counting};
-use outcomes::{texts_of, words_of_program};
+use outcomes::{occupy_closed_streams, texts_of, words_of_program};
 use report::minorder;
 use std::env::Env;
 use std::process::ExitCode;
@@ -17,6 +17,7 @@ fn minorder_status<R: Env + Files + AllocGlobal + Threads + Sync, W: CountedWrit
     out: &mut W,
     err: &mut E,
 ) -> Result<u8, u8> {
+    let _occupied = occupy_closed_streams(rt);
     let words = words_of_program(rt)?;
     let words = texts_of(rt.alloc(), &words)?;
     Ok(minorder(rt, &words, out, err))

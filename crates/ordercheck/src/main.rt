@@ -4,7 +4,7 @@
 
 use check_runs::ordercheck;
 use counted_io::{CountedWrite, Counting};
-use outcomes::{texts_of, words_of_program};
+use outcomes::{occupy_closed_streams, texts_of, words_of_program};
 use std::env::Env;
 use std::process::ExitCode;
 use std::rt::Files;
@@ -17,6 +17,7 @@ fn ordercheck_status<
     W: CountedWrite,
     E: CountedWrite,
 >(rt: &R, out: &mut W, err: &mut E) -> Result<u8, u8> {
+    let _occupied = occupy_closed_streams(rt);
     let words = words_of_program(rt)?;
     let words = texts_of(rt.alloc(), &words)?;
     Ok(ordercheck(rt, &words, out, err))

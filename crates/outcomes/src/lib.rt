@@ -7,5 +7,7 @@ mod messages;
 mod outcome;
 
 pub use fault_lines::Program;
-pub use messages::{texts_of, words_of_program, write_fault, write_usage};
+pub use messages::{
+    OccupiedStreams, occupy_closed_streams, texts_of, words_of_program, write_fault, write_usage,
+};
 pub use outcome::{Fault, Outcome};

@@ -1,4 +1,4 @@
-//! The words of a program's command line, and the messages that it writes.
+//! The words of a program's command line, its standard streams, and the messages that it writes.
 
 ghost use Rattle.outcomes.specs.Messages.{Receives, fault_line as line_of, writer};
 ghost use Rattle.outcomes.specs.Programs.{UsageEnds, streams};
@@ -8,9 +8,10 @@ use crate::outcome::Fault;
 use command_line::Usage;
 use counted_io::{CountedWrite, write_whole};
 use std::alloc::Global;
-use std::env;
 use std::env::Env;
 use std::io::ErrorKind;
+use std::rt::Files;
+use std::{env, fs};
 
 /// The exit status if a word after the program's name isn't UTF-8.
 const WORDS_STATUS: u8 = 2;
@@ -37,6 +38,26 @@ pub fn texts_of<'a>(alloc: Global, words: &'a [String]) -> Result<Vec<&'a str>, 
     match texts.collect::<Vec<&str>>(alloc) {
         Ok(texts) => Ok(texts),
         Err(_) => Err(MEMORY_STATUS),
+    }
+}
+
+/// The empty device, opened once for each standard stream; None where it can't be opened.
+#[derive(Drop)]
+pub struct OccupiedStreams<F> {
+    input: Option<F>,
+    output: Option<F>,
+    error: Option<F>,
+}
+
+/// Opens the empty device, to be read, as often as there are standard streams. As long as the
+/// result is there, no file that is opened takes the place of a stream that was closed when the
+/// program began, and a write to that stream fails.
+pub fn occupy_closed_streams<R: Files>(rt: &R) -> OccupiedStreams<R::File> {
+    let occupy = || fs::open(rt, "/dev/null").ok();
+    OccupiedStreams {
+        input: occupy(),
+        output: occupy(),
+        error: occupy(),
     }
 }
 
