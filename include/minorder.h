@@ -168,8 +168,12 @@ MINORDER_INLINE uint32_t minorder_exact_many(const uint64_t *tables, size_t word
     uint64_t no_table = 0;
     uint8_t no_order = 0;
     uint32_t no_level = 0, no_total = 0;
-    if (count == 0)
-        tables = &no_table, orders = &no_order, levels = &no_level, totals = &no_total;
+    if (count == 0) {
+        tables = &no_table;
+        orders = &no_order;
+        levels = &no_level;
+        totals = &no_total;
+    }
     return minorder_exact_many_with_lengths(tables, words, inputs, outputs, orders, places, levels, places, totals, count);
 }
 
@@ -227,8 +231,14 @@ MINORDER_INLINE uint32_t minorder_exact_diagram_many(const uint64_t *tables, siz
     uint8_t no_order = 0;
     uint32_t no_level = 0, no_root = 0, no_total = 0;
     minorder_node no_node = {0, 0, 0};
-    if (count == 0)
-        tables = &no_table, orders = &no_order, levels = &no_level, roots = &no_root, totals = &no_total, room = 0;
+    if (count == 0) {
+        tables = &no_table;
+        orders = &no_order;
+        levels = &no_level;
+        roots = &no_root;
+        totals = &no_total;
+        room = 0;
+    }
     return minorder_exact_diagram_many_with_lengths(tables, words, inputs, outputs, totals, count, orders, places, levels, places,
                                                     room == 0 ? &no_node : nodes, room, roots, all_roots);
 }

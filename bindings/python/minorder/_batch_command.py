@@ -27,7 +27,8 @@ def _files_of(paths: Sequence[str]) -> Iterator[str]:
     """The files that are meant: of a folder those that end in `.pla`, by name."""
     for path in paths:
         if os.path.isdir(path):
-            yield from (os.path.join(path, name) for name in sorted(os.listdir(path)) if name.endswith(".pla"))
+            inside = (os.path.join(path, name) for name in sorted(os.listdir(path)) if name.endswith(".pla"))
+            yield from (name for name in inside if not os.path.isdir(name))
         else:
             yield path
 

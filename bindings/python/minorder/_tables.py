@@ -206,7 +206,8 @@ def _hint(value: object) -> str:
 # ---- refusals
 
 def _values(count: int) -> BadShape:
-    return BadShape(f"tables: {count} entries that are all 0 or 1: from_values makes one table of a list of values")
+    return BadShape(f"tables: {count} entries that are all 0 or 1: from_values makes one table of a list of values; "
+                    f"{count} tables are a list of TruthTable(number, inputs)")
 
 
 def _no_table(it: object) -> BadArgument:

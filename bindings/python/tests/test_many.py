@@ -238,7 +238,7 @@ class Files(unittest.TestCase):
 
     def test_the_command(self):
         inner = f"{self.folder}/inner"
-        os.mkdir(inner)
+        os.makedirs(f"{inner}/folder.pla")
         for name in ("b.pla", "a.pla", "other.txt"):
             with open(f"{inner}/{name}", "w") as file:
                 file.write(".i 1\n.o 1\n1 1\n")
