@@ -4,17 +4,12 @@ ghost use Rattle.std.specs.Prelude.{◌≡◌, ◌≤◌, All, IfOk, vec_len};
 ghost use Rattle.std.specs.Thread.{IsSync};
 ghost use Rattle.subset_layers.specs.Layers.{masks_of};
 ghost use Rattle.layer_core.specs.LayerCosts.{AreCells};
-ghost use Rattle.solutions.specs.Bounded.{IsBounded};
 
 use crate::guesses::busy_workers;
-use crate::layers::all_cells;
-use crate::row_finders::ByWorkers;
-use compaction::Preparation;
 use layer_board::{Board, BoardSeat, CloseError};
 use layer_core::Instance;
 use layer_work::{LayerContext, WorkerResult, cells_alone, work_layer};
 use order_model::{Crew, Gate};
-use solutions::AllCells;
 use std::alloc::{AllocError, Global};
 use std::thread;
 use std::thread::Threads;
@@ -120,27 +115,4 @@ pub(crate) fn cells_of_layer<R: Threads + Sync, G: Gate>(
         Err((_, CloseError::Missing(_))) => cells_alone(alloc, context),
         Err((_, CloseError::OutOfMemory)) => Err(AllocError),
     }
-}
-
-/// Computes the cells of all sets by the workers of `crew`, and adds to `prepared` the rows of
-/// widths that it lacks.
-pub(crate) fn all_cells_by_workers<'a, R: Threads + Sync, G: Gate>(
-    crew: &Crew<'_, R, G>,
-    alloc: Global,
-    instance: &'a Instance<'a>,
-    prepared: &mut Preparation<'_>,
-) -> Result<AllCells<'a>, AllocError>
-    requires prepared { prepared.old.problem ≡ instance.now.problem }
-    requires bounded { IsBounded instance.now }
-    ensures { IfOk result (λ a. a ≡ instance.now) }
-{
-    let finder = ByWorkers {
-        rt: crew.rt,
-        workers: crew.workers,
-    };
-    let cells_of = |context: &LayerContext<'_>| -> Result<Vec<Cell>, AllocError>
-        ensures { IfOk result (λ v.
-            AreCells context.entry.now.instance (masks_of context.entry.now.layer) v.items) }
-    { cells_of_layer(crew, alloc, context) };
-    all_cells(&finder, &cells_of, alloc, instance, prepared)
 }

@@ -10,6 +10,12 @@ use subset_layers::{Costs, Layer};
 /// Most diagrams have about one node for this many entries of their truth tables.
 const ENTRIES_A_NODE: u64 = 16;
 
+/// The size up to which a search that bounds by variables needs the widths of nearly all sets.
+const LAYERS_BY_VARIABLES: u8 = 6;
+
+/// The same for a search that bounds by widths.
+const LAYERS_BY_WIDTHS: u8 = 5;
+
 /// The size up to which a search needs the widths of nearly all sets, before costs are known: all
 /// sizes if `limit.bound` is at least one node for each `ENTRIES_A_NODE` entries of the truth
 /// tables.
@@ -19,8 +25,8 @@ fn first_layers(problem: &Problem, limit: Limit) -> u8 {
         return problem.inputs();
     }
     match limit.lower_bound {
-        LowerBound::Variables => 6,
-        LowerBound::Widths => 5,
+        LowerBound::Variables => LAYERS_BY_VARIABLES,
+        LowerBound::Widths => LAYERS_BY_WIDTHS,
     }
 }
 

@@ -4,7 +4,7 @@ ghost use Rattle.std.specs.Prelude.{◌≡◌};
 
 use crate::look_ahead::LookAhead;
 use compaction::Preparation;
-use order_model::Workers;
+use order_model::Crew;
 use std::alloc::{AllocError, Global};
 use std::thread::Threads;
 
@@ -28,13 +28,6 @@ pub(crate) trait RowFinder {
 #[derive(Drop)]
 pub(crate) struct CallingThread;
 
-/// Workers, whose threads `rt` starts.
-#[derive(Drop)]
-pub(crate) struct ByWorkers<'r, R> {
-    pub(crate) rt: &'r R,
-    pub(crate) workers: Workers,
-}
-
 impl RowFinder for CallingThread {
     ghost ready = { λ _. Unit {0} };
 
@@ -48,7 +41,7 @@ impl RowFinder for CallingThread {
     }
 }
 
-impl<'r, R: Threads + Sync> RowFinder for ByWorkers<'r, R> {
+impl<'a, R: Threads + Sync, G> RowFinder for Crew<'a, R, G> {
     ghost use Rattle.std.specs.Thread.{IsSync};
 
     ghost ready = { λ _. IsSync R.row };

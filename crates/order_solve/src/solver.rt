@@ -5,20 +5,25 @@ ghost use Rattle.std.specs.Prelude.{◌≡◌, IfOk};
 ghost use Rattle.definitions.specs.Problems.{functions};
 ghost use Rattle.definitions.specs.declared.limits.LowerBound.TheVariants.{Variables};
 ghost use Rattle.definitions.specs.Cells.{widths_taken};
+ghost use Rattle.layer_core.specs.LayerCosts.{AreCells};
 ghost use Rattle.order_solve.specs.SearchStarts.{IsStartFor};
+ghost use Rattle.subset_layers.specs.Layers.{masks_of};
 ghost use Rattle.symmetries.specs.SymmetricPairs.{IsHarmless};
 ghost use Rattle.solutions.specs.Bounded.{IsBounded};
 ghost use Rattle.solutions.specs.Solutions.{IsOptimumFor, IsSolution};
 
 use crate::alone::all_cells_alone;
-use crate::crews::all_cells_by_workers;
+use crate::crews::cells_of_layer;
+use crate::layers::all_cells;
 use crate::preparation::SearchStart;
 use layer_core::Instance;
+use layer_work::LayerContext;
 use order_model::{Crew, Gate, Limit, LowerBound, Pairs, Problem, SizedOrder, Workers};
 use sifting::Sifted;
 use solutions::{Solution, optimum_of, solution_of};
 use std::alloc::{AllocError, Global};
 use std::thread::Threads;
+use subset_layers::Cell;
 use symmetries::pairs_to_keep;
 
 /// The problem instance of a search among the orders that keep `pairs`, with the size of the sifted
@@ -66,7 +71,11 @@ pub fn find_optimum<R: Threads + Sync, G: Gate>(
     let mut prepared = prepared;
     let instance = instance_of(prepared.problem(), &sifted, &kept, LowerBound::Widths);
     let crew = Crew::new(rt, workers, gate);
-    let cells = all_cells_by_workers(&crew, alloc, &instance, &mut prepared)?;
+    let cells_of = |context: &LayerContext<'_>| -> Result<Vec<Cell>, AllocError>
+        ensures { IfOk result (λ v.
+            AreCells context.entry.now.instance (masks_of context.entry.now.layer) v.items) }
+    { cells_of_layer(&crew, alloc, context) };
+    let cells = all_cells(&crew, &cells_of, alloc, &instance, &mut prepared)?;
     optimum_of(alloc, &cells)
 }
 
@@ -105,7 +114,11 @@ pub fn solve<R: Threads + Sync, G: Gate>(
     let problem = start.prepared.problem();
     let instance = instance_of(problem, &sifted, sifted.pairs(), LowerBound::Variables);
     let crew = Crew::new(rt, workers, gate);
-    let cells = all_cells_by_workers(&crew, alloc, &instance, &mut start.prepared)?;
+    let cells_of = |context: &LayerContext<'_>| -> Result<Vec<Cell>, AllocError>
+        ensures { IfOk result (λ v.
+            AreCells context.entry.now.instance (masks_of context.entry.now.layer) v.items) }
+    { cells_of_layer(&crew, alloc, context) };
+    let cells = all_cells(&crew, &cells_of, alloc, &instance, &mut start.prepared)?;
     solution_of(alloc, &cells)
 }
 

@@ -1,9 +1,9 @@
 -- What the search of a cover finds.
 --     IsSiftedFromFirst cover t P order size      the order sifted from the first one that keeps the pairs, and its size
---     IsStartingManager instance m      the diagram under the first order that keeps the pairs, as it is sifted
+--     IsStartingManager input m      the diagram under the first order that keeps the pairs, as it is sifted
 --     IsSiftedOnce m r      the order after one pass of sifting, and its size
---     IsSiftingOf m s, IsSiftingFor instance s      the sifted order, and one of the same functions to bound the search
---     IsFound instance f      the best order, the sifted one with its size, and the size under the file order
+--     IsSiftingOf m s, IsSiftingFor input s      the sifted order, and one of the same functions to bound the search
+--     IsFound input f      the best order, the sifted one with its size, and the size under the file order
 use Rattle.std.specs.Prelude.{◌≡◌, ℕ, List, sum}
 use Rattle.definitions.specs.Levels.{size_under}
 use Rattle.definitions.specs.Pairs.{Pair, IsFirstOrder}

@@ -49,13 +49,13 @@ fn widths_of<R: Threads + Sync>(
 fn sifted_size_of<R: Threads + Sync>(
     rt: &R,
     alloc: Global,
-    instance: &SearchInput<'_>,
+    input: &SearchInput<'_>,
 ) -> Result<u32, AllocError>
-    ensures { IfOk result (λ size. (order : List ℕ) × IsSiftedFromFirst instance.now.cover.now
-        instance.now.tables.now instance.now.pairs.now.pairs order size) }
+    ensures { IfOk result (λ size. (order : List ℕ) × IsSiftedFromFirst input.now.cover.now
+        input.now.tables.now input.now.pairs.now.pairs order size) }
 {
-    let starting = starting_diagram(rt, alloc, instance)?;
-    let manager = manager_of(alloc, instance, starting)?;
+    let starting = starting_diagram(rt, alloc, input)?;
+    let manager = manager_of(alloc, input, starting)?;
     let sifted = manager.sift(alloc)?;
     Ok(sifted.size())
 }
@@ -102,14 +102,14 @@ pub(crate) fn orders_answer<R: Threads + Sync>(
     ensures { IfOk result (λ text. IsOrdersAnswer cover.now pairs.now.pairs (string_bytes text)) }
 {
     let tables = Tables::of_cover(rt, alloc, cover)?;
-    let instance = SearchInput {
+    let input = SearchInput {
         cover,
         tables: &tables,
         pairs,
         certify: false,
         workers,
     };
-    let sifted_size = sifted_size_of(rt, alloc, &instance)?;
+    let sifted_size = sifted_size_of(rt, alloc, &input)?;
     let widths = widths_of(rt, alloc, &tables, workers)?;
     let counter = ByWorkers { rt, workers };
     let report = orders_report(

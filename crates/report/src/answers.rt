@@ -35,18 +35,18 @@ pub(crate) fn pairs_of<'a>(plan: &RunPlan<'a>, n: u8) -> Result<Pairs, PairsFaul
 }
 
 /// The text of the report on `found`: the order of the fewest nodes with its level counts and size,
-/// the sifted order and its size, and the size under the file order. `instance` has the names of
-/// the variables. Requires `found` to be the result of the search for `instance`.
-fn report_of(alloc: Global, instance: &SearchInput<'_>, found: &Found) -> Result<String, AllocError>
-    requires { IsFound instance.now found.now }
+/// the sifted order and its size, and the size under the file order. `input` has the names of
+/// the variables. Requires `found` to be the result of the search for `input`.
+fn report_of(alloc: Global, input: &SearchInput<'_>, found: &Found) -> Result<String, AllocError>
+    requires { IsFound input.now found.now }
     ensures { IfOk result
-        (λ text. string_bytes text ≡ report_parts instance.now.cover.now instance.now.tables.now
+        (λ text. string_bytes text ≡ report_parts input.now.cover.now input.now.tables.now
         found.now.best.optimum.order found.now.sifted found.now.sifted_size) }
 {
-    prove!(instance.cover.inputs() <= 16);
+    prove!(input.cover.inputs() <= 16);
     let optimum = &found.best.optimum;
     let report = Report {
-        names: instance.cover.input_names(),
+        names: input.cover.input_names(),
         order: optimum.order.variables(),
         levels: &optimum.levels,
         sifted: found.sifted.variables(),
@@ -96,15 +96,15 @@ pub(crate) fn answer_texts<R: Threads + Sync>(
         (λ t. IsCertified cover.now pairs.now.pairs certify t.certificate) }
 {
     let tables = Tables::of_cover(rt, alloc, cover)?;
-    let instance = SearchInput {
+    let input = SearchInput {
         cover,
         tables: &tables,
         pairs,
         certify,
         workers,
     };
-    let found = search(rt, alloc, &instance)?;
-    let report = report_of(alloc, &instance, &found)?;
+    let found = search(rt, alloc, &input)?;
+    let report = report_of(alloc, &input, &found)?;
     let certificate = certificate_of(alloc, tables.problem(), pairs, found.best)?;
     Ok(RunTexts {
         report,

@@ -1,6 +1,6 @@
 //! Finds the first order of the fewest nodes, and the sets and costs that its certificate lists.
 
-ghost use Rattle.std.specs.Prelude.{◌≡◌, IfOk, Some};
+ghost use Rattle.std.specs.Prelude.{◌≡◌, IfOk, None, Some};
 ghost use Rattle.report.specs.Bests.{IsBestFor};
 
 use order_model::{ListedCell, Pairs, Problem, SizedOrder};
@@ -16,6 +16,16 @@ pub(crate) struct Best {
 }
 
 impl Best {
+    pub(crate) fn without_cells(optimum: SizedOrder) -> Best
+        ensures optimum { result.optimum ≡ optimum }
+        ensures cells { result.cells ≡ None }
+    {
+        Best {
+            optimum,
+            cells: None,
+        }
+    }
+
     pub(crate) fn of(solution: Solution) -> Best
         ensures optimum { result.optimum ≡ solution.optimum }
         ensures cells { result.cells ≡ Some solution.cells }
@@ -43,8 +53,5 @@ pub(crate) fn small_best(
         return Ok(Best::of(solution));
     }
     let optimum = small_search::find_optimum(alloc, problem, pairs)?;
-    Ok(Best {
-        optimum,
-        cells: None,
-    })
+    Ok(Best::without_cells(optimum))
 }

@@ -37,40 +37,40 @@ fn levels_of(alloc: Global, diagram: &Diagram) -> Result<Vec<u32>, AllocError>
 fn diagram_under<R: Threads + Sync>(
     rt: &R,
     alloc: Global,
-    instance: &SearchInput<'_>,
+    input: &SearchInput<'_>,
     order: &Order,
 ) -> Result<Diagram, AllocError>
-    requires order { IsOrder instance.now.cover.now.inputs order.now }
+    requires order { IsOrder input.now.cover.now.inputs order.now }
     ensures { IfOk result
-        (IsDiagramOf instance.now.cover.now.inputs (functions_of instance.now.cover.now) order.now) }
+        (IsDiagramOf input.now.cover.now.inputs (functions_of input.now.cover.now) order.now) }
 {
-    if is_small(instance.tables.problem()) {
+    if is_small(input.tables.problem()) {
         some_diagram_has_the_level_counts();
         truth_tables_keep_functions();
-        return reduced_diagram(alloc, instance.tables, order);
+        return reduced_diagram(alloc, input.tables, order);
     }
     build(
         rt,
         alloc,
-        instance.cover,
-        instance.tables,
+        input.cover,
+        input.tables,
         order,
-        instance.busy_workers(),
+        input.busy_workers(),
         &NoGate,
     )
 }
 
 /// The reduced diagram of the cover's functions under the starting order: the lexicographically
-/// first of the orders that keep the pairs of `instance`.
+/// first of the orders that keep the pairs of `input`.
 pub(crate) fn starting_diagram<R: Threads + Sync>(
     rt: &R,
     alloc: Global,
-    instance: &SearchInput<'_>,
+    input: &SearchInput<'_>,
 ) -> Result<Diagram, AllocError>
-    ensures { IfOk result (IsStartingDiagram instance.now.cover.now instance.now.pairs.now.pairs) }
+    ensures { IfOk result (IsStartingDiagram input.now.cover.now input.now.pairs.now.pairs) }
 {
-    let order = instance.pairs.first_order(alloc)?;
-    let diagram = diagram_under(rt, alloc, instance, &order)?;
+    let order = input.pairs.first_order(alloc)?;
+    let diagram = diagram_under(rt, alloc, input, &order)?;
     Ok(diagram)
 }
 
@@ -80,21 +80,21 @@ pub(crate) fn starting_diagram<R: Threads + Sync>(
 pub(crate) fn file_order_levels_of<R: Threads + Sync>(
     rt: &R,
     alloc: Global,
-    instance: &SearchInput<'_>,
+    input: &SearchInput<'_>,
     starting: &Diagram,
 ) -> Result<Vec<u32>, AllocError>
-    requires starting { HasLevelCounts instance.now.cover.now.inputs
-        (functions_of instance.now.cover.now) starting.now.order starting.now.graph }
-    requires long { length starting.now.order ≡ instance.now.cover.now.inputs }
-    ensures counts { IfOk result (λ v. v.items ≡ file_order_levels instance.now.cover.now) }
+    requires starting { HasLevelCounts input.now.cover.now.inputs
+        (functions_of input.now.cover.now) starting.now.order starting.now.graph }
+    requires long { length starting.now.order ≡ input.now.cover.now.inputs }
+    ensures counts { IfOk result (λ v. v.items ≡ file_order_levels input.now.cover.now) }
     ensures few { IfOk result (λ v. length v.items ≤ 16) }
 {
-    let order = Order::file_order(alloc, instance.cover.inputs())?;
+    let order = Order::file_order(alloc, input.cover.inputs())?;
     if starting.order().variables() == order.variables() {
         let levels = levels_of(alloc, starting)?;
         return Ok(levels);
     }
-    let diagram = diagram_under(rt, alloc, instance, &order)?;
+    let diagram = diagram_under(rt, alloc, input, &order)?;
     let levels = levels_of(alloc, &diagram)?;
     Ok(levels)
 }

@@ -5,7 +5,6 @@
 ghost use Rattle.std.specs.Prelude.{◌≡◌, IfOk, Ok, sum};
 ghost use Rattle.std.specs.Thread.{IsSync};
 ghost use Rattle.order_solve.specs.SearchStarts.{IsStartFor};
-ghost use Rattle.report.specs.Bests.{IsBestFor};
 ghost use Rattle.report.specs.Found.{IsStartingManager, IsFound, IsSiftedOnce, IsSiftingFor, IsSiftingOf};
 ghost use Rattle.report.specs.StartingDiagrams.{IsStartingDiagram};
 ghost use Rattle.report_texts.specs.Texts.{file_order_levels};
@@ -54,43 +53,43 @@ fn sift<R: Threads + Sync>(
 }
 
 /// Makes the manager by which `starting` is sifted among the orders that keep the pairs of
-/// `instance`.
+/// `input`.
 pub(crate) fn manager_of(
     alloc: Global,
-    instance: &SearchInput<'_>,
+    input: &SearchInput<'_>,
     starting: Diagram,
 ) -> Result<Manager, AllocError>
-    requires { IsStartingDiagram instance.now.cover.now instance.now.pairs.now.pairs starting }
-    ensures { IfOk result (IsStartingManager instance.now) }
+    requires { IsStartingDiagram input.now.cover.now input.now.pairs.now.pairs starting }
+    ensures { IfOk result (IsStartingManager input.now) }
 {
-    prove!(instance.cover.outputs() <= 16);
+    prove!(input.cover.outputs() <= 16);
     diagrams_have_their_functions_tables();
-    let manager = Manager::with_pairs(alloc, starting, instance.pairs.copied())?;
+    let manager = Manager::with_pairs(alloc, starting, input.pairs.copied())?;
     Ok(manager)
 }
 
-/// Prepares the search before sifting has found its bound: takes the lesser of 2^20 and `size`, the
-/// number of nodes under the starting order, for the bound.
+/// Prepares the search before sifting has found its bound: takes `size`, the number of nodes under
+/// the starting order, for it.
 fn prepare_below<'a, R: Threads + Sync>(
     rt: &R,
     alloc: Global,
-    instance: &SearchInput<'_>,
+    input: &SearchInput<'_>,
     renaming: &'a Renaming<'a>,
     size: u32,
 ) -> Result<SearchStart<'a>, AllocError>
-    requires { renaming.now.problem ≡ instance.now.tables.now }
-    ensures { IfOk result (IsStartFor instance.now.tables.now instance.now.pairs.now.pairs) }
+    requires { renaming.now.problem ≡ input.now.tables.now }
+    ensures { IfOk result (IsStartFor input.now.tables.now input.now.pairs.now.pairs) }
 {
     let limit = Limit {
-        bound: size.min(1 << 20),
-        lower_bound: if instance.certify {
+        bound: size,
+        lower_bound: if input.certify {
             LowerBound::Variables
         } else {
             LowerBound::Widths
         },
     };
-    let workers = instance.busy_workers();
-    let start = prepare(rt, alloc, renaming, instance.pairs, limit, workers)?;
+    let workers = input.busy_workers();
+    let start = prepare(rt, alloc, renaming, input.pairs, limit, workers)?;
     Ok(start)
 }
 
@@ -112,20 +111,20 @@ fn both<'a>(
 fn sift_and_prepare<'a, R: Threads + Sync>(
     rt: &R,
     alloc: Global,
-    instance: &SearchInput<'_>,
+    input: &SearchInput<'_>,
     renaming: &'a Renaming<'a>,
     manager: Manager,
 ) -> Result<(Sifting, SearchStart<'a>), AllocError>
-    requires manager { IsStartingManager instance.now manager }
-    requires renaming { renaming.now.problem ≡ instance.now.tables.now }
-    ensures sifting { IfOk result (λ r. IsSiftingFor instance.now r.0) }
+    requires manager { IsStartingManager input.now manager }
+    requires renaming { renaming.now.problem ≡ input.now.tables.now }
+    ensures sifting { IfOk result (λ r. IsSiftingFor input.now r.0) }
     ensures start { IfOk result
-        (λ r. IsStartFor instance.now.tables.now instance.now.pairs.now.pairs r.1) }
+        (λ r. IsStartFor input.now.tables.now input.now.pairs.now.pairs r.1) }
 {
     let size = manager.size();
-    let workers = instance.workers;
-    if instance.busy_workers().count() == 1 {
-        let start = prepare_below(rt, alloc, instance, renaming, size);
+    let workers = input.workers;
+    if input.busy_workers().count() == 1 {
+        let start = prepare_below(rt, alloc, input, renaming, size);
         return both(sift(rt, alloc, manager, workers), start);
     }
     // The closures own what they take (`move`): `join` ensures nothing of a closure that owns one
@@ -135,10 +134,10 @@ fn sift_and_prepare<'a, R: Threads + Sync>(
         ensures { IfOk result (IsSiftingOf manager) }
     { sift(rt, alloc, manager, workers) };
     let preparing = move || -> Result<SearchStart<'_>, AllocError>
-        requires { IsSync R.row × (renaming.now.problem ≡ instance.now.tables.now) }
+        requires { IsSync R.row × (renaming.now.problem ≡ input.now.tables.now) }
         ensures { IfOk result
-            (IsStartFor instance.entry.now.tables.now instance.entry.now.pairs.now.pairs) }
-    { prepare_below(rt, alloc, instance, renaming, size) };
+            (IsStartFor input.entry.now.tables.now input.entry.now.pairs.now.pairs) }
+    { prepare_below(rt, alloc, input, renaming, size) };
     let (sifting, start) = thread::join(rt, sifting, preparing);
     both(sifting, start)
 }
@@ -147,13 +146,13 @@ fn sift_and_prepare<'a, R: Threads + Sync>(
 fn file_size_of<R: Threads + Sync>(
     rt: &R,
     alloc: Global,
-    instance: &SearchInput<'_>,
+    input: &SearchInput<'_>,
     starting: &Diagram,
 ) -> Result<u64, AllocError>
-    requires { IsStartingDiagram instance.now.cover.now instance.now.pairs.now.pairs starting.now }
-    ensures { IfOk result (λ size. size ≡ sum (file_order_levels instance.now.cover.now)) }
+    requires { IsStartingDiagram input.now.cover.now input.now.pairs.now.pairs starting.now }
+    ensures { IfOk result (λ size. size ≡ sum (file_order_levels input.now.cover.now)) }
 {
-    let levels = file_order_levels_of(rt, alloc, instance, starting)?;
+    let levels = file_order_levels_of(rt, alloc, input, starting)?;
     Ok(total(&levels))
 }
 
@@ -182,21 +181,16 @@ fn sift_once(alloc: Global, manager: Manager) -> Result<(Order, u32), AllocError
 /// Finds the sifted order and the best one by a search that is fast for small truth tables.
 fn search_small(
     alloc: Global,
-    instance: &SearchInput<'_>,
+    input: &SearchInput<'_>,
     manager: Manager,
     file_size: u64,
 ) -> Result<Found, AllocError>
-    requires manager { IsStartingManager instance.now manager }
-    requires file { file_size ≡ sum (file_order_levels instance.now.cover.now) }
-    ensures { IfOk result (IsFound instance.now) }
+    requires manager { IsStartingManager input.now manager }
+    requires file { file_size ≡ sum (file_order_levels input.now.cover.now) }
+    ensures { IfOk result (IsFound input.now) }
 {
     let (sifted, sifted_size) = sift_once(alloc, manager)?;
-    let best = small_best(
-        alloc,
-        instance.tables.problem(),
-        instance.pairs,
-        instance.certify,
-    )?;
+    let best = small_best(alloc, input.tables.problem(), input.pairs, input.certify)?;
     Ok(Found {
         best,
         sifted,
@@ -205,54 +199,33 @@ fn search_small(
     })
 }
 
-/// Finds the best order by a search that begins with `start`. The size of `bound` bounds it.
-fn search_from<R: Threads + Sync>(
-    rt: &R,
-    alloc: Global,
-    instance: &SearchInput<'_>,
-    start: SearchStart<'_>,
-    bound: Sifted,
-) -> Result<Best, AllocError>
-    requires start { IsStartFor instance.now.tables.now instance.now.pairs.now.pairs start }
-    requires functions { bound.problem ≡ instance.now.tables.now }
-    requires pairs { bound.pairs ≡ instance.now.pairs.now.pairs }
-    ensures { IfOk result
-        (IsBestFor instance.now.tables.now instance.now.pairs.now.pairs instance.now.certify) }
-{
-    let workers = instance.workers;
-    if instance.certify {
-        let solution = solve(rt, alloc, start, bound, workers, &NoGate)?;
-        return Ok(Best::of(solution));
-    }
-    let optimum = find_optimum(rt, alloc, start, bound, workers, &NoGate)?;
-    Ok(Best {
-        optimum,
-        cells: None,
-    })
-}
-
 /// Finds the first order of the fewest nodes, the sifted order, and the size under the file order.
 pub(crate) fn search<R: Threads + Sync>(
     rt: &R,
     alloc: Global,
-    instance: &SearchInput<'_>,
+    input: &SearchInput<'_>,
 ) -> Result<Found, AllocError>
-    ensures { IfOk result (IsFound instance.now) }
+    ensures { IfOk result (IsFound input.now) }
 {
-    let starting = starting_diagram(rt, alloc, instance)?;
-    let file_size = file_size_of(rt, alloc, instance, &starting)?;
-    let manager = manager_of(alloc, instance, starting)?;
-    if is_small(instance.tables.problem()) {
-        return search_small(alloc, instance, manager, file_size);
+    let starting = starting_diagram(rt, alloc, input)?;
+    let file_size = file_size_of(rt, alloc, input, &starting)?;
+    let manager = manager_of(alloc, input, starting)?;
+    if is_small(input.tables.problem()) {
+        return search_small(alloc, input, manager, file_size);
     }
-    let renaming = renaming_of(alloc, instance.tables.problem())?;
-    let (sifting, start) = sift_and_prepare(rt, alloc, instance, &renaming, manager)?;
+    let renaming = renaming_of(alloc, input.tables.problem())?;
+    let (sifting, start) = sift_and_prepare(rt, alloc, input, &renaming, manager)?;
     let Sifting {
         sifted,
         size,
         bound,
     } = sifting;
-    let best = search_from(rt, alloc, instance, start, bound)?;
+    let workers = input.workers;
+    let best = if input.certify {
+        Best::of(solve(rt, alloc, start, bound, workers, &NoGate)?)
+    } else {
+        Best::without_cells(find_optimum(rt, alloc, start, bound, workers, &NoGate)?)
+    };
     Ok(Found {
         best,
         sifted,

@@ -11,12 +11,12 @@ use Rattle.report.proofs.diagrams.file_order_levels_of.Goals as goal
 
 pub diagram_under-requires-clause-order : goal.diagram_under-requires-clause-order
 diagram_under-requires-clause-order g c κs within =
-    subst (IsOrder c.args.instance.now.cover.now.inputs) (sym (c.in_ok-order.ensures ∙ ap (λ k. variables k) c.inputs.ensures.value))
-    (order_variables c.args.instance.now.cover.now.inputs)
+    subst (IsOrder c.args.input.now.cover.now.inputs) (sym (c.in_ok-order.ensures ∙ ap (λ k. variables k) c.inputs.ensures.value))
+    (order_variables c.args.input.now.cover.now.inputs)
 
 pub returns-then-eq-clause-counts : goal.returns-then-eq-clause-counts
 returns-then-eq-clause-counts g c =
-    let cover = c.args.instance.now.cover.now in
+    let cover = c.args.input.now.cover.now in
     let same : c.variables.result.now ≡ c.variables-2.result.now =
     (slice_eq-Decides Decides-eqb c.variables.result.now c.variables-2.result.now c.eq.result c.eq.ensures).0 c.if-eq.true in
     let order = sym (c.variables.ensures.value ∙ c.order.ensures.value) ∙ same ∙ c.variables-2.ensures.value in
@@ -27,7 +27,7 @@ returns-then-eq-clause-counts g c =
 
 pub returns-clause-counts : goal.returns-clause-counts
 returns-clause-counts g c =
-    let cover = c.args.instance.now.cover.now in
+    let cover = c.args.input.now.cover.now in
     let read = counts_read cover.inputs (functions_of cover) c.in_ok-order.order c.in_ok-levels-2.levels.items
     c.in_ok-diagram.diagram.graph
     (rw (← c.in_ok-diagram.ensures.order) c.in_ok-levels-2.ensures.long)

@@ -8,7 +8,7 @@ use Rattle.report.proofs.search.manager_of.Goals as goal
 
 pub with_pairs-requires-clause-few : goal.with_pairs-requires-clause-few
 with_pairs-requires-clause-few c =
-    let cover = c.args.instance.now.cover.now in
+    let cover = c.args.input.now.cover.now in
     let long = c.diagrams_have_their_functions_tables.ensures.roots cover.inputs (functions_of cover)
     c.args.starting.order c.args.starting c.requires.diagram in
     let outputs = functions_long cover in
@@ -17,17 +17,17 @@ with_pairs-requires-clause-few c =
     omega arith
 
 pub with_pairs-requires-clause-inputs : goal.with_pairs-requires-clause-inputs
-with_pairs-requires-clause-inputs c = ap (λ (k : KeptPairs). k.inputs) c.copied.ensures ∙ c.args.instance.now.are_its_pairs ∙ sym c.requires.long
+with_pairs-requires-clause-inputs c = ap (λ (k : KeptPairs). k.inputs) c.copied.ensures ∙ c.args.input.now.are_its_pairs ∙ sym c.requires.long
 
 pub returns : goal.returns
 returns c =
-    let cover = c.args.instance.now.cover.now in
+    let cover = c.args.input.now.cover.now in
     let tables =
     c.diagrams_have_their_functions_tables.ensures.tables cover.inputs (functions_of cover) c.args.starting.order
     c.args.starting c.requires.long c.requires.diagram in
     record {
-      first = subst (IsFirstOrder cover.inputs c.args.instance.now.pairs.now.pairs) (sym c.in_ok-manager.ensures.order) c.requires.starts;
+      first = subst (IsFirstOrder cover.inputs c.args.input.now.pairs.now.pairs) (sym c.in_ok-manager.ensures.order) c.requires.starts;
       functions = c.in_ok-manager.ensures.functions ∙ tables
-          ∙ sym (tables_value cover c.args.instance.now.tables.now c.args.instance.now.are_its_tables);
+          ∙ sym (tables_value cover c.args.input.now.tables.now c.args.input.now.are_its_tables);
       pairs = c.in_ok-manager.ensures.pairs ∙ ap (λ (k : KeptPairs). k.pairs) c.copied.ensures;
     }
