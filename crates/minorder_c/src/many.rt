@@ -1,6 +1,6 @@
 //! The orders of the fewest nodes of many problems by one call.
 
-ghost use Rattle.std.specs.Prelude.{◌≡◌, ◌≢◌, ◌*◌, ◌↔◌, length, IsTrue, IfOk, OnOk};
+ghost use Rattle.std.specs.Prelude.{◌≡◌, ◌≢◌, ◌*◌, ◌↔◌, ◌++◌, ◌∷◌, [], length, IsTrue, IfOk, OnOk};
 ghost use Rattle.minorder_c.specs.Answers.{AreTables, ListsStay, given};
 ghost use Rattle.minorder_c.specs.Many.{AreFirstFewest, HasManyShape, IsPut};
 ghost use Rattle.minorder_c.specs.Statuses.{IsPlainStatus, ShowsShape};
@@ -21,6 +21,55 @@ pub(crate) struct Answers {
     /// Top first.
     pub(crate) levels: Vec<u32>,
     pub(crate) totals: Vec<u32>,
+}
+
+impl Answers {
+    /// The answers for no problem.
+    pub(crate) fn new(alloc: Global) -> Answers
+        ensures orders { result.orders.items ≡ [] }
+        ensures levels { result.levels.items ≡ [] }
+        ensures totals { result.totals.items ≡ [] }
+    {
+        Answers {
+            orders: Vec::new(alloc),
+            levels: Vec::new(alloc),
+            totals: Vec::new(alloc),
+        }
+    }
+
+    /// Appends the answer for one problem. If memory is refused, only a part may be appended.
+    pub(crate) fn push(
+        &mut self,
+        order: &[u8],
+        levels: &[u32],
+        total: u32,
+    ) -> Result<(), AllocError>
+        ensures orders { OnOk result
+            (self.new.orders.items ≡ self.old.orders.items ++ order.now) }
+        ensures levels { OnOk result
+            (self.new.levels.items ≡ self.old.levels.items ++ levels.now) }
+        ensures totals { OnOk result
+            (self.new.totals.items ≡ self.old.totals.items ++ total ∷ []) }
+    {
+        self.orders.extend_from_slice(order)?;
+        self.levels.extend_from_slice(levels)?;
+        self.totals.push(total)?;
+        Ok(())
+    }
+
+    /// Copies the answers to a caller's arrays.
+    pub(crate) fn write(&self, orders: &mut [u8], levels: &mut [u32], totals: &mut [u32])
+        requires orders { length orders.old ≡ length self.now.orders.items }
+        requires levels { length levels.old ≡ length self.now.levels.items }
+        requires totals { length totals.old ≡ length self.now.totals.items }
+        ensures orders { orders.new ≡ self.now.orders.items }
+        ensures levels { levels.new ≡ self.now.levels.items }
+        ensures totals { totals.new ≡ self.now.totals.items }
+    {
+        orders.copy_from_slice(&self.orders);
+        levels.copy_from_slice(&self.levels);
+        totals.copy_from_slice(&self.totals);
+    }
 }
 
 pub(crate) fn is_length(length: usize, many: usize, size: usize) -> bool
@@ -65,10 +114,7 @@ fn put(
     let (levels, _) = counts.split_at_mut(n);
     let pairs = Pairs::none(given.inputs as u8);
     let total = optimum(alloc, given, pairs, workspace, order, levels)?;
-    answers.orders.extend_from_slice(order)?;
-    answers.levels.extend_from_slice(levels)?;
-    answers.totals.push(total)?;
-    Ok(())
+    answers.push(order, levels, total)
 }
 
 /// The answers for `many` problems, whose truth tables `given` has one problem after the other.
@@ -81,11 +127,7 @@ fn optima_of(alloc: Global, given: &GivenTables, many: usize) -> Result<Answers,
     ensures totals { IfOk result (λ a. length a.totals.items ≡ many) }
 {
     let size = given.outputs as usize * words_per_table(given.inputs as u8);
-    let mut answers = Answers {
-        orders: Vec::new(alloc),
-        levels: Vec::new(alloc),
-        totals: Vec::new(alloc),
-    };
+    let mut answers = Answers::new(alloc);
     let mut workspace = Workspace::new(alloc);
     for i in 0..many {
         let words = block(given.words, size, i);
@@ -127,9 +169,7 @@ pub extern "C" fn minorder_exact_many_with_lengths(
     }
     match optima_of(alloc, &given, many) {
         Ok(found) => {
-            orders.copy_from_slice(&found.orders);
-            levels.copy_from_slice(&found.levels);
-            totals.copy_from_slice(&found.totals);
+            found.write(orders, levels, totals);
             0
         }
         Err(_) => Refusal::OutOfMemory.status(),

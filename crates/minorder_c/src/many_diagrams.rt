@@ -47,9 +47,7 @@ fn put_drawn(
     let mut counts = [0; 16];
     let (levels, _) = counts.split_at_mut(n);
     let total = find_diagram(alloc, given, memory, order, levels, usize::MAX)?;
-    drawn.answers.orders.extend_from_slice(order)?;
-    drawn.answers.levels.extend_from_slice(levels)?;
-    drawn.answers.totals.push(total)?;
+    drawn.answers.push(order, levels, total)?;
     drawn.nodes.extend_from_slice(&memory.diagram.nodes)?;
     drawn.roots.extend_from_slice(&memory.diagram.roots)?;
     Ok(())
@@ -64,11 +62,7 @@ fn drawn_of(alloc: Global, given: &GivenTables, many: usize) -> Result<DrawnAnsw
 {
     let size = given.outputs as usize * words_per_table(given.inputs as u8);
     let mut drawn = DrawnAnswers {
-        answers: Answers {
-            orders: Vec::new(alloc),
-            levels: Vec::new(alloc),
-            totals: Vec::new(alloc),
-        },
+        answers: Answers::new(alloc),
         nodes: Vec::new(alloc),
         roots: Vec::new(alloc),
     };
@@ -119,9 +113,7 @@ pub extern "C" fn minorder_exact_diagram_many_with_lengths(
     }
     match drawn_of(alloc, &given, many) {
         Ok(found) => {
-            orders.copy_from_slice(&found.answers.orders);
-            levels.copy_from_slice(&found.answers.levels);
-            totals.copy_from_slice(&found.answers.totals);
+            found.answers.write(orders, levels, totals);
             if nodes.len() < found.nodes.len() {
                 return SHORT_ROOM;
             }

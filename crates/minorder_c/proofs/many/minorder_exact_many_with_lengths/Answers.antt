@@ -1,4 +1,4 @@
-use Rattle.std.proofs.Common.{length, refl, ap, sym, subst, ◌∙◌}
+use Rattle.std.proofs.Common.{length, refl, sym, subst, ◌∙◌}
 use Rattle.minorder_c.specs.declared.arguments.GivenTables.{GivenTables}
 use Rattle.minorder_c.specs.Many.{HasManyShape}
 use Rattle.minorder_c.proofs.Parts.{same_answers}
@@ -7,17 +7,14 @@ use Rattle.minorder_c.proofs.many.minorder_exact_many_with_lengths.Goals as goal
 
 pub returns-in-Ok-clause-optima : goal.returns-in-Ok-clause-optima
 returns-in-Ok-clause-optima c =
-    λ _. same_answers _ _ _ _ _ _ _ _ _ c.of-given.ensures (c.copy_from_slice.ensures.after ∙ c.deref.ensures.value)
-    (c.copy_from_slice-in-Ok.ensures.after ∙ c.deref-in-Ok.ensures.value)
-    (c.copy_from_slice-in-Ok-2.ensures.after ∙ c.deref-in-Ok-2.ensures.value) c.in-Ok.ensures.optima
+    let written = c.write.ensures in
+    λ _. same_answers _ _ _ _ _ _ _ _ _ c.of-given.ensures written.orders written.levels written.totals c.in-Ok.ensures.optima
 
-pub copy_from_slice-requires : goal.copy_from_slice-requires
-copy_from_slice-requires c =
-    (c.is_shape.ensures.0 c.if-not-is_shape.false).places_are ∙ sym (ap length c.deref.ensures.value ∙ c.in-Ok.ensures.orders)
+pub write-requires-clause-orders : goal.write-requires-clause-orders
+write-requires-clause-orders c = (c.is_shape.ensures.0 c.if-not-is_shape.false).places_are ∙ sym c.in-Ok.ensures.orders
 
-pub copy_from_slice-requires-in-Ok : goal.copy_from_slice-requires-in-Ok
-copy_from_slice-requires-in-Ok c =
-    (c.is_shape.ensures.0 c.if-not-is_shape.false).counts_are ∙ sym (ap length c.deref-in-Ok.ensures.value ∙ c.in-Ok.ensures.levels)
+pub write-requires-clause-levels : goal.write-requires-clause-levels
+write-requires-clause-levels c = (c.is_shape.ensures.0 c.if-not-is_shape.false).counts_are ∙ sym c.in-Ok.ensures.levels
 
 pub returns-in-Err-clause-optima : goal.returns-in-Err-clause-optima
 returns-in-Err-clause-optima c e = other 4 0 refl (sym c.status-in-Err.ensures ∙ e)

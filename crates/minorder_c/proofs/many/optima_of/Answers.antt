@@ -19,7 +19,7 @@ loop-i-preserved c =
     c.in_ok-put.ensures
 
 pub loop-i-init : goal.loop-i-init
-loop-i-init c = none_put _ _ _ _ c.new.ensures.items c.new-2.ensures.items c.new-3.ensures.items
+loop-i-init c = none_put _ _ _ _ c.new-answers.ensures.orders c.new-answers.ensures.levels c.new-answers.ensures.totals
 
 pub block-words-requires : goal.block-words-requires
 block-words-requires c = block_fits c.args.given.now _ _ c.args.many _ _ c.requires c.loop-i-test.true c.words_per_table.ensures.value

@@ -28,7 +28,7 @@ returns c =
 
 pub loop-i-init : goal.loop-i-init
 loop-i-init c =
-    none_drawn _ _ _ _ _ _ c.new.ensures.items c.new-2.ensures.items c.new-3.ensures.items c.new-4.ensures.items c.new-5.ensures.items
+    none_drawn _ _ _ _ _ _ c.new.ensures.orders c.new.ensures.levels c.new.ensures.totals c.new-2.ensures.items c.new-3.ensures.items
 
 pub block-words-requires : goal.block-words-requires
 block-words-requires c = block_fits c.args.given.now _ _ c.args.many _ _ c.requires c.loop-i-test.true c.words_per_table.ensures.value

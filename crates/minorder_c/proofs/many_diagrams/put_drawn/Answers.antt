@@ -12,15 +12,15 @@ returns c =
         counts = c.find_diagram.new.levels;
         total = c.in_ok-total.total;
         fewest = found.optimum;
-        orders_are = c.in_ok-extend_from_slice.ensures.items;
-        levels_are = c.in_ok-extend_from_slice-2.ensures.items;
-        totals_are = c.in_ok-push.ensures.items;
+        orders_are = c.in_ok-push.ensures.orders;
+        levels_are = c.in_ok-push.ensures.levels;
+        totals_are = c.in_ok-push.ensures.totals;
       };
       drawn = record {
         own = drawing.nodes.items;
         own_roots = drawing.roots.items;
         is = found.diagram (omega arith);
-        nodes_are = c.in_ok-extend_from_slice-3.ensures.items ∙ ap (λ ns. before.nodes.items ++ ns) c.deref.ensures.value;
-        roots_are = c.in_ok-extend_from_slice-4.ensures.items ∙ ap (λ rs. before.roots.items ++ rs) c.deref-2.ensures.value;
+        nodes_are = c.in_ok-extend_from_slice.ensures.items ∙ ap (λ ns. before.nodes.items ++ ns) c.deref.ensures.value;
+        roots_are = c.in_ok-extend_from_slice-2.ensures.items ∙ ap (λ rs. before.roots.items ++ rs) c.deref-2.ensures.value;
       };
     }
