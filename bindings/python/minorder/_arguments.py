@@ -1,4 +1,5 @@
 """What arguments are, and how a refusal shows them."""
+import re
 from fractions import Fraction
 from functools import lru_cache
 from operator import index
@@ -8,11 +9,17 @@ from ._errors import BadArgument, BadOrder, BadShape
 
 # variables, and tables
 MOST = 16
+CONTROLS = re.compile("[\x00-\x1f\x7f-\x9f\u2028\u2029]")
 
 
 def shortened(text: str) -> str:
     """A text as a message has it."""
     return text if len(text) <= 60 else text[:57] + "..."
+
+
+def on_a_line(text: str) -> str:
+    """A text with a mark in the place of what ends a line or steers a terminal."""
+    return CONTROLS.sub("?", text)
 
 
 def shown(value: object) -> str:

@@ -27,15 +27,15 @@ def _files_of(paths: Sequence[str]) -> Iterator[str]:
     """The files that are meant: of a folder those that end in `.pla`, by name."""
     for path in paths:
         if os.path.isdir(path):
-            inside = (os.path.join(path, name) for name in sorted(os.listdir(path)) if name.endswith(".pla"))
-            yield from (name for name in inside if not os.path.isdir(name))
+            names = (name for name in sorted(os.listdir(path)) if name.endswith(".pla") and not name.startswith("."))
+            yield from filter(os.path.isfile, (os.path.join(path, name) for name in names))
         else:
             yield path
 
 
 def _listed(path: str) -> List[str]:
-    """The names in a list, one a line."""
-    lines = _ends.content_of(path).split(b"\n")
+    """The names in a list, one a line, whatever ends it."""
+    lines = _ends.content_of(path).replace(b"\r\n", b"\n").split(b"\n")
     for number, line in enumerate(lines, 1):
         if b"\0" in line:
             name = "standard input" if path == "-" else path

@@ -15,6 +15,7 @@ import sys
 from contextlib import suppress
 from typing import Any, Callable, NoReturn, Optional, Sequence, TextIO
 
+from ._arguments import on_a_line
 from ._errors import MinorderError, NoGraphviz, NoLibrary, NoMatplotlib
 from ._writing import named
 
@@ -127,7 +128,7 @@ def say(name: str, *messages: object) -> None:
     """Writes each message as a line to standard error, where that takes it."""
     for message in messages:
         with suppress(OSError):
-            print(f"{name}: {message}", file=sys.stderr)
+            print(f"{name}: {on_a_line(str(message))}", file=sys.stderr)
 
 
 def _write_no_more(stream: TextIO) -> None:

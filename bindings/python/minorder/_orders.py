@@ -34,7 +34,7 @@ def numbered(words: Sequence[str], names: Sequence[str]) -> list[str]:
     if fault_of(words, len(names)) is None:
         return list(words)
     left = {name: [str(x) for x in range(len(names)) if names[x] == name] for name in names}
-    return [left[word].pop(0) if left.get(word) else word for word in words]
+    return [(left[word].pop(0) if len(left[word]) > 1 else left[word][0]) if word in left else word for word in words]
 
 
 def words_of(text: str, names: Sequence[str]) -> list[str]:

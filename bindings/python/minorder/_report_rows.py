@@ -4,22 +4,24 @@ import io
 import json
 import os
 from dataclasses import fields
-from typing import BinaryIO, Iterable, Iterator, List, NamedTuple, Tuple, Union
+from typing import BinaryIO, Dict, Iterable, Iterator, List, NamedTuple, Tuple, Union
 
 from .batch import FileReport, Report, Status
 from .files import LIMIT
 
 OF_REPORT = tuple(field.name for field in fields(Report))
+OF_NUMBERS = tuple(name for name in OF_REPORT if name != "names")
 COLUMNS = ("file", "status", "fault", *OF_REPORT)
 # the keys of a row with a report, with a fault, with both
 KEYS = tuple(frozenset(keys) for keys in (("file", "status", *OF_REPORT), COLUMNS[:3], COLUMNS))
 
 
 class Said(NamedTuple):
-    """What a row says of a file."""
+    """What a row says of a file, and how the certificate of its report says that; no text if it has no report."""
     file: str
     status: Status
     has_fault: bool
+    certified: str
 
 
 class JsonRows:
@@ -41,7 +43,8 @@ class JsonRows:
             raise ValueError from None
         if not isinstance(found, dict) or found.keys() not in KEYS or not isinstance(found["file"], str):
             raise ValueError
-        return Said(found["file"], Status(found["status"]), "fault" in found)
+        certified = _certified({name: _list(found[name]) for name in OF_NUMBERS}) if "order" in found else ""
+        return Said(found["file"], Status(found["status"]), "fault" in found, certified)
 
 
 class CsvRows:
@@ -68,10 +71,34 @@ class CsvRows:
             raise ValueError from None
         if len(found) != len(COLUMNS):
             raise ValueError
-        return Said(found[0], Status(int(found[1])), found[2] != "")
+        said = dict(zip(COLUMNS, found))
+        certified = _certified({name: _numbers(said[name]) for name in OF_NUMBERS}) if said["order"] else ""
+        return Said(found[0], Status(int(found[1])), found[2] != "", certified)
 
 
 Rows = Union[JsonRows, CsvRows]
+
+
+def _numbers(text: str) -> List[int]:
+    return [int(word) for word in text.split(" ")]
+
+
+def _list(value: object) -> List[int]:
+    found = value if isinstance(value, list) else [value]
+    if not all(type(it) is int for it in found):
+        raise ValueError
+    return found
+
+
+def _certified(report: Dict[str, List[int]]) -> str:
+    """How a certificate says what a report does. Raises ValueError if the report contradicts itself."""
+    (inputs,), order, counts, (nodes,) = (report[name] for name in ("inputs", "order", "levels", "nodes"))
+    orders = order, report["sifted_order"]
+    if any(len(it) != inputs for it in (*orders, counts)) or any(sorted(it) != list(range(inputs)) for it in orders):
+        raise ValueError
+    if sum(counts) != nodes or any(report[it] < [nodes] for it in ("sifted_nodes", "file_order_nodes")):
+        raise ValueError
+    return f"order {' '.join(map(str, order))}\nlevels {' '.join(map(str, counts))}\ntotal {nodes}\n"
 
 
 def _record(values: Iterable[object]) -> bytes:

@@ -7,7 +7,9 @@ from contextlib import contextmanager, suppress
 from typing import Counter as CounterOf
 from typing import Dict, Iterator, List, Sequence, Tuple
 
+from ._certificates import check_text
 from ._ends import REFUSED, Refused
+from ._errors import BadCertificate
 from ._report_rows import Rows, Said, records
 from ._arguments import shown
 from ._writing import named, write_whole
@@ -90,8 +92,19 @@ def _check(output: Output, said: Said, left: CounterOf[str], places: Dict[str, s
         raise output.refused(f"{shown(said.file)} is none of the files", line)
     if not left[said.file]:
         raise output.refused(f"{shown(said.file)} has a row already", line)
-    if places and not said.has_fault and not os.path.exists(places[said.file]):
+    if places and not said.has_fault and not _is_certified(said, places[said.file]):
         raise output.refused(f"{shown(said.file)} has no certificate {places[said.file]}", line)
+
+
+def _is_certified(said: Said, place: str) -> bool:
+    """Whether a file has a certificate's text of what a row says."""
+    try:
+        with open(place, "rb") as file:
+            text = file.read()
+        check_text(text)
+    except (OSError, BadCertificate):
+        return False
+    return f"\n{said.certified}".encode("ascii") in text
 
 
 def _may_begin(cut: bytes, rows: Rows, left: CounterOf[str], is_first: bool) -> bool:

@@ -86,14 +86,19 @@ def no_inputs(tables: Sequence[Table]) -> BadArgument:
 
 
 def names_said(tables: Sequence[Table], inputs: int) -> Tuple[str, ...]:
-    """The names of the variables that tables have, else those of functions' parameters where they agree. Raises BadShape."""
+    """The names of the variables that tables have, else those of functions' parameters where they agree. Raises BadShape if a
+    parameter has the name of another variable."""
     known = [table for table in tables if isinstance(table, TruthTable)]
     none = numbered_names("x", inputs)
     names = names_among(known) if known else none
+    written = [parameters_of(table) for table in tables if callable(table)]
+    first, *others = [it for it in (None if names == none else names, *written) if it is not None] or [none]
+    for other in others:
+        if any(it in first and first.index(it) != place for place, it in enumerate(other)):
+            raise BadShape(f"tables: a function of {', '.join(other)} beside one of {', '.join(first)}")
     if names != none:
         return names
-    written = {parameters_of(table) for table in tables if callable(table)}
-    return (written.pop() if len(written) == 1 else None) or none
+    return first if {*written} == {first} else none
 
 
 def words_of(tables: Sequence[Table], inputs: int) -> bytes:

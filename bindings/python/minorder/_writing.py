@@ -55,17 +55,27 @@ def undisturbed() -> Iterator[None]:
 
 
 def write_file(path: str, content: bytes) -> None:
-    """Writes a file, or leaves what was there. Raises OSError with its name."""
-    part = f"{path}.{os.getpid()}.part"
+    """Writes a file, or leaves what was there; one that was there keeps its mode, and a link what it leads to. Raises OSError
+    with its name."""
+    place = os.path.realpath(path)
+    part = f"{place}.{os.getpid()}.part"
     with undisturbed():
         try:
             with open(part, "wb") as file:
+                _keep_mode(place, file.fileno())
                 file.write(content)
-            os.replace(part, path)
+            os.replace(part, place)
         except BaseException as error:
             with suppress(OSError):
                 os.unlink(part)
             raise named(error, path) if isinstance(error, OSError) else error
+
+
+def _keep_mode(path: str, number: int) -> None:
+    """Gives an open file the mode of one that is there and may be written, if one is. Raises OSError."""
+    if os.path.isfile(path):
+        with open(path, "ab") as file:
+            os.fchmod(number, stat.S_IMODE(os.fstat(file.fileno()).st_mode))
 
 
 def write_whole(number: int, line: bytes) -> None:

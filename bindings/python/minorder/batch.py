@@ -139,7 +139,7 @@ def files_of(paths: Iterable[Path]) -> List[str]:
     """The names of files. Raises BadArgument."""
     if isinstance(paths, (str, bytes, os.PathLike)):
         raise BadArgument(f"paths: {shown(paths)} is no sequence of paths")
-    return [os.fspath(path) for path in paths]
+    return [path_of(path, "paths") for path in paths]
 
 
 def certificates_of(files: Sequence[str], folder: str) -> Dict[str, str]:

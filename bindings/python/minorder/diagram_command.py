@@ -1,8 +1,8 @@
 """The reduced shared diagram of the functions of a PLA file under an order, drawn or written down.
 
 The ORDER has the file's inputs, top first, by number as the line `order` of a report, or by name as its line `names`: s,a,b or
-s a b. Without it, it is that of a report of minorder on standard input, if a pipe or a file is there, whose level counts are
-compared with the diagram's; else the file's own. The suffix of OUT says what is written: .svg, .png or .pdf, by Graphviz, of
+s a b. Without it, it is that of a report of minorder on standard input, if a pipe or a file is there, whose names and sizes are
+compared with the file's; else the file's own. The suffix of OUT says what is written: .svg, .png or .pdf, by Graphviz, of
 at most 1,500 nodes; .dot; .json; .bdd, what BuDDy's bdd_save writes, of each output behind the one before. Without OUT it is
 .dot, to standard output.
 Exit status: 0; 1 if there is no library, or no Graphviz for a picture, 2 if the words are refused, 3 if FILE or the report is,
@@ -18,7 +18,7 @@ from typing import NamedTuple, Optional, Sequence
 
 from . import _ends
 from ._arguments import shortened
-from ._calls import diagram
+from ._calls import diagram, levels
 from ._diagrams import TEXTS, Diagram, suffix_of, write_diagrams
 from ._drawings import dot_of
 from ._orders import fault_of, words_of
@@ -44,30 +44,49 @@ def order_of(words: Sequence[str], names: Sequence[str]) -> list[int]:
     return [int(word) for word in checked(words_of(" ".join(words), names), names)]
 
 
-def order_and_levels(text: str) -> tuple[list[str], tuple[int, ...]]:
-    """What a report says of its order. Raises ValueError if the text isn't one report."""
+def lines_of(text: str) -> dict[str, str]:
+    """What stands behind the names of a report's lines. Raises ValueError if the text isn't one report."""
     lines = parts_of(text)
     if tuple(lines) != REPORT_LINES or len(text.splitlines()) != len(REPORT_LINES):
         raise ValueError
-    levels = tuple(int(word) for word in lines["levels"].split())
-    if sum(levels) != int(lines["nodes"]):
+    if sum(int(word) for word in lines["levels"].split()) != int(lines["nodes"]):
         raise ValueError
-    return lines["order"].split(), levels
+    return lines
 
 
-def report_order(inputs: int) -> Optional[Wanted]:
+def numbers_of(lines: dict[str, str], name: str, inputs: int) -> list[int]:
+    """The order in a line of a report. Raises Refused."""
+    words = lines[name].split()
+    fault = fault_of(words, inputs)
+    if fault:
+        raise _ends.Refused(_ends.REFUSED, f"the report's {name} {' '.join(map(shortened, words))}: {fault}")
+    return [int(word) for word in words]
+
+
+def check_sizes(file: Pla, lines: dict[str, str], order: Sequence[int], sifted: Sequence[int]) -> None:
+    """Raises Refused if a report has other names or sizes than the file's functions."""
+    said = {
+        "names": " ".join(file.inputs[x] for x in order), "sifted nodes": str(sum(levels(file.tables, sifted))),
+        "file order nodes": str(sum(levels(file.tables, own_order(file))))}
+    for name, wanted in said.items():
+        if lines[name] != wanted:
+            found = shortened(lines[name])
+            raise _ends.Refused(_ends.REFUSED, f"the report has the {name} {found}, and the file {shortened(wanted)}")
+
+
+def report_order(file: Pla) -> Optional[Wanted]:
     """The order of the report on standard input; nothing if that is closed, a terminal or a device."""
     if sys.stdin is None or stat.S_ISCHR(os.fstat(sys.stdin.fileno()).st_mode):
         return None
     text = _ends.content_of("-").decode(errors="replace")
     try:
-        order, levels = order_and_levels(text)
+        lines = lines_of(text)
+        counts = tuple(int(word) for word in lines["levels"].split())
     except ValueError:
         raise _ends.Refused(_ends.REFUSED, NO_REPORT) from None
-    fault = fault_of(order, inputs)
-    if fault:
-        raise _ends.Refused(_ends.REFUSED, f"the report's order {' '.join(map(shortened, order))}: {fault}")
-    return Wanted([int(word) for word in order], REPORTED, levels)
+    order, sifted = (numbers_of(lines, name, len(file.inputs)) for name in ("order", "sifted order"))
+    check_sizes(file, lines, order, sifted)
+    return Wanted(order, REPORTED, counts)
 
 
 def own_order(file: Pla) -> tuple[int, ...]:
@@ -96,7 +115,7 @@ def command(given: argparse.Namespace) -> int:
     if given.order:
         wanted: Optional[Wanted] = Wanted(order_of(given.order, file.inputs), ANOTHER)
     else:
-        wanted = report_order(len(file.inputs))
+        wanted = report_order(file)
     if given.both and wanted is None:
         raise _ends.Refused(_ends.BAD_WORDS, NO_OTHER)
     parts = [part_of(file, wanted or own)]

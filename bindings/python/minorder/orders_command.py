@@ -16,7 +16,7 @@ from typing import Iterator, Optional, Sequence, Union
 
 from . import _ends
 from ._all_orders import sizes
-from ._arguments import shortened, shown, two_decimals
+from ._arguments import on_a_line, shortened, shown, two_decimals
 from ._curves import Parts
 from ._drawings import counted
 from ._errors import BadSize
@@ -109,12 +109,14 @@ def lines_of(found: Sizes) -> Iterator[str]:
 
 
 def text_of(parts: Parts) -> str:
-    return "".join(f"{line}\n" for name, found in parts for line in (f"file: {name}", *lines_of(found)))
+    return "".join(f"{line}\n" for name, found in parts for line in (f"file: {on_a_line(name)}", *lines_of(found)))
 
 
 def command(given: argparse.Namespace) -> int:
     if given.out is not None:
         suffix_of(given.out)
+    if given.marks and (given.text == ".csv" or (given.out or "").lower().endswith(".csv")):
+        raise _ends.Refused(_ends.BAD_WORDS, "--mark: CSV has no marks")
     marks, above = marks_of(given.marks), pairs_of(given.above)
     parts = []
     for path in given.files:

@@ -236,14 +236,20 @@ class Files(unittest.TestCase):
             killer.join()
             self.assertEqual(self.command("--dask", "no address", *self.files), (2, ""))
 
+    def test_what_is_no_path(self):
+        for paths in ("it.pla", [3], [None], [b"it.pla"]):
+            with self.assertRaisesRegex(minorder.BadArgument, "^paths: "):
+                list(minorder.report_files(paths))
+
     def test_the_command(self):
         inner = f"{self.folder}/inner"
         os.makedirs(f"{inner}/folder.pla")
-        for name in ("b.pla", "a.pla", "other.txt"):
+        os.mkfifo(f"{inner}/pipe.pla")
+        for name in ("b.pla", "a.pla", ".hidden.pla", "other.txt"):
             with open(f"{inner}/{name}", "w") as file:
                 file.write(".i 1\n.o 1\n1 1\n")
         with open(f"{self.folder}/list", "w") as file:
-            file.write(f"{inner}/b.pla\n\n{self.folder}/a file 0.pla\n")
+            file.write(f"{inner}/b.pla\r\n\n{self.folder}/a file 0.pla\n")
         status, written = self.command(inner, "--list", f"{self.folder}/list", "--workers", "2")
         lines = [json.loads(line) for line in written.splitlines()]
         self.assertEqual([it["file"] for it in lines], [f"{inner}/a.pla", f"{inner}/b.pla", f"{inner}/b.pla", self.files[0]])

@@ -1,6 +1,8 @@
 """Tests of minorder-orders: python3 -m unittest discover -s bindings/python/tests -p test_orders_command.py"""
 import json
 import os
+import shutil
+import stat
 import subprocess
 import sys
 import tempfile
@@ -38,6 +40,20 @@ class Command(unittest.TestCase):
         self.assertEqual(text.splitlines()[1:5], [
             "orders: 40320", "fewest: 44 nodes in 48 orders", "most: 64 nodes in 576 orders", "mean: 56.93 nodes"])
         self.assertTrue(text.endswith(f"file: {MULTIPLEXER}\n{TEXT}"))
+
+    def test_a_name_with_lines_is_a_line(self):
+        name = "it\nfewest: 1 node in 6 orders\n.pla"
+        shutil.copy(MULTIPLEXER, f"{self.folder}/{name}")
+        self.assertEqual(self.ran(name), (0, f"file: it?fewest: 1 node in 6 orders?.pla\n{TEXT}", ""))
+
+    def test_a_file_that_is_there_keeps_its_mode_and_a_link_its_file(self):
+        with open(f"{self.folder}/it.csv", "w") as file:
+            os.fchmod(file.fileno(), 0o600)
+        os.symlink("it.csv", f"{self.folder}/link.csv")
+        self.assertEqual(self.ran("-o", "link.csv", MULTIPLEXER)[0], 0)
+        self.assertTrue(os.path.islink(f"{self.folder}/link.csv"))
+        self.assertEqual(self.content("it.csv"), self.ran("--csv", MULTIPLEXER)[1])
+        self.assertEqual(stat.S_IMODE(os.stat(f"{self.folder}/it.csv").st_mode), 0o600)
 
     def test_marks(self):
         marks = "own=0,1,2", "by name=s a b", "claim=4", "a=b=2"
@@ -97,6 +113,10 @@ class Command(unittest.TestCase):
                 ((MULTIPLEXER, "--mark", "a\nb=3"), 2, r"--mark 'a\nb': a name is a line of printable text"),
                 ((MULTIPLEXER, "--mark", "x="), 2, "--mark x: an order is empty"),
                 ((MULTIPLEXER, "--mark", "x=s,a"), 2, "--mark x: s a: b is missing"),
+                ((MULTIPLEXER, "--mark", "x=s,a,a"), 2, "--mark x: s a a: a is repeated"),
+                ((MULTIPLEXER, "--mark", "x=3", "--csv"), 2, "--mark: CSV has no marks"),
+                ((MULTIPLEXER, "--mark", "x=3", "-o", "it.CSV"), 2, "--mark: CSV has no marks"),
+                (("no\nsuch\x1b.pla",), 5, "no?such?.pla: No such file or directory"),
                 ((MULTIPLEXER, HIDDEN, "--mark", "x=s,a,b"), 2,
                  f"{HIDDEN}: --mark x: s a b: s is no input of the file"),
                 ((MULTIPLEXER, "--mark", "x=3", "--mark", "x=4"), 2, "--mark x: the name is given twice"),

@@ -93,9 +93,9 @@ class Resumed(InFolder):
             self.assertEqual(self.run_in("--resume", out, first, second, first, "none.pla"), (1, ""))
             self.assertEqual(self.content("rows"), b"".join(rows[it] for it in given + left))
         # what an earlier run found isn't sought again
-        out = self.put("rows", rows[0].replace(b'"nodes": 3', b'"nodes": 4'))
+        out = self.put("rows", rows[0].replace(b'"sifted_nodes": 3', b'"sifted_nodes": 4'))
         self.assertEqual(self.run_in("--resume", out, "--unordered", first), (0, ""))
-        self.assertIn(b'"nodes": 4', self.content("rows"))
+        self.assertIn(b'"sifted_nodes": 4', self.content("rows"))
 
     def test_what_is_refused(self):
         first, second = self.put("a.pla", MULTIPLEXER), self.put("b.pla", MULTIPLEXER)
@@ -108,6 +108,10 @@ class Resumed(InFolder):
                 (row + row[9:], (), 2, "no JSON row of minorder-batch"),
                 (row + b"[" * 100000 + b"\n", (), 2, "no JSON row of minorder-batch"),
                 (row.replace(b'"status": 0', b'"status": 1'), (), 1, "no JSON row of minorder-batch"),
+                (row.replace(b'"nodes": 3', b'"nodes": 1'), (), 1, "no JSON row of minorder-batch"),
+                (row.replace(b'"levels": [1, 1, 1]', b'"levels": [1, 0, 2, 0]'), (), 1, "no JSON row of minorder-batch"),
+                (row.replace(b'"order": [2, 0, 1]', b'"order": [2, 0, 0]'), (), 1, "no JSON row of minorder-batch"),
+                (of_csv.replace(b",3,", b",1,", 1), ("--csv",), 2, "no CSV row of minorder-batch"),
                 (of_csv, (), 1, "no JSON row of minorder-batch"),
                 (row, ("--csv",), 1, "no CSV head of minorder-batch"),
                 (of_csv + b"it,0\n", ("--csv",), 3, "no CSV row of minorder-batch"),
