@@ -98,7 +98,7 @@ def names_said(tables: Sequence[Table], inputs: int) -> Tuple[str, ...]:
             raise BadShape(f"tables: a function of {', '.join(other)} beside one of {', '.join(first)}")
     if names != none:
         return names
-    return first if {*written} == {first} else none
+    return first if {*written} <= {first, None} else none
 
 
 def words_of(tables: Sequence[Table], inputs: int) -> bytes:

@@ -75,6 +75,7 @@ class Values(unittest.TestCase):
         # parameters that differ name nothing, and tables come first
         self.assertEqual(minorder.diagram([lambda a, b: a, lambda x, y: x], range(2)).inputs, ("x0", "x1"))
         self.assertEqual(minorder.diagram([lambda x, y, z: x, a], range(3)).inputs, ("a", "b", "s"))
+        self.assertEqual(minorder.diagram([lambda a, b: a, lambda *x: x[0]], range(2)).inputs, ("a", "b"))
         for tables in ([a, lambda s, b, a: a], [lambda a, b, s: a, lambda b, a, s: a], [lambda x, y, a: x, a]):
             with self.assertRaisesRegex(minorder.BadShape, "^tables: a function of .* beside one of a, b, s$"):
                 minorder.exact(tables)
