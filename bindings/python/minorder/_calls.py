@@ -156,9 +156,9 @@ def exact(tables: Tables, inputs: Optional[int] = None, above: Iterable[Tuple[in
     """The first order under which the tables' shared diagram has the fewest nodes.
 
     The tables have ``inputs`` variables, which may be left out where one of them is a TruthTable, or a function whose
-    parameters have no defaults and no ``*``; these parameters name the variables. ``above`` are pairs of variables; then it is
-    the first such among the orders that have the first variable of each pair above the second. Raises BadArgument,
-    BadShape, BadPairs, MemoryError.
+    parameters have no defaults and no ``*``; these parameters name the variables, by their places. ``above`` are pairs of
+    variables; then it is the first such among the orders that have the first variable of each pair above the second. Raises
+    BadArgument, BadShape, BadPairs, MemoryError.
 
         >>> minorder.exact(lambda a, b, s: b if s else a)
         Result(order=(2, 0, 1), levels=(1, 1, 1), total=3)
