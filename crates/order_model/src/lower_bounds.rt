@@ -59,6 +59,17 @@ fn count_with(sets: &[Mask], x: VarIx) -> u32
     count
 }
 
+/// The variables in some of `sets`.
+fn union_of(sets: &[Mask]) -> Mask
+    ensures { result ≡ fold bit_or 0 sets.now }
+{
+    let mut union = 0;
+    for set in sets {
+        union |= *set;
+    }
+    union
+}
+
 fn union_without(sets: &[Mask], x: VarIx) -> Mask
     requires { x < 16 }
     ensures { result ≡ fold bit_or 0 (filter (λ s. not (bit_at s x == 1)) sets.now) }
@@ -102,7 +113,7 @@ impl<'a> LowerBounds<'a> {
         LowerBounds {
             problem,
             lower_bound,
-            essential: problem.essential(),
+            essential: union_of(sets),
             dependents,
             others,
         }

@@ -1,7 +1,7 @@
 -- The masks of the variables on which functions depend, and the most that the members of a mask ask for.
 --     bit-support, support_has      the bits of one function's mask
 --     supports_next, supports_all      the masks of a problem's functions, one after another
---     count_is, union_without_is      how many of them have a variable; what some has that doesn't have a variable
+--     count_is, union_of_all, union_without_is      how many of them have a variable; what some has, and what some has that doesn't have a variable
 --     entry_written      one more entry of a row
 --     most_none, most_with      the most that the members of a mask ask for, one after another
 --     members_gap      no members from a variable on
@@ -79,7 +79,7 @@ union_bit : (n y : ℕ) (F : List Function) (a : ℕ) →
 union_bit n y [] a = omega (arith, nowhere (has (variables n) y))
 union_bit n y (f ∷ F) a = grind (arith, bit_at_or, bit-support, union_bit n y F (bit_or a (support n f)))
 
-union_of_all : (n : ℕ) (F : List Function) → fold bit_or 0 (map (support n) F) ≡ essential_mask n F
+pub union_of_all : (n : ℕ) (F : List Function) → fold bit_or 0 (map (support n) F) ≡ essential_mask n F
 unfolding essential_mask essential
 union_of_all n F = search (same_from_bits, union_bit, bit_at-zero, zero-max, bit-mask_of, distinct_essential, has_filter)
 
