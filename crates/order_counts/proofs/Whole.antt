@@ -1,16 +1,17 @@
--- The figures of all orders, from those of the set of all variables; and those of the empty set.
-use Rattle.std.proofs.Common.{◌≡◌, ◌≢◌, ℕ, zero, suc, ◌<◌, inl, inr, List, [], length, sym, ap, ◌∙◌, arith}
+-- The figures of all orders, from those of the set of all variables; those of the empty set; and those of a set that isn't lawful.
+use Rattle.std.proofs.Common.{◌≡◌, true, false, ◌≢◌, ℕ, zero, suc, ◌<◌, inl, inr, List, [], ◌∷◌, length, refl, sym, ap, ◌∙◌, arith}
 use Rattle.std.proofs.lemmas.Bool.{cases_lt}
 use Rattle.definitions.specs.Functions.{Function}
-use Rattle.definitions.specs.Orders.{IsOrder, variables}
-use Rattle.definitions.specs.Pairs.{Pair, Keeps}
+use Rattle.definitions.specs.Orders.{IsOrder, members, variables}
+use Rattle.definitions.specs.Pairs.{Pair, Keeps, is_lawful}
 use Rattle.definitions.specs.Widths.{least}
 use Rattle.definitions.specs.AllOrders.{most, ways}
-use Rattle.definitions.proofs.Widths.AllOrders.{lists_empty, total_empty, ways_empty_more, ways_empty_zero}
+use Rattle.definitions.proofs.Bits.Masks.{distinct_members}
+use Rattle.definitions.proofs.Widths.AllOrders.{lists_empty, number_none, total_empty, total_none, ways_empty_more, ways_empty_zero, ways_none}
 use Rattle.definitions.proofs.Widths.OrderSizes.{orders_are_lists, size_total_is_cost_total, sizes_are_ways}
 use Rattle.definitions.proofs.Widths.SizeCounts.{fewest_is_counted, most_is_counted, none_above_most, none_below_fewest}
 use Rattle.order_counts.specs.declared.figures.Figures.{Figures}
-use Rattle.order_counts.specs.Figures.{AreFiguresOf, AreFiguresOfOrders}
+use Rattle.order_counts.specs.Figures.{AreFiguresOf, AreFiguresOfOrders, IsTidy}
 
 -- one order of no variable, without nodes
 pub figures_empty : (n : ℕ) (F : List Function) (P : List Pair) (s : Figures) → s.count ≡ 1 → s.total ≡ 0 →
@@ -42,6 +43,35 @@ figures_empty n F P s count total fewest most =
     more : (c : ℕ) → 0 < c → ways n F P [] c ≡ 0
     more zero lt = absurd (omega arith)
     more (suc c) lt = ways_empty_more n F P c
+
+-- no orders
+pub tidy_none : (s : Figures) → s.count ≡ 0 → s.fewest ≡ record { nodes = 0; orders = 0 } → s.most ≡ record { nodes = 0; orders = 0 } → IsTidy s
+tidy_none s count fewest most =
+    let a = ap (λ t. t.orders) fewest in
+    let b = ap (λ t. t.orders) most in
+    let d = ap (λ t. t.nodes) fewest in
+    record { fewest = omega arith; most = omega arith; ordered = omega arith }
+
+pub figures_unlawful : (n : ℕ) (F : List Function) (P : List Pair) (set : ℕ) (s : Figures) → is_lawful P (members n set) ≡ false → s.count ≡ 0 →
+    s.total ≡ 0 → s.fewest ≡ record { nodes = 0; orders = 0 } → s.most ≡ record { nodes = 0; orders = 0 } → AreFiguresOf n F P (members n set) s
+figures_unlawful n F P set s not_lawful count total fewest most =
+    let once = distinct_members n set in
+    record {
+      count = count ∙ sym (number_none P (members n set) once not_lawful);
+      total = total ∙ sym (total_none n F P (members n set) once not_lawful);
+      costs = record {
+        none = λ z k. ways_none n F P (members n set) once not_lawful k;
+        fewest = λ some. absurd (some count);
+        most = λ some. absurd (some count);
+      };
+      tidy = tidy_none s count fewest most;
+    }
+
+-- without pairs each set is lawful
+pub lawful_without : (P : List Pair) (S : List ℕ) → length P ≡ 0 → is_lawful P S ≡ true
+unfolding is_lawful
+lawful_without [] S none = refl
+lawful_without (p ∷ P) S none = absurd (omega (arith, none))
 
 module _ (n : ℕ) (F : List Function) (P : List Pair) (base : List ℕ) (o : IsOrder n base) (k : Keeps P base) where
   pub figures_of_all : (s : Figures) → AreFiguresOf n F P (variables n) s → AreFiguresOfOrders n F P s

@@ -1,9 +1,10 @@
 //! Over all orders: how many there are, the fewest and the most nodes, how many orders have each of
 //! these two sizes, and the sum of all sizes.
 
-ghost use Rattle.std.specs.Prelude.{◌≡◌, ℕ, ◌+◌, ◌*◌, ◌^◌, ◌<◌, ◌≤◌, length, IfOk};
+ghost use Rattle.std.specs.Prelude.{◌≡◌, ◌≢◌, ℕ, ◌+◌, ◌*◌, ◌^◌, ◌<◌, ◌≤◌, length, IfOk, IsTrue};
 ghost use Rattle.definitions.specs.Problems.{functions};
 ghost use Rattle.definitions.specs.Orders.{members};
+ghost use Rattle.definitions.specs.Pairs.{is_lawful};
 ghost use Rattle.definitions.specs.AllOrders.{AreAllWidths, AreWidthsIn};
 ghost use Rattle.order_counts.specs.Figures.{AreFigures, AreFiguresBelow, AreFiguresOf, AreFiguresOfOrders, IsGreatestOf, IsLeastOf, IsTidy, both, raised};
 
@@ -32,6 +33,14 @@ impl SizeCount {
         }
     }
 
+    /// How many of these orders have so many nodes: all, or none.
+    fn orders_of(self, nodes: u32) -> u64
+        ensures same { self.nodes ≡ nodes → result ≡ self.orders }
+        ensures other { self.nodes ≢ nodes → result ≡ 0 }
+    {
+        if self.nodes == nodes { self.orders } else { 0 }
+    }
+
     /// The fewer nodes of `self` and `other`, and how many orders of both kinds have so many.
     fn fewer(self, other: SizeCount) -> SizeCount
         requires { self.orders + other.orders < 2 ^ 64 }
@@ -40,15 +49,10 @@ impl SizeCount {
         ensures orders { result.orders ≤ self.orders + other.orders }
         ensures nodes { (result.nodes ≤ self.nodes) × (result.nodes ≤ other.nodes) }
     {
-        if self.nodes < other.nodes {
-            return self;
-        }
-        if other.nodes < self.nodes {
-            return other;
-        }
+        let nodes = self.nodes.min(other.nodes);
         SizeCount {
-            nodes: self.nodes,
-            orders: self.orders + other.orders,
+            nodes,
+            orders: self.orders_of(nodes) + other.orders_of(nodes),
         }
     }
 
@@ -60,15 +64,10 @@ impl SizeCount {
         ensures orders { result.orders ≤ self.orders + other.orders }
         ensures nodes { (self.nodes ≤ result.nodes) × (other.nodes ≤ result.nodes) }
     {
-        if self.nodes > other.nodes {
-            return self;
-        }
-        if other.nodes > self.nodes {
-            return other;
-        }
+        let nodes = self.nodes.max(other.nodes);
         SizeCount {
-            nodes: self.nodes,
-            orders: self.orders + other.orders,
+            nodes,
+            orders: self.orders_of(nodes) + other.orders_of(nodes),
         }
     }
 }
@@ -135,11 +134,11 @@ impl Figures {
     }
 }
 
-/// The figures of the orders of the members of `set` whose bottom parts are all lawful, that is,
-/// stand at the bottom of an order that keeps `pairs`. Their nodes are those of the members, if
-/// these have the lowest levels. Entry x of `row` is the width of x over the other members, and
-/// entry m of `smaller` has the figures of the set with the mask m. Requires that `set` isn't
-/// empty, and that `smaller` has entries for all smaller masks.
+/// The figures of the orders of the members of the lawful set `set` whose bottom parts are all
+/// lawful, that is, stand at the bottom of an order that keeps `pairs`. Their nodes are those of
+/// the members, if these have the lowest levels. Entry x of `row` is the width of x over the other
+/// members, and entry m of `smaller` has the figures of the set with the mask m. Requires that
+/// `set` isn't empty, and that `smaller` has entries for all smaller masks.
 fn figures_of_set(
     problem: &Problem,
     pairs: &Pairs,
@@ -150,19 +149,16 @@ fn figures_of_set(
     requires few { length (functions problem.now) ≤ 16 }
     requires some { 0 < set }
     requires within { set < 2 ^ pairs.now.inputs }
+    requires lawful { IsTrue (is_lawful pairs.now.pairs (members pairs.now.inputs set)) }
     requires row { AreWidthsIn pairs.now.inputs (functions problem.now) set row.now }
     requires smaller { AreFiguresBelow pairs.now.inputs (functions problem.now) pairs.now.pairs set smaller.now }
     ensures { AreFiguresOf pairs.now.inputs (functions problem.now) pairs.now.pairs
         (members pairs.now.inputs set) result }
 {
     let mut figures = Figures::without_nodes(0);
-    if !pairs.lawful(set) {
-        return figures;
-    }
     for x in 0..pairs.inputs() {
         if contains(set, x) {
-            let below = smaller[(set - (1 << x)) as usize];
-            figures.add(&below, row[x as usize]);
+            figures.add(&smaller[(set - (1 << x)) as usize], row[x as usize]);
         }
     }
     figures
@@ -182,11 +178,16 @@ pub fn figures_of_orders(
     ensures { IfOk result (AreFiguresOfOrders pairs.now.inputs (functions problem.now) pairs.now.pairs) }
 {
     let sets = 1usize << pairs.inputs();
+    let all_lawful = pairs.count() == 0;
     let mut figures = Vec::with_capacity(alloc, sets)?;
     figures.push(Figures::without_nodes(1))?;
     for set in 1..sets {
-        let of_set = figures_of_set(problem, pairs, &widths[set], &figures, set as Mask);
-        figures.push(of_set)?;
+        let lawful = all_lawful || pairs.lawful(set as Mask);
+        figures.push(if lawful {
+            figures_of_set(problem, pairs, &widths[set], &figures, set as Mask)
+        } else {
+            Figures::without_nodes(0)
+        })?;
     }
     Ok(figures[sets - 1])
 }

@@ -1,13 +1,17 @@
 use Rattle.order_counts.proofs.Partial.{figures_more}
-use Rattle.std.proofs.Common.{◌≡◌, ◌*◌, ◌-◌, ◌%◌, ◌^◌, [], ◌∷◌, ◌++◌, length, slice_index_or, sym, ap, ◌∙◌, subst, arith, ◌+◌}
+use Rattle.std.proofs.Common.{◌≡◌, ◌*◌, ◌-◌, ◌%◌, ◌^◌, [], ◌∷◌, ◌++◌, false, eq-eqb, List, length, slice_index_or, sym, ap, ap₂, ◌∙◌, subst, arith, ◌+◌}
+use Rattle.std.proofs.lemmas.Bool.{true≢false}
 use Rattle.std.proofs.lemmas.Nat.{one_shl, pow_pos}
 use Rattle.definitions.specs.Problems.{functions}
 use Rattle.definitions.specs.Orders.{members}
+use Rattle.definitions.specs.Pairs.{is_lawful}
 use Rattle.definitions.proofs.Precedence.Cycles.{acyclic_kept}
 use Rattle.definitions.proofs.Widths.AllOrders.{members_all, members_none}
 use Rattle.order_counts.specs.Figures.{AreFiguresOf, AreFiguresBelow}
-use Rattle.order_counts.proofs.Whole.{figures_empty, figures_of_all}
+use Rattle.order_counts.specs.declared.figures.Figures.{Figures}
+use Rattle.order_counts.proofs.Whole.{figures_empty, figures_of_all, figures_unlawful, lawful_without}
 use Rattle.order_counts.proofs.figures.figures_of_orders.Goals as goal
+use Rattle.order_counts.proofs.figures.figures_of_orders.Goals.{then-lawful, else-lawful, then-all_lawful, else-all_lawful}
 
 pub loop-set-init : goal.loop-set-init
 loop-set-init c =
@@ -43,9 +47,33 @@ returns c =
     figures_of_all n (functions c.args.problem.now) P order.0 order.2.is_order order.2.kept c.index.result.now
     (subst (λ S. AreFiguresOf n (functions c.args.problem.now) P S c.index.result.now) (members_all n) whole)
 
+pub figures_of_set-requires-clause-lawful : goal.figures_of_set-requires-clause-lawful
+figures_of_set-requires-clause-lawful c =
+    elim c.if-all_lawful.branch [
+      | then-all_lawful v ↦
+          lawful_without c.args.pairs.now.pairs (members c.args.pairs.now.inputs c.loop-set.set) (sym c.count-all_lawful.ensures.value ∙ v.if-all_lawful.true)
+      | else-all_lawful v ↦ sym v.lawful-lawful.ensures ∙ sym v.lawful-is ∙ c.if-lawful.true
+    ]
+
 pub loop-set-preserved : goal.loop-set-preserved
 loop-set-preserved c =
-    subst (AreFiguresBelow c.args.pairs.now.inputs (functions c.args.problem.now) c.args.pairs.now.pairs (c.loop-set.set + 1))
-    (sym c.in_ok-push-2.ensures.items)
-    (figures_more c.args.pairs.now.inputs (functions c.args.problem.now) c.args.pairs.now.pairs c.loop-set.set c.loop-set.figures.items
-    c.figures_of_set-of_set.result c.loop-set.invariant c.figures_of_set-of_set.ensures)
+    let n = c.args.pairs.now.inputs in
+    let F = functions c.args.problem.now in
+    let P = c.args.pairs.now.pairs in
+    elim c.if-lawful.branch [
+      | then-lawful w ↦
+          let items = c.in_ok-push-2.ensures.items ∙ ap₂ (λ (xs : List Figures) (y : Figures). xs ++ y ∷ []) (ap (λ v. v.items) w.push-is) w.push2-is in
+          subst (AreFiguresBelow n F P (c.loop-set.set + 1)) (sym items)
+          (figures_more n F P c.loop-set.set c.loop-set.figures.items w.figures_of_set.result c.loop-set.invariant w.figures_of_set.ensures)
+      | else-lawful w ↦
+          let items = c.in_ok-push-2.ensures.items ∙ ap₂ (λ (xs : List Figures) (y : Figures). xs ++ y ∷ []) (ap (λ v. v.items) w.push-is) w.push2-is in
+          let made = w.without_nodes-else-lawful.ensures in
+          let unlawful : is_lawful c.args.pairs.now.pairs (members c.args.pairs.now.inputs c.loop-set.set) ≡ false =
+          elim c.if-all_lawful.branch [
+            | then-all_lawful v ↦ absurd (true≢false (sym (eq-eqb _ _ v.if-all_lawful.true) ∙ sym v.lawful-is ∙ w.if-lawful.false))
+            | else-all_lawful v ↦ sym v.lawful-lawful.ensures ∙ sym v.lawful-is ∙ w.if-lawful.false
+          ] in
+          subst (AreFiguresBelow n F P (c.loop-set.set + 1)) (sym items)
+          (figures_more n F P c.loop-set.set c.loop-set.figures.items w.without_nodes-else-lawful.result c.loop-set.invariant
+          (figures_unlawful n F P c.loop-set.set w.without_nodes-else-lawful.result unlawful made.count made.total made.fewest made.most))
+    ]

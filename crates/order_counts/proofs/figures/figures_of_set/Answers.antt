@@ -9,35 +9,10 @@ use Rattle.definitions.proofs.Widths.AllOrders.{number_none, total_none, ways_no
 use Rattle.order_counts.specs.declared.figures.Figures.{Figures}
 use Rattle.order_counts.specs.Figures.{IsTidy}
 use Rattle.order_counts.proofs.Rows.{row_at}
+use Rattle.order_counts.proofs.Whole.{tidy_none}
 use Rattle.order_counts.proofs.Partial.{ArePartial, below_at, counts_small, partial_all, partial_lacking, partial_none, partial_with, most_small, totals_small}
 use Rattle.order_counts.proofs.figures.figures_of_set.Goals as goal
 use Rattle.order_counts.proofs.figures.figures_of_set.Goals.{then-contains, else-contains}
-
-tidy_none : (s : Figures) → s.count ≡ 0 → s.fewest ≡ record { nodes = 0; orders = 0 } → s.most ≡ record { nodes = 0; orders = 0 } → IsTidy s
-tidy_none s count fewest most =
-    let a = ap (λ t. t.orders) fewest in
-    let b = ap (λ t. t.orders) most in
-    let d = ap (λ t. t.nodes) fewest in
-    record { fewest = omega arith; most = omega arith; ordered = omega arith }
-
-pub returns-then-not-lawful : goal.returns-then-not-lawful
-returns-then-not-lawful c =
-    let n = c.args.pairs.now.inputs in
-    let P = c.args.pairs.now.pairs in
-    let S = members c.args.pairs.now.inputs c.args.set in
-    let once = distinct_members c.args.pairs.now.inputs c.args.set in
-    let not_lawful : is_lawful c.args.pairs.now.pairs (members c.args.pairs.now.inputs c.args.set) ≡ false = sym c.lawful.ensures ∙ c.if-not-lawful.true in
-    let made = c.without_nodes-figures.ensures in
-    record {
-      count = made.count ∙ sym (number_none P S once not_lawful);
-      total = made.total ∙ sym (total_none n (functions c.args.problem.now) P S once not_lawful);
-      costs = record {
-        none = λ z k. ways_none n (functions c.args.problem.now) P S once not_lawful k;
-        fewest = λ some. absurd (some made.count);
-        most = λ some. absurd (some made.count);
-      };
-      tidy = tidy_none c.without_nodes-figures.result made.count made.fewest made.most;
-    }
 
 pub loop-x-init : goal.loop-x-init
 loop-x-init c =
@@ -68,7 +43,7 @@ add-requires-clause-count c =
     let small : c.loop-x.x < c.args.pairs.now.inputs = omega (arith, c.loop-x-test.true, c.inputs-x-end.ensures.value) in
     let e : 1 * 2 ^ c.loop-x.x % 65536 ≡ 2 ^ c.loop-x.x = one_shl c.loop-x.x 16 (omega (arith, small, few)) in
     let bit = c.contains.ensures.0 c.if-contains.true in
-    let l : is_lawful c.args.pairs.now.pairs (members c.args.pairs.now.inputs c.args.set) ≡ true = sym c.lawful.ensures ∙ c.if-not-lawful.false in
+    let l = c.requires.lawful in
     let b = below_at n (functions c.args.problem.now) P c.args.set x (1 * 2 ^ c.loop-x.x % 65536) c.args.smaller.now nothing c.requires.smaller bit e in
     counts_small n (functions c.args.problem.now) P c.args.set few (let some = c.requires.some in omega arith) c.requires.within l x c.loop-x.figures
     (slice_index_or c.args.smaller.now (c.args.set - 1 * 2 ^ c.loop-x.x % 65536) nothing) small bit c.loop-x.invariant b
@@ -82,7 +57,7 @@ add-requires-clause-total c =
     let small : c.loop-x.x < c.args.pairs.now.inputs = omega (arith, c.loop-x-test.true, c.inputs-x-end.ensures.value) in
     let e : 1 * 2 ^ c.loop-x.x % 65536 ≡ 2 ^ c.loop-x.x = one_shl c.loop-x.x 16 (omega (arith, small, few)) in
     let bit = c.contains.ensures.0 c.if-contains.true in
-    let l : is_lawful c.args.pairs.now.pairs (members c.args.pairs.now.inputs c.args.set) ≡ true = sym c.lawful.ensures ∙ c.if-not-lawful.false in
+    let l = c.requires.lawful in
     let b = below_at n (functions c.args.problem.now) P c.args.set x (1 * 2 ^ c.loop-x.x % 65536) c.args.smaller.now nothing c.requires.smaller bit e in
     totals_small n (functions c.args.problem.now) P c.args.set few (let some = c.requires.some in omega arith) c.requires.within l x
     (slice_index c.args.row.now x) c.loop-x.figures
@@ -132,7 +107,7 @@ returns c =
     let n = c.args.pairs.now.inputs in
     let P = c.args.pairs.now.pairs in
     let few = c.inputs-x-end.ensures.kept.few in
-    let l : is_lawful c.args.pairs.now.pairs (members c.args.pairs.now.inputs c.args.set) ≡ true = sym c.lawful.ensures ∙ c.if-not-lawful.false in
+    let l = c.requires.lawful in
     let e : c.loop-x.x ≡ c.args.pairs.now.inputs = omega (arith, c.loop-x-test.false, c.inputs-x-end.ensures.value, c.loop-x.auto.x-end) in
     partial_all n (functions c.args.problem.now) P c.args.set few (let some = c.requires.some in omega arith) c.requires.within l c.loop-x.figures
     (subst (λ k. ArePartial n (functions c.args.problem.now) P c.args.set k c.loop-x.figures) e c.loop-x.invariant)
