@@ -2,10 +2,11 @@
 --     IsRowTo n F set from row      the widths of the members below a variable, and 0 from it on
 --     row_none, row_next, row_all      at first, with the next member, and once there is none
 --     AreRowsTo n F k rows      the rows of the sets with masks below k
---     rows_first, rows_more, rows_all      of the empty set, with one set more, and of all
+--     rows_first, rows_more, rows_written, rows_all      of the empty set, with one set more, written in place, and of all
 use Rattle.std.proofs.Common.{◌≡◌, ℕ, ◌+◌, ◌^◌, ◌<◌, ◌≤◌, true, false, cond, inl, inr, List, [], ◌∷◌, ◌++◌, length, length-append, get_or, slice_index, set, refl, sym, ap, ◌∙◌, subst, arith}
 use Rattle.std.specs.Int.{bit_at}
 use Rattle.std.proofs.lemmas.Bool.{cases_eq, cases_lt, false_from_ne_true}
+use Rattle.std.proofs.Math.Seq.{set-append_seam}
 use Rattle.std.proofs.lemmas.List.{get_or-replicate, get_or-set_other, get_or-set_same, get_or_append_left, get_or_past, get_or_push, length-set}
 use Rattle.std.proofs.lemmas.Nat.Bits.{bit_at-zero}
 use Rattle.definitions.specs.AllOrders.{AreAllWidths, AreWidthsIn, width_in}
@@ -84,6 +85,14 @@ rows_more n F k rows row h is = record {
         subst (AreWidthsIn n F mask) (sym (get_or_push rows row [] mask (h.each ∙ sym e))) (subst (λ m. AreWidthsIn n F m row) (sym e) is)
   ];
 }
+
+-- a row is appended with zeros and written in place
+pub rows_written : (n : ℕ) (F : List Function) (k : ℕ) (rows pushed : List (List ℕ)) (old row : List ℕ) → AreRowsTo n F k rows →
+    pushed ≡ rows ++ old ∷ [] → AreWidthsIn n F k row → AreRowsTo n F (k + 1) (set pushed k row)
+rows_written n F k rows pushed old row h push is =
+    subst (AreRowsTo n F (k + 1))
+    (sym (ap (λ (xs : List (List ℕ)). set xs k row) push ∙ ap (λ j. set (rows ++ old ∷ []) j row) (sym h.each) ∙ set-append_seam rows old [] row))
+    (rows_more n F k rows row h is)
 
 -- the empty set's row
 pub rows_first : (n : ℕ) (F : List Function) → AreRowsTo n F 1 ([] ++ zero_row ∷ [])

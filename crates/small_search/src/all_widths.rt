@@ -1,27 +1,32 @@
 //! The widths of all sets of a small problem's variables.
 
-ghost use Rattle.std.specs.Prelude.{◌≡◌, ◌^◌, ◌<◌, [], IfOk, OnOk};
+ghost use Rattle.std.specs.Prelude.{◌≡◌, ◌^◌, ◌<◌, [], replicate, IfOk, OnOk};
 ghost use Rattle.definitions.specs.AllOrders.{AreAllWidths, AreWidthsIn};
 ghost use Rattle.definitions.specs.Problems.{functions};
 ghost use Rattle.subfunction_classes.specs.Table.{classes_of};
 ghost use Rattle.small_search.specs.Occurrences.{AreOf};
 
-use crate::instance::{SmallSearch, words_of};
+use crate::instance::SmallSearch;
 use crate::search::subfunctions_in;
 use crate::tables::PathTables;
 use crate::width_counts::Subfunctions;
 use order_model::{Mask, Pairs, Problem, WidthRow, next_member};
 use std::alloc::{AllocError, Global};
 
-/// The widths of the members of `set` over the other members, 0 at other variables.
+/// Writes the widths of the members of `set` over the other members to `row`, which has zeros.
 #[inline(always)]
-fn row_of_set(search: &SmallSearch<'_>, subfunctions: &Subfunctions<'_>, set: Mask) -> WidthRow
+fn write_row(
+    search: &SmallSearch<'_>,
+    subfunctions: &Subfunctions<'_>,
+    set: Mask,
+    row: &mut WidthRow,
+)
     requires within { set < 2 ^ search.now.problem.inputs }
     requires subfunctions { AreOf (classes_of search.now.problem set) subfunctions.now }
-    ensures { AreWidthsIn search.now.problem.inputs (functions search.now.problem) set result }
+    requires zeros { row.old ≡ replicate 16 0 }
+    ensures { AreWidthsIn search.now.problem.inputs (functions search.now.problem) set row.new }
 {
     prove!(search.inputs() <= 16);
-    let mut row = [0; 16];
     let mut place = set.count_ones();
     let mut from = 0;
     while let Some(x) = next_member(set, from) {
@@ -29,7 +34,6 @@ fn row_of_set(search: &SmallSearch<'_>, subfunctions: &Subfunctions<'_>, set: Ma
         row[x as usize] = subfunctions.width(x, place);
         from = x + 1;
     }
-    row
 }
 
 /// Appends the row of each set of the search's variables, by rising mask, to `rows`, which has
@@ -52,7 +56,8 @@ fn push_rows(
         let set = number as Mask;
         tables.add_lowest(search, set)?;
         let subfunctions = subfunctions_in(search, tables, set);
-        rows.push(row_of_set(search, &subfunctions, set))?;
+        rows.push([0; 16])?;
+        write_row(search, &subfunctions, set, &mut rows[number as usize]);
     }
     Ok(())
 }
@@ -63,9 +68,8 @@ pub fn widths_of_all_sets(alloc: Global, problem: &Problem) -> Result<Vec<WidthR
     ensures { IfOk result
         (λ rows. AreAllWidths problem.now.inputs (functions problem.now) rows.items) }
 {
-    let words = words_of(alloc, problem)?;
     let pairs = Pairs::none(problem.inputs());
-    let search = SmallSearch::new(problem.inputs(), problem.outputs(), &words, &pairs);
+    let search = SmallSearch::of_problem(problem, &pairs);
     let mut tables = PathTables::new(alloc);
     let mut rows = Vec::new(alloc);
     push_rows(alloc, &search, &mut tables, &mut rows)?;

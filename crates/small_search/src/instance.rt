@@ -8,7 +8,6 @@ ghost use Rattle.small_search.specs.Searches.{ArePacked, IsPlainSearch, plain_in
 
 use order_model::packed::{block, words_per_table};
 use order_model::{Mask, Pairs, Problem};
-use std::alloc::{AllocError, Global};
 use std::marker::Model;
 
 /// A bound that exceeds the cost of each lawful set: such a cost is at most 16 widths of at most
@@ -51,6 +50,21 @@ impl<'a> SmallSearch<'a> {
             words,
             pairs,
         }
+    }
+
+    /// The search for the functions of `problem` among the orders that keep `pairs`.
+    pub(crate) fn of_problem(problem: &'a Problem, pairs: &'a Pairs) -> SmallSearch<'a>
+        requires { pairs.now.inputs ≡ problem.now.inputs }
+        ensures { result ≡ plain_instance problem.now pairs.now }
+    {
+        prove!(problem.inputs() <= 16);
+        prove!(problem.outputs() <= 16);
+        SmallSearch::new(
+            problem.inputs(),
+            problem.outputs(),
+            problem.all_words(),
+            pairs,
+        )
     }
 
     /// The number of variables.
@@ -97,20 +111,4 @@ impl<'a> SmallSearch<'a> {
     {
         self.pairs.lawful(set)
     }
-}
-
-/// The truth tables of a problem's functions, packed in words of 64 points, one function after the
-/// other.
-pub(crate) fn words_of(alloc: Global, problem: &Problem) -> Result<Vec<u64>, AllocError>
-    ensures packed { IfOk result
-        (λ v. ArePacked problem.now.inputs (outputs_of problem.now) v.items) }
-    ensures same { IfOk result
-        (λ v. packed_tables problem.now.inputs (outputs_of problem.now) v.items ≡ problem.now) }
-{
-    prove!(problem.inputs() <= 16);
-    let mut words = Vec::new(alloc);
-    for output in 0..problem.outputs() {
-        words.extend_from_slice(problem.words(output))?;
-    }
-    Ok(words)
 }

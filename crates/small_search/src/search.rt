@@ -10,7 +10,7 @@ ghost use Rattle.solutions.specs.Bounded.{AreFlatCells, IsBounded};
 ghost use Rattle.solutions.specs.Solutions.{IsFirstFewest, IsOptimumFor, IsSolution};
 
 use crate::cells::cell_of_set;
-use crate::instance::{NO_BOUND, SmallSearch, words_of};
+use crate::instance::{NO_BOUND, SmallSearch};
 use crate::tables::{MOST_VALUE_VARIABLES, PathTables, values_over};
 use crate::values::occurring;
 use crate::width_counts::Subfunctions;
@@ -144,8 +144,7 @@ fn all_cells(alloc: Global, problem: &Problem, pairs: &Pairs) -> Result<Vec<Cell
     requires { pairs.now.inputs ≡ problem.now.inputs }
     ensures { IfOk result (λ v. AreFlatCells (plain_instance problem.now pairs.now) v.items) }
 {
-    let words = words_of(alloc, problem)?;
-    let search = SmallSearch::new(problem.inputs(), problem.outputs(), &words, pairs);
+    let search = SmallSearch::of_problem(problem, pairs);
     let mut path = PathTables::new(alloc);
     let mut cells = Vec::new(alloc);
     find_cells(alloc, &search, &mut path, &mut cells)?;

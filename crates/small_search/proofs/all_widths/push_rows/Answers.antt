@@ -3,7 +3,7 @@ use Rattle.std.proofs.Common.{◌≡◌, ◌+◌, ◌-◌, ◌^◌, [], ◌∷�
 use Rattle.std.proofs.lemmas.Nat.{pow_pos}
 use Rattle.definitions.specs.Problems.{functions}
 use Rattle.small_search.specs.Paths.{HoldPath}
-use Rattle.small_search.proofs.WidthRows.{AreRowsTo, rows_all, rows_first, rows_more, zero_row}
+use Rattle.small_search.proofs.WidthRows.{AreRowsTo, rows_all, rows_first, rows_written, zero_row}
 use Rattle.small_search.proofs.all_widths.push_rows.Goals as goal
 
 pub loop-number-init : goal.loop-number-init
@@ -30,8 +30,8 @@ loop-number-preserved c =
     record {
       path = subst (λ k. HoldPath t k c.add_lowest.new.self) (let e : number ≡ number + 1 - 1 = omega arith in e)
           c.in_ok-add_lowest.ensures;
-      rows = subst (AreRowsTo t.inputs (functions t) (number + 1)) (sym c.in_ok-push-2.ensures.items)
-          (rows_more t.inputs (functions t) number c.loop-number.rows.items c.row_of_set.result c.loop-number.invariant.rows c.row_of_set.ensures);
+      rows = rows_written t.inputs (functions t) number c.loop-number.rows.items c.push-in-loop-number.new.self.items zero_row c.write_row.new.row
+          c.loop-number.invariant.rows c.in_ok-push-2.ensures.items c.write_row.ensures;
     }
 
 pub returns : goal.returns
@@ -41,8 +41,8 @@ returns c =
     let all : c.loop-number.number ≡ 2 ^ t.inputs = omega (arith, s.0, c.loop-number-test.false, c.loop-number.auto.number-end, pow_pos t.inputs) in
     rows_all t.inputs (functions t) c.loop-number.number c.loop-number.rows.items all c.loop-number.invariant.rows
 
-pub row_of_set-requires-clause-within : goal.row_of_set-requires-clause-within
-row_of_set-requires-clause-within c = within _ _ _ c.loop-number-test.true c.inputs.ensures.value c.inputs.ensures.few
+pub write_row-requires-clause-within : goal.write_row-requires-clause-within
+write_row-requires-clause-within c = within _ _ _ c.loop-number-test.true c.inputs.ensures.value c.inputs.ensures.few
 
 pub add_lowest-requires-clause-within : goal.add_lowest-requires-clause-within
 add_lowest-requires-clause-within c = within _ _ _ c.loop-number-test.true c.inputs.ensures.value c.inputs.ensures.few

@@ -2,7 +2,7 @@ use Rattle.std.proofs.Common.{◌≡◌, ◌+◌, ◌-◌, ◌≤◌, length}
 use Rattle.definitions.specs.Orders.{members}
 use Rattle.definitions.specs.Problems.{functions}
 use Rattle.small_search.proofs.WidthRows.{IsRowTo}
-use Rattle.small_search.proofs.all_widths.row_of_set.Given as goal
+use Rattle.small_search.proofs.all_widths.write_row.Given as goal
 
 abbrev pub invariant-loop-x : goal.invariant-loop-x
 invariant-loop-x l = record {

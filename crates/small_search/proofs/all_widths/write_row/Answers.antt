@@ -1,4 +1,4 @@
-use Rattle.std.proofs.Common.{◌-◌, length, refl, ◌∙◌, arith}
+use Rattle.std.proofs.Common.{◌-◌, length, refl, sym, ◌∙◌, subst, arith}
 use Rattle.std.proofs.lemmas.Nat.Bits.{shr_and_one}
 use Rattle.definitions.specs.Orders.{members}
 use Rattle.definitions.specs.Problems.{functions}
@@ -7,15 +7,20 @@ use Rattle.subset_layers.proofs.CostLists.{member_from_bit}
 use Rattle.subfunction_classes.specs.Table.{classes_of}
 use Rattle.small_search.specs.Occurrences.{IsAtPlace}
 use Rattle.small_search.proofs.MemberPlaces.{counted, members_next, members_none, next_stands}
-use Rattle.small_search.proofs.WidthRows.{row_all, row_next, row_none}
-use Rattle.small_search.proofs.all_widths.row_of_set.Goals as goal
+use Rattle.small_search.proofs.WidthRows.{IsRowTo, row_all, row_next, row_none}
+use Rattle.small_search.proofs.all_widths.write_row.Goals as goal
 
 pub loop-x-init : goal.loop-x-init
 loop-x-init c =
     let t = c.args.search.now in
     let o = ones-members t.problem.inputs c.args.set c.requires.within in
     let z = members_none c.args.set in
-    record { small = omega arith; row = row_none t.problem.inputs (functions t.problem) c.args.set; above = omega (arith, o, z) }
+    record {
+      small = omega arith;
+      row = subst (IsRowTo t.problem.inputs (functions t.problem) c.args.set 0) (sym c.requires.zeros)
+          (row_none t.problem.inputs (functions t.problem) c.args.set);
+      above = omega (arith, o, z);
+    }
 
 pub overflow_sub-place : goal.overflow_sub-place
 overflow_sub-place c =
