@@ -1,13 +1,8 @@
-use Rattle.std.proofs.Common.{◌≡◌, ◌+◌, ◌*◌, ◌-◌, ◌%◌, ◌^◌, ◌<◌, true, false, slice_index, slice_index_or, sym, ap, ◌∙◌, subst, arith}
+use Rattle.std.proofs.Common.{◌≡◌, ◌+◌, ◌*◌, ◌-◌, ◌%◌, ◌^◌, ◌<◌, slice_index, slice_index_or, sym, subst, arith}
 use Rattle.std.proofs.lemmas.Bool.{iff_false}
 use Rattle.std.proofs.lemmas.Nat.{one_shl}
 use Rattle.definitions.specs.Problems.{functions}
-use Rattle.definitions.specs.Orders.{members}
-use Rattle.definitions.specs.Pairs.{is_lawful}
-use Rattle.definitions.proofs.Bits.Masks.{distinct_members}
-use Rattle.definitions.proofs.Widths.AllOrders.{number_none, total_none, ways_none}
 use Rattle.order_counts.specs.declared.figures.Figures.{Figures}
-use Rattle.order_counts.specs.Figures.{IsTidy}
 use Rattle.order_counts.proofs.Rows.{row_at}
 use Rattle.order_counts.proofs.Whole.{tidy_none}
 use Rattle.order_counts.proofs.Partial.{ArePartial, below_at, counts_small, partial_all, partial_lacking, partial_none, partial_with, most_small, totals_small}
