@@ -78,10 +78,11 @@ struct Change {
 
 /// The first exchange of a variable at a place below 8 with one at a higher place that leaves the
 /// fewest distinct strips of `words`, by an estimate from hashes. None if each leaves at least
-/// `most`.
+/// `most`. `halves` has those of place 0.
 fn best_change(
     alloc: Global,
     words: &[u64],
+    mut halves: Vec<u64>,
     inputs: u8,
     most: u32,
 ) -> Result<Option<Change>, AllocError>
@@ -90,7 +91,9 @@ fn best_change(
     let mut best = None;
     let mut fewest = most;
     for low in 0..8 {
-        let halves = halves_of(alloc, words, low)?;
+        if low > 0 {
+            halves = halves_of(alloc, words, low)?;
+        }
         for high in 8..inputs {
             let strips = count_strips(&halves, high - 7);
             if strips < fewest {
@@ -131,11 +134,9 @@ fn exchange(words: &mut [u64], low: VarIx, high: VarIx)
 fn lowest_of(alloc: Global, problem: &Problem) -> Result<Option<Mask>, AllocError>
     requires { problem.now.inputs ≤ 16 }
 {
-    let mut words = Vec::new(alloc);
-    for output in 0..problem.outputs() {
-        words.extend_from_slice(problem.words(output))?;
-    }
-    let first = count_strips(&halves_of(alloc, &words, 0)?, 0);
+    let mut words = problem.all_words().to_vec(alloc)?;
+    let mut halves = halves_of(alloc, &words, 0)?;
+    let first = count_strips(&halves, 0);
     if first <= FEW_STRIPS {
         return Ok(None);
     }
@@ -143,11 +144,12 @@ fn lowest_of(alloc: Global, problem: &Problem) -> Result<Option<Mask>, AllocErro
     // The variable at each place, which is a bit of a point.
     let mut variables: [VarIx; 16] = [0, 1, 2, 3, 4, 5, 6, 7, 8, 9, 10, 11, 12, 13, 14, 15];
     for _change in 0..MOST_CHANGES {
-        let Some(change) = best_change(alloc, &words, problem.inputs(), fewest)? else {
+        let Some(change) = best_change(alloc, &words, halves, problem.inputs(), fewest)? else {
             break;
         };
         fewest = change.strips;
         exchange(&mut words, change.low, change.high);
+        halves = halves_of(alloc, &words, 0)?;
         variables.swap(change.low as usize, change.high as usize);
     }
     if fewest > first - first / 4 {

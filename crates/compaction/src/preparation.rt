@@ -124,7 +124,7 @@ impl<'a> Preparation<'a> {
         let mut prepared = Preparation::with_tables(alloc, renaming, shared, pairs)?;
         if end > 0 {
             let mut requests = prepared.requests(alloc)?;
-            requests.add_sets(&prepared.wanted(1, end), true);
+            requests.add_sets(&prepared.wanted(1, end));
             prepared.find(rt, alloc, &requests, end, workers)?;
         }
         Ok(prepared)
@@ -193,7 +193,7 @@ impl<'a> Preparation<'a> {
     /// variables, of each orbit the first set alone, whose low byte has a request already: one walk
     /// then serves both.
     pub fn add_larger(&self, requests: &mut Requests, first: u8, last: u8) {
-        requests.add_sets(&self.wanted(first, last), false);
+        requests.add_sets_of_requested_bytes(&self.wanted(first, last));
     }
 
     /// Takes over the rows in `found`. If `end`, the size up to which rows were to be found,
@@ -233,7 +233,7 @@ impl<'a> Preparation<'a> {
     {
         let inputs = self.problem().inputs();
         let mut requests = self.requests(alloc)?;
-        requests.add_sets(&self.wanted(1, inputs), true);
+        requests.add_sets(&self.wanted(1, inputs));
         self.find_alone(alloc, &requests, inputs)
     }
 

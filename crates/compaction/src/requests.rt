@@ -43,11 +43,17 @@ impl Requests {
         self.bytes.iter().all(|request| request.is_empty())
     }
 
-    /// Adds all members of the wanted sets. If `all` is false, takes only sets whose low byte has a
-    /// request already.
-    pub(crate) fn add_sets(&mut self, wanted: &Wanted<'_, '_>, all: bool) {
+    /// Adds all members of the wanted sets.
+    pub(crate) fn add_sets(&mut self, wanted: &Wanted<'_, '_>) {
         for request in &mut self.bytes {
-            if all || !request.is_empty() {
+            request.add_sets(wanted);
+        }
+    }
+
+    /// Adds all members of those wanted sets whose low byte has a request already.
+    pub(crate) fn add_sets_of_requested_bytes(&mut self, wanted: &Wanted<'_, '_>) {
+        for request in &mut self.bytes {
+            if !request.is_empty() {
                 request.add_sets(wanted);
             }
         }

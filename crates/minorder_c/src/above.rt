@@ -36,6 +36,11 @@ pub(crate) fn kept_pairs(alloc: Global, given: &[AbovePair], n: u8) -> Result<Pa
         (λ p. p ≡ record { inputs = n; pairs = sorted_pairs n (pairs_given given.now) }) }
     ensures refused { IfErr result (RefusesPairs (Unit {0}) (CanBeKept n (pairs_given given.now))) }
 {
+    if given.is_empty() {
+        let none = Pairs::none(n);
+        prove!(none.inputs() <= 16);
+        return Ok(none);
+    }
     let pairs = numbers_of(alloc, given)?;
     match Pairs::of(&pairs, n) {
         Ok(kept) => Ok(kept),

@@ -13,7 +13,7 @@ const ENTRIES_A_NODE: u64 = 16;
 /// The size up to which a search that bounds by variables needs the widths of nearly all sets.
 const LAYERS_BY_VARIABLES: u8 = 6;
 
-/// The same for a search that bounds by widths.
+/// The size up to which a search that bounds by widths needs the widths of nearly all sets.
 const LAYERS_BY_WIDTHS: u8 = 5;
 
 /// The size up to which a search needs the widths of nearly all sets, before costs are known: all

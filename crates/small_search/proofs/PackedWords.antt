@@ -1,8 +1,7 @@
 -- Truth tables in words that a caller has.
 --     words_facts      the words of a table
-use Rattle.std.proofs.Common.{◌≡◌, ℕ, ◌+◌, ◌*◌, ◌<◌, ◌≤◌, Bool, List, [], ◌++◌, length, take, drop, inl, inr, sym, ap, ◌∙◌, subst, arith}
-use Rattle.std.proofs.lemmas.Bool.{cases_lt}
-use Rattle.std.proofs.lemmas.List.{drop-append-le, drop_at, ext_get_or, length-append, length-drop, length-take-le, take-append-le, take_all}
+use Rattle.std.proofs.Common.{◌≡◌, ℕ, ◌+◌, ◌*◌, ◌<◌, ◌≤◌, List, length, drop, sym, subst, arith}
+use Rattle.std.proofs.lemmas.List.{length-drop, length-take-le}
 use Rattle.definitions.specs.Problems.{TruthTables, outputs_of, packed_tables, table_at, table_in, words_of, words_per_table}
 use Rattle.definitions.proofs.Bits.Problems.{block_inside, length-tables_of, table_of}
 use Rattle.small_search.specs.Searches.{ArePacked}
