@@ -55,27 +55,42 @@ def undisturbed() -> Iterator[None]:
 
 
 def write_file(path: str, content: bytes) -> None:
-    """Writes a file, or leaves what was there; one that was there keeps its mode, and a link what it leads to. Raises OSError
-    with its name."""
-    place = os.path.realpath(path)
+    """Writes a plain file as a whole, or leaves what was there; one that was there keeps its mode, and a link what it leads to.
+    A pipe or a device is written into. Raises OSError with its name."""
+    try:
+        mode = _mode_of(path)
+        if mode is None or stat.S_ISREG(mode) or stat.S_ISDIR(mode):
+            _replace(os.path.realpath(path), mode, content)
+        else:
+            with open(os.open(path, os.O_WRONLY | os.O_NOCTTY), "wb") as file:
+                file.write(content)
+    except OSError as error:
+        raise named(error, path) from None
+
+
+def _mode_of(path: str) -> Optional[int]:
+    """The mode of what is there, None if nothing is. Raises OSError, also for links that lead round."""
+    try:
+        return os.stat(path).st_mode
+    except FileNotFoundError:
+        return None
+
+
+def _replace(place: str, mode: Optional[int], content: bytes) -> None:
+    """Puts a file into a place, with the mode of one that is there and may be written. Raises OSError."""
     part = f"{place}.{os.getpid()}.part"
     with undisturbed():
         try:
             with open(part, "wb") as file:
-                _keep_mode(place, file.fileno())
+                if mode is not None and stat.S_ISREG(mode):
+                    open(place, "ab").close()
+                    os.fchmod(file.fileno(), stat.S_IMODE(mode))
                 file.write(content)
             os.replace(part, place)
-        except BaseException as error:
+        except BaseException:
             with suppress(OSError):
                 os.unlink(part)
-            raise named(error, path) if isinstance(error, OSError) else error
-
-
-def _keep_mode(path: str, number: int) -> None:
-    """Gives an open file the mode of one that is there and may be written, if one is. Raises OSError."""
-    if os.path.isfile(path):
-        with open(path, "ab") as file:
-            os.fchmod(number, stat.S_IMODE(os.fstat(file.fileno()).st_mode))
+            raise
 
 
 def write_whole(number: int, line: bytes) -> None:

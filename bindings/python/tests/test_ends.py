@@ -5,9 +5,11 @@ import io
 import os
 import resource
 import signal
+import stat
 import subprocess
 import sys
 import tempfile
+import threading
 import time
 import unittest
 import unittest.mock
@@ -186,6 +188,32 @@ _writing.write_all("new/one", Slow)
             with self.assertRaises(OSError) as caught:
                 _writing.write_file(f"{self.folder}/new", b"1")
         self.assertEqual((caught.exception.filename, sorted(os.listdir(self.folder))), (f"{self.folder}/new", before))
+
+    def test_a_pipe_is_written_into(self):
+        pipe, link, read = f"{self.folder}/pipe.csv", f"{self.folder}/link.csv", []
+
+        def take():
+            with open(pipe, "rb") as file:
+                read.append(file.read())
+
+        os.mkfifo(pipe)
+        os.symlink("pipe.csv", link)
+        for path in (pipe, link):
+            reader = threading.Thread(target=take, daemon=True)
+            reader.start()
+            _writing.write_file(path, b"1" * 100000)
+            self.assertTrue(stat.S_ISFIFO(os.lstat(pipe).st_mode) and os.path.islink(link))
+            reader.join(60)
+        self.assertEqual(read, [b"1" * 100000] * 2)
+
+    def test_links_that_lead_round(self):
+        os.symlink("one", f"{self.folder}/other")
+        os.symlink("other", f"{self.folder}/one")
+        before = sorted(os.listdir(self.folder))
+        with self.assertRaises(OSError) as caught:
+            _writing.write_file(f"{self.folder}/one", b"1")
+        self.assertEqual((caught.exception.errno, caught.exception.filename), (errno.ELOOP, f"{self.folder}/one"))
+        self.assertEqual((sorted(os.listdir(self.folder)), os.readlink(f"{self.folder}/one")), (before, "other"))
 
     def test_other_faults_are_a_line(self):
         self.assertEqual(self.ended("minorder-score", ["-"], preexec_fn=lambda: os.close(0)), (
