@@ -245,11 +245,16 @@ def _diagram_of(functions: Functions, order: Tuple[int, ...]) -> Diagram:
     return Diagram(order, tuple(map(Node._make, rows)), tuple(roots), *functions.names)
 
 
-def most_nodes(inputs: int, outputs: int) -> int:
-    """No diagram has more: on a level at most a node for each assignment of the variables above and each output, and one for
-    each function of the variables from the level on that depends on the first of them."""
+def level_bounds(inputs: int, outputs: int) -> Sequence[int]:
+    """No diagram has more nodes on a level, top first: one for each assignment of the variables above and each output, and one
+    for each function of the variables from the level on that depends on the first of them."""
     levels = ((outputs << level, 1 << (1 << (inputs - level)), 1 << (1 << (inputs - level - 1))) for level in range(inputs))
-    return sum(min(assigned, functions - without) for assigned, functions, without in levels)
+    return [min(assigned, functions - without) for assigned, functions, without in levels]
+
+
+def most_nodes(inputs: int, outputs: int) -> int:
+    """No diagram has more."""
+    return sum(level_bounds(inputs, outputs))
 
 
 def check(tables: Tables, certificate: Union[str, bytes], inputs: Optional[int] = None) -> Verdict:

@@ -3,25 +3,11 @@ import csv
 import io
 import json
 import os
-from dataclasses import fields
-from typing import BinaryIO, Dict, Iterable, Iterator, List, NamedTuple, Tuple, Union
+from typing import BinaryIO, Dict, Iterable, Iterator, List, Sequence, Tuple, Union
 
-from .batch import FileReport, Report, Status
+from ._row_rules import COLUMNS, row_of, values_of
+from .batch import FileReport
 from .files import LIMIT
-
-OF_REPORT = tuple(field.name for field in fields(Report))
-OF_NUMBERS = tuple(name for name in OF_REPORT if name != "names")
-COLUMNS = ("file", "status", "fault", *OF_REPORT)
-# the keys of a row with a report, with a fault, with both
-KEYS = tuple(frozenset(keys) for keys in (("file", "status", *OF_REPORT), COLUMNS[:3], COLUMNS))
-
-
-class Said(NamedTuple):
-    """What a row says of a file, and how the certificate of its report says that; no text if it has no report."""
-    file: str
-    status: Status
-    has_fault: bool
-    certified: str
 
 
 class JsonRows:
@@ -35,16 +21,15 @@ class JsonRows:
         """How each row of a file begins."""
         return json.dumps({"file": file})[:-1].encode("ascii") + b","
 
-    def said(self, row: bytes) -> Said:
-        """Raises ValueError if it is no row."""
+    def said(self, row: bytes) -> FileReport:
+        """Raises ValueError with why it is no row."""
         try:
-            found = json.loads(row)
-        except RecursionError:
-            raise ValueError from None
-        if not isinstance(found, dict) or found.keys() not in KEYS or not isinstance(found["file"], str):
-            raise ValueError
-        certified = _certified({name: _list(found[name]) for name in OF_NUMBERS}) if "order" in found else ""
-        return Said(found["file"], Status(found["status"]), "fault" in found, certified)
+            found = json.loads(row, object_pairs_hook=_object)
+        except (json.JSONDecodeError, UnicodeDecodeError, RecursionError):
+            raise ValueError("it is no JSON") from None
+        if not isinstance(found, dict):
+            raise ValueError("it is no object")
+        return row_of(found)
 
 
 class CsvRows:
@@ -62,43 +47,26 @@ class CsvRows:
     def beginning(self, file: str) -> bytes:
         return _record((file, ""))[:-1]
 
-    def said(self, row: bytes) -> Said:
+    def said(self, row: bytes) -> FileReport:
         # a name in a report may be as long as a file
         csv.field_size_limit(LIMIT)
         try:
-            found = next(csv.reader([os.fsdecode(row)]))
-        except csv.Error:
-            raise ValueError from None
-        if len(found) != len(COLUMNS):
-            raise ValueError
-        said = dict(zip(COLUMNS, found))
-        certified = _certified({name: _numbers(said[name]) for name in OF_NUMBERS}) if said["order"] else ""
-        return Said(found[0], Status(int(found[1])), found[2] != "", certified)
+            cells = next(csv.reader([os.fsdecode(row)], strict=True))
+        except (csv.Error, StopIteration):
+            raise ValueError("it is no CSV") from None
+        if len(cells) != len(COLUMNS):
+            raise ValueError(f"it has {len(cells)} cells, not {len(COLUMNS)}")
+        return row_of(values_of({name: cell for name, cell in zip(COLUMNS, cells) if cell or name == "file"}))
 
 
 Rows = Union[JsonRows, CsvRows]
 
 
-def _numbers(text: str) -> List[int]:
-    return [int(word) for word in text.split(" ")]
-
-
-def _list(value: object) -> List[int]:
-    found = value if isinstance(value, list) else [value]
-    if not all(type(it) is int for it in found):
-        raise ValueError
+def _object(pairs: Sequence[Tuple[str, object]]) -> Dict[str, object]:
+    found = dict(pairs)
+    if len(found) < len(pairs):
+        raise ValueError("a field stands twice")
     return found
-
-
-def _certified(report: Dict[str, List[int]]) -> str:
-    """How a certificate says what a report does. Raises ValueError if the report contradicts itself."""
-    (inputs,), order, counts, (nodes,) = (report[name] for name in ("inputs", "order", "levels", "nodes"))
-    orders = order, report["sifted_order"]
-    if any(len(it) != inputs for it in (*orders, counts)) or any(sorted(it) != list(range(inputs)) for it in orders):
-        raise ValueError
-    if sum(counts) != nodes or any(report[it] < [nodes] for it in ("sifted_nodes", "file_order_nodes")):
-        raise ValueError
-    return f"order {' '.join(map(str, order))}\nlevels {' '.join(map(str, counts))}\ntotal {nodes}\n"
 
 
 def _record(values: Iterable[object]) -> bytes:

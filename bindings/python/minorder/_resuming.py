@@ -7,12 +7,13 @@ from contextlib import contextmanager, suppress
 from typing import Counter as CounterOf
 from typing import Dict, Iterator, List, Sequence, Tuple
 
-from ._certificates import check_text
+from ._certificates import LIMIT, check_text
 from ._ends import REFUSED, Refused
 from ._errors import BadCertificate
-from ._report_rows import Rows, Said, records
+from ._report_rows import Rows, records
 from ._arguments import shown
 from ._writing import named, write_whole
+from .batch import FileReport, Report
 
 
 class Output:
@@ -67,7 +68,7 @@ def resumed(output: Output, rows: Rows, files: Sequence[str], places: Dict[str, 
                 said = _said(output, row, rows, line)
                 _check(output, said, left, places, line)
                 left[said.file] -= 1
-                has_fault |= said.has_fault
+                has_fault |= bool(said.fault)
             elif row != rows.head:
                 raise output.refused(f"no {rows.name} head of minorder-batch", line)
             end += len(row)
@@ -79,32 +80,41 @@ def resumed(output: Output, rows: Rows, files: Sequence[str], places: Dict[str, 
     return _missing(files, left), has_fault
 
 
-def _said(output: Output, row: bytes, rows: Rows, line: int) -> Said:
+def _said(output: Output, row: bytes, rows: Rows, line: int) -> FileReport:
     try:
         return rows.said(row)
-    except ValueError:
-        raise output.refused(f"no {rows.name} row of minorder-batch", line) from None
+    except ValueError as error:
+        raise output.refused(f"no {rows.name} row of minorder-batch: {error}", line) from None
 
 
-def _check(output: Output, said: Said, left: CounterOf[str], places: Dict[str, str], line: int) -> None:
+def _check(output: Output, said: FileReport, left: CounterOf[str], places: Dict[str, str], line: int) -> None:
     """Raises Refused if a row isn't one that is missing, or its certificate is."""
     if said.file not in left:
         raise output.refused(f"{shown(said.file)} is none of the files", line)
     if not left[said.file]:
         raise output.refused(f"{shown(said.file)} has a row already", line)
-    if places and not said.has_fault and not _is_certified(said, places[said.file]):
-        raise output.refused(f"{shown(said.file)} has no certificate {places[said.file]}", line)
+    if places and said.report and not said.fault:
+        place = places[said.file]
+        fault = _fault_of_certificate(said.report, place)
+        if fault:
+            raise output.refused(f"{shown(said.file)}: its certificate {place} {fault}", line)
 
 
-def _is_certified(said: Said, place: str) -> bool:
-    """Whether a file has a certificate's text of what a row says."""
+def _fault_of_certificate(report: Report, place: str) -> str:
+    """Why a file is no certificate whose head says what a report does; nothing if it is one."""
+    if not os.path.isfile(place):
+        return "is no plain file" if os.path.lexists(place) else "isn't there"
     try:
         with open(place, "rb") as file:
-            text = file.read()
+            text = file.read(LIMIT + 1)
         check_text(text)
-    except (OSError, BadCertificate):
-        return False
-    return f"\n{said.certified}".encode("ascii") in text
+    except OSError as error:
+        return f"isn't read: {error.strerror}"
+    except BadCertificate as fault:
+        return f"is refused: {BadCertificate(fault.line, fault.kind)}"
+    lines = {"inputs": [report.inputs], "outputs": [report.outputs], "order": report.order, "levels": report.levels}
+    head = "".join(f"{name} {' '.join(map(str, it))}\n" for name, it in lines.items()) + f"total {report.nodes}\n"
+    return "" if text.partition(b"\n")[2].startswith(head.encode()) else "is another problem's"
 
 
 def _may_begin(cut: bytes, rows: Rows, left: CounterOf[str], is_first: bool) -> bool:

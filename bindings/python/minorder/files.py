@@ -1,7 +1,7 @@
 """The texts that minorder reads and writes: PLA files, which the library reads, and reports."""
 import os
 from ctypes import Array, byref, c_uint32, c_uint64
-from typing import Dict, Iterable, Tuple, Union
+from typing import Dict, Iterable, List, Tuple, Union
 
 from ._arguments import MOST, numbered_names
 from ._calls import done
@@ -13,6 +13,8 @@ from ._writing import path_of
 
 LIMIT = 16_777_216
 NO_PLA = 9
+# how many kinds of faults a PLA file may have
+KINDS = 15
 # the truth tables of a file take no more words
 MOST_WORDS = 16_384
 REPORT_LINES = ("order", "names", "levels", "nodes", "sifted order", "sifted nodes", "file order nodes")
@@ -43,6 +45,11 @@ def pla_of(content: bytes) -> Pla:
     xs, fs = numbered_names("x", inputs.value), numbered_names("f", outputs.value)
     return Pla(
         _tables(words, inputs.value, outputs.value), _names(content, input_names, xs), _names(content, output_names, fs))
+
+
+def fault_words() -> List[str]:
+    """The words of what is wrong with PLA files, as ``minorder`` prints them; the last one has no line."""
+    return [library().minorder_fault_text(kind).decode() for kind in range(1, KINDS + 1)]
 
 
 def _refusal(fault: Fault) -> BadPla:

@@ -10,6 +10,7 @@ import io
 import json
 import os
 import pty
+import re
 import resource
 import signal
 import subprocess
@@ -23,8 +24,10 @@ sys.path.insert(0, os.path.dirname(os.path.abspath(__file__)))
 from folders import ENVIRONMENT, InFolder  # noqa: E402
 from test_minorder import load_tests  # noqa: E402, F401
 
+from minorder._arguments import shown  # noqa: E402
 from minorder import _batch_command, _clusters, _progress, _threads, _writing, benchmarks  # noqa: E402
 
+SIFTED = re.compile(rb'"sifted_order": [^a-z]*"sifted_nodes": 3')
 MULTIPLEXER = ".i 3\n.o 1\n1-0 1\n-11 1\n.e\n"
 NAMES = ["-dash.pla", "a blank.pla", "quo\"te,s.pla", "line\nfeed.pla", "carriage\rreturn.pla", os.fsdecode(b"latin\xff.pla")]
 
@@ -93,7 +96,7 @@ class Resumed(InFolder):
             self.assertEqual(self.run_in("--resume", out, first, second, first, "none.pla"), (1, ""))
             self.assertEqual(self.content("rows"), b"".join(rows[it] for it in given + left))
         # what an earlier run found isn't sought again
-        out = self.put("rows", rows[0].replace(b'"sifted_nodes": 3', b'"sifted_nodes": 4'))
+        out = self.put("rows", SIFTED.sub(b'"sifted_order": [1, 0, 2], "sifted_nodes": 4', rows[0]))
         self.assertEqual(self.run_in("--resume", out, "--unordered", first), (0, ""))
         self.assertIn(b'"sifted_nodes": 4', self.content("rows"))
 
@@ -104,24 +107,91 @@ class Resumed(InFolder):
         for given, words, line, why in (
                 (row + other, (), 2, f"{second!r} is none of the files"),
                 (row + row, (), 2, f"{first!r} has a row already"),
-                (b"\n", (), 1, "no JSON row of minorder-batch"),
-                (row + row[9:], (), 2, "no JSON row of minorder-batch"),
-                (row + b"[" * 100000 + b"\n", (), 2, "no JSON row of minorder-batch"),
-                (row.replace(b'"status": 0', b'"status": 1'), (), 1, "no JSON row of minorder-batch"),
-                (row.replace(b'"nodes": 3', b'"nodes": 1'), (), 1, "no JSON row of minorder-batch"),
-                (row.replace(b'"levels": [1, 1, 1]', b'"levels": [1, 0, 2, 0]'), (), 1, "no JSON row of minorder-batch"),
-                (row.replace(b'"order": [2, 0, 1]', b'"order": [2, 0, 0]'), (), 1, "no JSON row of minorder-batch"),
-                (of_csv.replace(b",3,", b",1,", 1), ("--csv",), 2, "no CSV row of minorder-batch"),
-                (of_csv, (), 1, "no JSON row of minorder-batch"),
+                (b"\n", (), 1, "no JSON row of minorder-batch: it is no JSON"),
+                (row + row[9:], (), 2, "no JSON row of minorder-batch: it is no JSON"),
+                (row + b"[" * 100000 + b"\n", (), 2, "no JSON row of minorder-batch: it is no JSON"),
+                (of_csv, (), 1, "no JSON row of minorder-batch: it is no JSON"),
                 (row, ("--csv",), 1, "no CSV head of minorder-batch"),
-                (of_csv + b"it,0\n", ("--csv",), 3, "no CSV row of minorder-batch"),
+                (of_csv + b"it,0\n", ("--csv",), 3, "no CSV row of minorder-batch: it has 2 cells, not 12"),
                 (b"my notes", (), 1, "it is cut, and is no beginning of a JSON row that is missing"),
-                (row + row[:-1], (), 2, "it is cut, and is no beginning of a JSON row that is missing"),
-                (row, ("--certificates", self.folder), 1, f"{first!r} has no certificate {self.folder}/a.cert")):
-            out = self.put("rows", given)
-            said = f"minorder-batch: {out}: line {line}: {why}\n"
-            self.assertEqual(self.run_in(*words, "--resume", out, first), (3, said))
-            self.assertEqual(self.content("rows"), given)
+                (row + row[:-1], (), 2, "it is cut, and is no beginning of a JSON row that is missing")):
+            self.refused(given, f"line {line}: {why}", *words, first)
+
+    def refused(self, given, why, *words):
+        out = self.put("rows", given)
+        self.assertEqual(self.run_in(*words, "--resume", out), (3, f"minorder-batch: {out}: {why}\n"))
+        self.assertEqual(self.content("rows"), given)
+
+    def test_rows_that_no_run_writes(self):
+        first = self.put("a.pla", MULTIPLEXER)
+        row, of_csv = (json.loads(self.ended(first)[1]), self.ended("--csv", first)[1])
+        end = "no file ends with the status "
+        other = {"sifted_order": [1, 0, 2], "sifted_nodes": 4}
+        for changed, why in (
+                ({"status": False}, "status: False is no number"), ({"status": 0.0}, "status: 0.0 is no number"),
+                *(({"status": it}, f"{end}{it} and a report") for it in (1, 3, 4)),
+                ({"status": 5}, f"{end}5 and a report and no fault"),
+                ({"fault": "Device"}, f"{end}0 and a report and the fault 'Device'"),
+                ({"fault": ""}, f"{end}0 and a report and no fault"), ({"fault": None}, "a file and a fault are texts"),
+                ({"more": 1}, "no row has the fields file, status, inputs, outputs, names, order, levels, node..."),
+                ({"inputs": 3.0}, "inputs: 3.0 is no number from 0 on"), ({"levels": 3}, "levels: 3 is no list"),
+                ({"inputs": 17}, "17 inputs and 1 outputs, where there are 1 to 16"),
+                ({"outputs": 0}, "3 inputs and 0 outputs, where there are 1 to 16"),
+                ({"names": ["a", "b"]}, "names: 2, where there are 3 inputs"), ({"names": ["a", "b", 3]}, "names: 3 is no name"),
+                ({"names": ["a", "b", "c d"]}, "names: 'c d' is no name"), ({"names": ["a", "b", ""]}, "names: '' is no name"),
+                ({"levels": [-1, 2, 2]}, "levels: -1 is no number from 0 on"),
+                ({"nodes": 1}, "levels that sum to 3, and 1 nodes"),
+                ({"levels": [2, 1, 0]}, "levels: 2 nodes where level 0 has 1 at most"),
+                ({"levels": [1, 0, 2, 0]}, "levels: 4, where there are 3 inputs"),
+                ({"order": [2, 0, 0]}, "order 2 0 0: 0 is repeated"),
+                ({"sifted_order": [0, 1]}, "sifted_order: 2, where there are 3 inputs"),
+                ({"sifted_nodes": 2}, "nodes, sifted_nodes and file_order_nodes rise, to 5 at most: 3, 2, 5"),
+                ({**other, "file_order_nodes": 10}, "nodes, sifted_nodes and file_order_nodes rise, to 5 at most: 3, 4, 10"),
+                ({**other, "sifted_order": row["order"]}, "both 3 and 4 nodes under the order 2 0 1"),
+                ({**other, "sifted_order": [0, 1, 2]}, "both 4 and 5 nodes under the order 0 1 2")):
+            given = json.dumps({**row, **changed}).encode() + b"\n"
+            self.refused(given, f"line 1: no JSON row of minorder-batch: {why}", first)
+        for status, fault in ((0, "Device"), (3, "Device"), (3, "line 1: Device"), (3, "line 03: DontCare"),
+                              (3, "line 0: DontCare"), (4, "Device"), (5, "certificate: Device"), (5, "OutOfMemory")):
+            given = json.dumps({"file": first, "status": status, "fault": fault}).encode() + b"\n"
+            said = f"{end}{status} and no report{f' and the fault {fault!r}' if status else ''}"
+            self.refused(given, f"line 1: no JSON row of minorder-batch: {said}", first)
+        self.refused(b'{"file": "", "file": "", "status": 5, "fault": "Device"}\n',
+                     "line 1: no JSON row of minorder-batch: a field stands twice", first)
+        for number in (b"+3", b"03", b"3.0", b" 3", b"3_0", b"\xd9\xa3"):
+            why = f"inputs: {shown(number.decode())} is no number from 0 on"
+            given = of_csv.replace(b",3,", b",%b," % number, 1)
+            self.refused(given, f"line 2: no CSV row of minorder-batch: {why}", "--csv", first)
+
+    def test_rows_with_faults_that_runs_write(self):
+        texts = "", ".i 2\n.o 1\n11 -\n", MULTIPLEXER, "#" * (1 << 24) + "\n"
+        files = [self.put(f"{number}.pla", text) for number, text in enumerate(texts)]
+        os.makedirs(f"{self.folder}/certificates/2.cert")
+        for words in ((), ("--csv",)):
+            words = *words, "--certificates", f"{self.folder}/certificates"
+            status, wanted, _ = self.ended(*words, *files, "none.pla")
+            out = self.put("rows", wanted)
+            self.assertEqual((status, self.run_in(*words, "--resume", out, *files, "none.pla")), (1, (1, "")))
+            self.assertEqual(self.content("rows"), wanted)
+
+    def test_certificates_of_rows(self):
+        first, place = self.put("a.pla", MULTIPLEXER), f"{self.folder}/a.cert"
+        row = self.ended(first)[1]
+
+        def fails(why):
+            self.refused(row, f"line 1: {first!r}: its certificate {place} {why}", "--certificates", self.folder, first)
+
+        fails("isn't there")
+        os.mkfifo(place)
+        fails("is no plain file")
+        os.unlink(place)
+        self.put("a.cert", "my notes\n")
+        fails("is refused: line 1: BadLine")
+        self.ended("--certificates", self.folder, self.put("a.pla", MULTIPLEXER.replace("11 1", "11 0")))
+        fails("is another problem's")
+        self.ended("--certificates", self.folder, self.put("a.pla", MULTIPLEXER))
+        out = self.put("rows", row)
+        self.assertEqual(self.run_in("--certificates", self.folder, "--resume", out, first), (0, ""))
 
     def test_files_that_are_no_place_for_rows(self):
         first = self.put("a.pla", MULTIPLEXER)
