@@ -42,8 +42,23 @@ class Closed(io.StringIO):
         raise OSError(errno.EBADF, os.strerror(errno.EBADF))
 
 
+class Once(argparse.Action):
+    """Keeps a value; an option that is given twice is refused."""
+
+    def __call__(
+            self, parser: argparse.ArgumentParser, namespace: argparse.Namespace, values: Any, option: Optional[str] = None,
+    ) -> None:
+        if option is not None and getattr(namespace, self.dest) is not self.default:
+            raise argparse.ArgumentError(self, "given twice")
+        setattr(namespace, self.dest, values)
+
+
 class Parser(argparse.ArgumentParser):
-    """A parser of words that hides no failure of standard output."""
+    """A parser of words that hides no failure of standard output, and takes one value of an option."""
+
+    def __init__(self, *args: Any, **kwargs: Any) -> None:
+        super().__init__(*args, **kwargs)
+        self.register("action", None, Once)
 
     def _print_message(self, message: str, file: Optional[Any] = None) -> None:
         if file is sys.stdout:

@@ -60,6 +60,16 @@ class Ends(unittest.TestCase):
             with self.process(name, ["--version"], stdout=subprocess.PIPE) as process:
                 self.assertEqual(process.communicate()[0], f"{name} {minorder.__version__}\n")
 
+    def test_options_given_twice(self):
+        given = {
+            "minorder-batch": ("--list", "--certificates", "--resume", "--workers", "--dask"), "minorder-diagram": ("-o/--out",),
+            "minorder-functions": ("--jobs",), "minorder-orders": ("-o/--out", "--above", "--most"),
+            "minorder-score": ("--name", "--picture", "--jobs")}
+        for name, options in given.items():
+            for option in options:
+                status, errors = self.ended(name, [option.split("/")[0], "2", *COMMANDS[name][1], f"{option.split('/')[-1]}=2"])
+                self.assertEqual((status, errors.splitlines()[-1]), (2, f"{name}: error: argument {option}: given twice"))
+
     def test_closed_and_full_standard_output(self):
         for name, (_, words) in COMMANDS.items():
             for given in (words, ["--help"]):
