@@ -39,6 +39,8 @@ def row_of(found: Mapping[str, object]) -> FileReport:
     if isinstance(status, bool) or not isinstance(status, int):
         raise ValueError(f"status: {shown(status)} is no number")
     report = report_of(found) if "order" in found else None
+    if report:
+        _check_best(report)
     said = f"no file ends with the status {status} and {'a' if report else 'no'} report"
     faults = _faults_of(status).get(report is not None)
     if faults is None:
@@ -72,7 +74,7 @@ def report_of(found: Mapping[str, object]) -> Report:
                 raise ValueError(f"{name}: {shown(value)} is no number from 0 on")
     report = Report(**{name: tuple(it) if isinstance(it := found[name], list) else it for name in OF_REPORT})  # type: ignore
     _check_counts(report)
-    _check_sizes(report)
+    _sizes_of(report)
     return report
 
 
@@ -87,17 +89,28 @@ def _check_counts(it: Report) -> None:
             raise ValueError(f"{name} {' '.join(map(str, values))}: {fault}")
 
 
-def _check_sizes(it: Report) -> None:
+def _sizes_of(it: Report) -> Mapping[Tuple[int, ...], int]:
+    """The sizes by order. Raises ValueError if they contradict each other."""
     bounds = level_bounds(it.inputs, it.outputs)
     for level, (count, bound) in enumerate(zip(it.levels, bounds)):
         if count > bound:
             raise ValueError(f"levels: {count} nodes where level {level} has {bound} at most")
     if sum(it.levels) != it.nodes:
         raise ValueError(f"levels that sum to {sum(it.levels)}, and {it.nodes} nodes")
-    sizes = it.nodes, it.sifted_nodes, it.file_order_nodes, sum(bounds)
-    if list(sizes) != sorted(sizes):
-        raise ValueError("nodes, sifted_nodes and file_order_nodes rise, to {3} at most: {0}, {1}, {2}".format(*sizes))
-    known: Dict[Tuple[int, ...], int] = {}
-    for order, nodes in zip((it.order, it.sifted_order, tuple(range(it.inputs))), sizes):
-        if known.setdefault(order, nodes) != nodes:
-            raise ValueError(f"both {known[order]} and {nodes} nodes under the order {' '.join(map(str, order))}")
+    sizes: Dict[Tuple[int, ...], int] = {}
+    orders = it.order, it.sifted_order, tuple(range(it.inputs))
+    for order, nodes in zip(orders, (it.nodes, it.sifted_nodes, it.file_order_nodes)):
+        if sizes.setdefault(order, nodes) != nodes:
+            raise ValueError(f"both {sizes[order]} and {nodes} nodes under the order {' '.join(map(str, order))}")
+        if nodes > sum(bounds):
+            raise ValueError(f"{nodes} nodes, where diagrams have {sum(bounds)} at most")
+    return sizes
+
+
+def _check_best(it: Report) -> None:
+    """Raises ValueError if the order can't be the first of the fewest nodes among all orders."""
+    if not it.nodes <= it.sifted_nodes <= it.file_order_nodes:
+        raise ValueError(f"nodes, sifted_nodes and file_order_nodes rise: {it.nodes}, {it.sifted_nodes}, {it.file_order_nodes}")
+    first = min(order for order, nodes in _sizes_of(it).items() if nodes == it.nodes)
+    if first != it.order:
+        raise ValueError(f"the order {' '.join(map(str, first))} has {it.nodes} nodes, too, and comes first")

@@ -17,18 +17,20 @@ import sys
 from typing import NamedTuple, Optional, Sequence
 
 from . import _ends
-from ._arguments import shortened
+from ._arguments import MOST, shortened
 from ._calls import diagram, levels
 from ._diagrams import TEXTS, Diagram, suffix_of, write_diagrams
 from ._drawings import dot_of
-from ._orders import fault_of, words_of
+from ._orders import words_of
+from ._row_rules import report_of, values_of
 from ._tables import Pla
+from .batch import Report
 from .files import REPORT_LINES, parts_of
 from .levels_command import checked, read
 
 NAME = "minorder-diagram"
 OWN, REPORTED, ANOTHER = "the file's order", "the report's order", "another order"
-NO_REPORT = "standard input holds no report of minorder: name an ORDER, or add < /dev/null for the file's own"
+NO_REPORT = "standard input holds no report of minorder: {}; name an ORDER, or add < /dev/null for the file's own"
 NO_OTHER = "--both wants an ORDER, or a report of minorder on standard input"
 
 
@@ -44,49 +46,39 @@ def order_of(words: Sequence[str], names: Sequence[str]) -> list[int]:
     return [int(word) for word in checked(words_of(" ".join(words), names), names)]
 
 
-def lines_of(text: str) -> dict[str, str]:
-    """What stands behind the names of a report's lines. Raises ValueError if the text isn't one report."""
+def report_in(text: str) -> Report:
+    """The report that a text is; how many outputs its file has isn't known. Raises ValueError with why it is none."""
     lines = parts_of(text)
     if tuple(lines) != REPORT_LINES or len(text.splitlines()) != len(REPORT_LINES):
-        raise ValueError
-    if sum(int(word) for word in lines["levels"].split()) != int(lines["nodes"]):
-        raise ValueError
-    return lines
+        raise ValueError(f"it has not the lines {', '.join(REPORT_LINES)}" if text else "it is empty")
+    found = values_of({name.replace(" ", "_"): cell for name, cell in lines.items()})
+    return report_of({**found, "inputs": len(lines["order"].split()), "outputs": MOST})
 
 
-def numbers_of(lines: dict[str, str], name: str, inputs: int) -> list[int]:
-    """The order in a line of a report. Raises Refused."""
-    words = lines[name].split()
-    fault = fault_of(words, inputs)
-    if fault:
-        raise _ends.Refused(_ends.REFUSED, f"the report's {name} {' '.join(map(shortened, words))}: {fault}")
-    return [int(word) for word in words]
+def check_same(name: str, reported: object, own: object) -> None:
+    if reported != own:
+        said, wanted = shortened(str(reported)), shortened(str(own))
+        raise _ends.Refused(_ends.REFUSED, f"the report has the {name} {said}, and the file {wanted}")
 
 
-def check_sizes(file: Pla, lines: dict[str, str], order: Sequence[int], sifted: Sequence[int]) -> None:
-    """Raises Refused if a report has other names or sizes than the file's functions."""
-    said = {
-        "names": " ".join(file.inputs[x] for x in order), "sifted nodes": str(sum(levels(file.tables, sifted))),
-        "file order nodes": str(sum(levels(file.tables, own_order(file))))}
-    for name, wanted in said.items():
-        if lines[name] != wanted:
-            found = shortened(lines[name])
-            raise _ends.Refused(_ends.REFUSED, f"the report has the {name} {found}, and the file {shortened(wanted)}")
+def check_report(file: Pla, report: Report) -> None:
+    """Raises Refused if a report has other inputs, names or sizes than the file's functions."""
+    check_same("number of inputs", report.inputs, len(file.inputs))
+    check_same("names", " ".join(report.names), " ".join(file.inputs[x] for x in report.order))
+    check_same("sifted nodes", report.sifted_nodes, sum(levels(file.tables, report.sifted_order)))
+    check_same("file order nodes", report.file_order_nodes, sum(levels(file.tables, own_order(file))))
 
 
 def report_order(file: Pla) -> Optional[Wanted]:
     """The order of the report on standard input; nothing if that is closed, a terminal or a device."""
     if sys.stdin is None or stat.S_ISCHR(os.fstat(sys.stdin.fileno()).st_mode):
         return None
-    text = _ends.content_of("-").decode(errors="replace")
     try:
-        lines = lines_of(text)
-        counts = tuple(int(word) for word in lines["levels"].split())
-    except ValueError:
-        raise _ends.Refused(_ends.REFUSED, NO_REPORT) from None
-    order, sifted = (numbers_of(lines, name, len(file.inputs)) for name in ("order", "sifted order"))
-    check_sizes(file, lines, order, sifted)
-    return Wanted(order, REPORTED, counts)
+        report = report_in(_ends.content_of("-").decode(errors="replace"))
+    except ValueError as error:
+        raise _ends.Refused(_ends.REFUSED, NO_REPORT.format(error)) from None
+    check_report(file, report)
+    return Wanted(report.order, REPORTED, report.levels)
 
 
 def own_order(file: Pla) -> tuple[int, ...]:

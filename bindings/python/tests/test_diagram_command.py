@@ -17,8 +17,11 @@ EXAMPLES = os.path.abspath(f"{PACKAGE}/../../examples")
 MULTIPLEXER = f"{EXAMPLES}/mux2.pla"
 with open(f"{EXAMPLES}/mux2.report") as opened:
     REPORT = opened.read()
+with open(f"{EXAMPLES}/products3.report") as opened:
+    PRODUCTS = opened.read()
 LONG = "9" * 57 + "..."
-NO_REPORT = "standard input holds no report of minorder: name an ORDER, or add < /dev/null for the file's own"
+NO_REPORT = "standard input holds no report of minorder: {}; name an ORDER, or add < /dev/null for the file's own"
+LINES = "it has not the lines order, names, levels, nodes, sifted order, sifted nodes, file order nodes"
 
 
 class Command(unittest.TestCase):
@@ -81,9 +84,7 @@ class Command(unittest.TestCase):
 
     @unittest.skipUnless(shutil.which("dot"), "no dot here")
     def test_the_picture_of_the_readme(self):
-        with open(f"{EXAMPLES}/products3.report") as file:
-            report = file.read()
-        self.assertEqual(self.ran("--both", "-o", "it.svg", f"{EXAMPLES}/products3.pla", given=report), (0, "", ""))
+        self.assertEqual(self.ran("--both", "-o", "it.svg", f"{EXAMPLES}/products3.pla", given=PRODUCTS), (0, "", ""))
         with open(f"{self.folder}/it.svg") as file:
             text = file.read()
         self.assertEqual(text.count("<ellipse"), 14 + 6)
@@ -99,7 +100,6 @@ class Command(unittest.TestCase):
     def test_refusals_are_a_line_and_leave_no_file(self):
         with open(f"{self.folder}/hello.pla", "w") as file:
             file.write("hello\n")
-        wrong = REPORT.replace("levels: 1 1 1\nnodes: 3", "levels: 1 1 2\nnodes: 4")
         ends = "the name of a diagram's file ends in .bdd, .json, .dot, .pdf, .png or .svg"
         for words, given, status, message in (
                 (("no.pla",), None, 5, "no.pla: No such file or directory"),
@@ -108,25 +108,24 @@ class Command(unittest.TestCase):
                 ((MULTIPLEXER, "s,a"), None, 2, "s a: b is missing"),
                 ((MULTIPLEXER, ""), None, 2, "an order is empty"),
                 ((MULTIPLEXER, "2,0,1", "0,1,2"), None, 2, "2 0 1 0 1 2: 0 is repeated"),
-                ((MULTIPLEXER,), "", 3, NO_REPORT),
                 ((MULTIPLEXER, "9" * 5000), None, 2, f"{LONG}: {LONG} is out of range: the file's inputs are 0 to 2"),
                 (("--both", MULTIPLEXER), None, 2, "--both wants an ORDER, or a report of minorder on standard input"),
-                ((MULTIPLEXER,), "".join(REPORT.splitlines(True)[:4]), 3, NO_REPORT),
-                ((MULTIPLEXER,), REPORT + REPORT, 3, NO_REPORT),
-                ((MULTIPLEXER,), REPORT.replace("nodes: 3", "nodes: 4", 1), 3, NO_REPORT),
-                ((MULTIPLEXER,), REPORT.replace("nodes: 3", "nodes", 1), 3, NO_REPORT),
-                ((MULTIPLEXER,), REPORT.replace("levels: 1", "levels: " + "9" * 5000), 3, NO_REPORT),
-                ((MULTIPLEXER,), REPORT.replace("order: 2 0 1", "order: " + "9" * 5000, 1), 3,
-                 f"the report's order {LONG}: {LONG} is out of range: the file's inputs are 0 to 2"),
-                ((MULTIPLEXER,), REPORT.replace("2 0 1", "2 0 0", 1), 3, "the report's order 2 0 0: 0 is repeated"),
-                ((MULTIPLEXER,), wrong, 3, "the report has the level counts 1 1 2, and the diagram 1 1 1"),
-                ((MULTIPLEXER,), REPORT.replace("s a b", "q q q"), 3, "the report has the names q q q, and the file s a b"),
-                ((MULTIPLEXER,), REPORT.replace("sifted order: 2", "sifted order: x"), 3,
-                 "the report's sifted order x 0 1: x is no input of the file"),
-                ((MULTIPLEXER,), REPORT.replace("sifted nodes: 3", "sifted nodes: 2"), 3,
-                 "the report has the sifted nodes 2, and the file 3"),
-                ((MULTIPLEXER,), REPORT.replace("file order nodes: 5", "file order nodes: 1"), 3,
-                 "the report has the file order nodes 1, and the file 5"),
+                *(((MULTIPLEXER,), text, 3, NO_REPORT.format(why)) for text, why in (
+                    ("", "it is empty"), ("".join(REPORT.splitlines(True)[:4]), LINES), (REPORT + REPORT, LINES),
+                    (REPORT.replace("nodes: 3", "nodes", 1), LINES),
+                    (REPORT.replace("nodes: 3", "nodes: 4", 1), "levels that sum to 3, and 4 nodes"),
+                    (REPORT.replace("nodes: 3", "nodes: 03", 1), "nodes: '03' is no number from 0 on"),
+                    (REPORT.replace("levels: 1", "levels: " + "9" * 5000), f"levels: '{LONG[1:]} is no number from 0 on"),
+                    (REPORT.replace("order: 2 0 1", "order: " + "9" * 5000, 1), f"order: '{LONG[1:]} is no number from 0 on"),
+                    (REPORT.replace("order: 2 0 1", "order: 02 0 1", 1), "order: '02' is no number from 0 on"),
+                    (REPORT.replace("2 0 1", "2 0 0", 1), "order 2 0 0: 0 is repeated"),
+                    (REPORT.replace("sifted nodes: 3", "sifted nodes: 2"), "both 3 and 2 nodes under the order 2 0 1"))),
+                *(((MULTIPLEXER,), text, 3, f"the report has the {why}") for text, why in (
+                    (PRODUCTS, "number of inputs 6, and the file 3"),
+                    (REPORT.replace("levels: 1 1 1", "levels: 1 2 0"), "level counts 1 2 0, and the diagram 1 1 1"),
+                    (REPORT.replace("s a b", "q q q"), "names q q q, and the file s a b"),
+                    (REPORT.replace("sifted order: 2 0 1", "sifted order: 1 0 2"), "sifted nodes 3, and the file 5"),
+                    (REPORT.replace("file order nodes: 5", "file order nodes: 4"), "file order nodes 4, and the file 5"))),
                 (("-o", "it.gif", MULTIPLEXER), None, 2, f"it.gif: {ends}"),
                 (("-o", "", MULTIPLEXER), None, 2, f"'': {ends}"),
                 (("-o", "no/.SVG", MULTIPLEXER), None, 2, "no/.SVG: a diagram's file has a name in front of its suffix"),

@@ -145,8 +145,9 @@ class Resumed(InFolder):
                 ({"levels": [1, 0, 2, 0]}, "levels: 4, where there are 3 inputs"),
                 ({"order": [2, 0, 0]}, "order 2 0 0: 0 is repeated"),
                 ({"sifted_order": [0, 1]}, "sifted_order: 2, where there are 3 inputs"),
-                ({"sifted_nodes": 2}, "nodes, sifted_nodes and file_order_nodes rise, to 5 at most: 3, 2, 5"),
-                ({**other, "file_order_nodes": 10}, "nodes, sifted_nodes and file_order_nodes rise, to 5 at most: 3, 4, 10"),
+                ({"sifted_order": [1, 0, 2], "sifted_nodes": 2}, "nodes, sifted_nodes and file_order_nodes rise: 3, 2, 5"),
+                ({**other, "file_order_nodes": 6}, "6 nodes, where diagrams have 5 at most"),
+                ({**other, "sifted_nodes": 3}, "the order 1 0 2 has 3 nodes, too, and comes first"),
                 ({**other, "sifted_order": row["order"]}, "both 3 and 4 nodes under the order 2 0 1"),
                 ({**other, "sifted_order": [0, 1, 2]}, "both 4 and 5 nodes under the order 0 1 2")):
             given = json.dumps({**row, **changed}).encode() + b"\n"
