@@ -3,7 +3,7 @@ import re
 from fractions import Fraction
 from functools import lru_cache
 from operator import index
-from typing import Iterable, Mapping, Sequence, Tuple
+from typing import Iterable, Mapping, Optional, Sequence, Tuple
 
 from ._errors import BadArgument, BadOrder, BadShape
 
@@ -65,13 +65,22 @@ def native(it: object) -> object:
     return it.tolist() if hasattr(it, "tolist") else it
 
 
-def order_of(order: Sequence[int]) -> Tuple[int, ...]:
-    """An order, top first. Raises BadArgument, BadShape, BadOrder."""
+def truth_of(value: object, named: str) -> bool:
+    """A bool, or a 0 or 1 in its place."""
+    plain = native(value)
+    if isinstance(plain, int) and plain in (0, 1):
+        return bool(plain)
+    raise BadArgument(f"{named}: {shown(value)} is neither True nor False")
+
+
+def order_of(order: Sequence[int], inputs: Optional[int] = None) -> Tuple[int, ...]:
+    """An order, top first, of the variables of tables, if these say how many they are. Raises BadArgument, BadShape, BadOrder."""
     variables = tuple(whole(variable, "order") for variable in in_turn(order, "order", "sequence of variables"))
     if not 1 <= len(variables) <= MOST:
         raise BadShape(f"order: {len(variables)} variables: there are 1 to {MOST}")
-    if sorted(variables) != list(range(len(variables))):
-        raise BadOrder(f"order: {shown(variables)}: an order has each of 0 to {len(variables) - 1} once")
+    count, said = (len(variables), "") if inputs is None else (inputs, f"the tables have {inputs} variables, and ")
+    if sorted(variables) != list(range(count)):
+        raise BadOrder(f"order: {shown(variables)}: {said}an order has each of 0 to {count - 1} once")
     return variables
 
 
@@ -98,7 +107,7 @@ def names_of(names: object, named: str, count: int) -> Tuple[str, ...]:
     """So many names. Raises BadArgument, BadShape."""
     found = []
     for name in in_turn(names, named, "sequence of names"):
-        if not isinstance(name, str) or not is_text(name):
+        if not isinstance(name, str) or not name or not is_text(name):
             raise BadArgument(f"{named}: {shown(name)} is no name")
         found.append(name)
     if len(found) != count:

@@ -125,10 +125,7 @@ def _ordered(tables: Tables, order: Order) -> Tuple[Functions, Tuple[int, ...]]:
 
 def variables_of(order: Order, inputs: Optional[int]) -> Tuple[int, ...]:
     """An order, top first, of so many variables, of any number if that is None. Raises BadArgument, BadShape, BadOrder."""
-    variables = order_of(order.order if isinstance(order, Result) else order)
-    if inputs not in (None, len(variables)):
-        raise BadOrder(f"order: {shown(variables)}: the tables have {inputs} variables, and an order has each once")
-    return variables
+    return order_of(order.order if isinstance(order, Result) else order, inputs)
 
 
 def _result_of(functions: Functions, order: Iterable[int], levels: Iterable[int], total: int) -> Result:

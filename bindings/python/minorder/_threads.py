@@ -11,7 +11,7 @@ from threading import Thread, current_thread, main_thread
 from typing import Any, Callable, Dict, Generic, Optional, Tuple, TypeVar
 
 from ._arguments import shown, whole
-from ._errors import BadShape
+from ._errors import BadArgument, BadShape
 
 T = TypeVar("T")
 Key = TypeVar("Key")
@@ -97,10 +97,12 @@ def workers_of(workers: Optional[int]) -> int:
 
 class Crew(Generic[Key]):
     """Threads, or an executor's workers, which are given tasks, each with a key, and give what the work makes of them as it is
-    done. A task that fails with an executor is done here, with a warning."""
+    done. A task that fails with an executor is done here, with a warning. Raises BadArgument, BadShape."""
 
     def __init__(self, work: Callable[[bytes], bytes], workers: Optional[int], executor: Optional[Executor]) -> None:
         count = workers_of(workers)
+        if executor is not None and (isinstance(executor, type) or not callable(getattr(executor, "submit", None))):
+            raise BadArgument(f"executor: {shown(executor)} is no executor of concurrent.futures")
         self._work, self._executor = work, executor
         self._pool = Threads(count) if executor is None else executor
         # one more than there are threads, so that none waits for its next task

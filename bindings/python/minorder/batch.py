@@ -6,7 +6,7 @@ from dataclasses import dataclass
 from enum import IntEnum
 from typing import Any, Dict, Iterable, Iterator, List, Optional, Sequence, Tuple, Union
 
-from ._arguments import shown
+from ._arguments import items_of, shown, truth_of
 from ._calls import certify, exact, levels, sift
 from ._errors import BadArgument, BadPla
 from ._handing_out import Waiting
@@ -137,9 +137,7 @@ def _part_of(numbers: Sequence[int], files: Sequence[str], with_certificate: boo
 
 def files_of(paths: Iterable[Path]) -> List[str]:
     """The names of files. Raises BadArgument."""
-    if isinstance(paths, (str, bytes, os.PathLike)):
-        raise BadArgument(f"paths: {shown(paths)} is no sequence of paths")
-    return [path_of(path, "paths") for path in paths]
+    return [path_of(path, "paths") for path in items_of(paths, "paths", "sequence of paths")]
 
 
 def certificates_of(files: Sequence[str], folder: str) -> Dict[str, str]:
@@ -188,7 +186,7 @@ def report_files(
     have this package and the library; this process alone reads and writes files. Raises BadArgument if two files have the same
     name of a certificate, and OSError if the folder can't be made.
     """
-    files, places = files_of(paths), {}
+    files, places, ordered = files_of(paths), {}, truth_of(ordered, "ordered")
     if certificates is not None:
         places = certificates_of(files, path_of(certificates, "certificates"))
         os.makedirs(certificates, exist_ok=True)

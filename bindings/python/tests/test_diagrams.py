@@ -126,6 +126,8 @@ class Values(unittest.TestCase):
                 (lambda: minorder.diagram(6, "01"), minorder.BadArgument, "order: '01'"),
                 (lambda: minorder.diagram(99, [0, 1]), minorder.BadShape, "tables: "),
                 (lambda: minorder.diagram(MULTIPLEXER, [0, 1]), minorder.BadOrder, "order: (0, 1): the tables have 3 variables"),
+                (lambda: minorder.diagram(MULTIPLEXER, [0, 0, 5, 1]), minorder.BadOrder,
+                 "order: (0, 0, 5, 1): the tables have 3 variables, and an order has each of 0 to 2 once"),
                 (lambda: found.evaluate(8), minorder.BadShape, "point: 8: the points of 3 variables are 0 to 7"),
                 (lambda: found.evaluate((0, 1, 1)), minorder.BadArgument, "point: (0, 1, 1)"),
                 (lambda: found.save(7), minorder.BadArgument, "path: 7"),

@@ -8,6 +8,7 @@ import contextlib
 import io
 import json
 import os
+import pathlib
 import random
 import signal
 import subprocess
@@ -237,9 +238,18 @@ class Files(unittest.TestCase):
             self.assertEqual(self.command("--dask", "no address", *self.files), (2, ""))
 
     def test_what_is_no_path(self):
-        for paths in ("it.pla", [3], [None], [b"it.pla"]):
+        for paths in ("it.pla", [3], [None], [b"it.pla"], None, 3, pathlib.Path("it.pla")):
             with self.assertRaisesRegex(minorder.BadArgument, "^paths: "):
                 list(minorder.report_files(paths))
+
+    def test_other_arguments(self):
+        for executor in (5, "x", [], concurrent.futures.ThreadPoolExecutor):
+            for call in (lambda: minorder.exact_many([6], 2, executor=executor),
+                         lambda: list(minorder.report_files([], executor=executor))):
+                with self.assertRaisesRegex(minorder.BadArgument, "^executor: .* is no executor of concurrent.futures$"):
+                    call()
+        with self.assertRaisesRegex(minorder.BadArgument, "^ordered: 'no' is neither True nor False$"):
+            list(minorder.report_files([], ordered="no"))
 
     def test_the_command(self):
         inner = f"{self.folder}/inner"

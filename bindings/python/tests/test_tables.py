@@ -166,6 +166,7 @@ class Variables(Refusing):
         for inputs in (0, 17, "", " ", [], "a " * 17):
             self.refused(minorder.BadShape, "inputs: ", minorder.variables, inputs)
         self.refused(minorder.BadShape, "inputs: a stands twice", minorder.variables, "a b a")
+        self.refused(minorder.BadArgument, "inputs: '' is no name", minorder.variables, ["a", ""])
         for inputs in (None, 1.5, True, b"a b", {"a", "b"}, {"a": 1}, [1, 2]):
             self.refused(minorder.BadArgument, "inputs: ", minorder.variables, inputs)
 
