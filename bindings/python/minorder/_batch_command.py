@@ -5,6 +5,7 @@ refused, 3 if LIST or OUT is, 4 if memory is out, 5 if a list or a folder can't 
 write failed.
 """
 import argparse
+import codecs
 import os
 import sys
 import warnings
@@ -35,7 +36,7 @@ def _files_of(paths: Sequence[str]) -> Iterator[str]:
 
 def _listed(path: str) -> List[str]:
     """The names in a list, one a line, whatever ends it."""
-    lines = _ends.content_of(path).replace(b"\r\n", b"\n").split(b"\n")
+    lines = _ends.content_of(path).removeprefix(codecs.BOM_UTF8).replace(b"\r\n", b"\n").split(b"\n")
     for number, line in enumerate(lines, 1):
         if b"\0" in line:
             name = "standard input" if path == "-" else path
@@ -100,6 +101,8 @@ def command(words: argparse.ArgumentParser, given: argparse.Namespace) -> int:
         words.error("no FILE and no LIST")
     workers_of(given.workers)
     files = list(_files_of([*given.files, *(_listed(given.list) if given.list else ())]))
+    if given.resume is not None:
+        _ends.check_out(given.resume, [*files, *([] if given.list is None else [given.list])])
     places = {} if given.certificates is None else certificates_of(files, given.certificates)
     rows: Rows = CsvRows() if given.csv else JsonRows()
     with ExitStack() as stack:

@@ -13,11 +13,11 @@ import os
 import signal
 import sys
 from contextlib import suppress
-from typing import Any, Callable, NoReturn, Optional, Sequence, TextIO
+from typing import Any, Callable, Iterable, NoReturn, Optional, Sequence, TextIO
 
 from ._arguments import on_a_line
 from ._errors import MinorderError, NoGraphviz, NoLibrary, NoMatplotlib
-from ._writing import named
+from ._writing import named, overwritten
 
 NO_LIBRARY, BAD_WORDS, REFUSED, OUT_OF_MEMORY, DEVICE = range(1, 6)
 OUTPUT = "standard output"
@@ -168,3 +168,9 @@ def content_of(path: str) -> bytes:
             return file.read()
     except OSError as error:
         raise named(error, "standard input" if path == "-" else path) from None
+
+
+def check_out(path: str, read: Iterable[str]) -> None:
+    """Raises Refused if the file to be written is one of those that are read."""
+    if overwritten([path], read) is not None:
+        raise Refused(BAD_WORDS, f"{path}: it is one of the files that are read")

@@ -11,7 +11,7 @@ import tempfile
 from contextlib import contextmanager, nullcontext, suppress
 from threading import current_thread, main_thread
 from types import FrameType
-from typing import Callable, Iterator, Mapping, Optional, Sequence
+from typing import Callable, Iterable, Iterator, Mapping, Optional, Sequence
 
 from ._arguments import shown
 from ._errors import BadArgument, BadPath
@@ -91,6 +91,21 @@ def _replace(place: str, mode: Optional[int], content: bytes) -> None:
             with suppress(OSError):
                 os.unlink(part)
             raise
+
+
+def overwritten(written: Iterable[str], read: Iterable[str]) -> Optional[str]:
+    """The first of the paths to be written that leads to a plain file which is read; None if none does."""
+    known = {_identity(path) for path in read} - {None}
+    return next((path for path in written if _identity(path) in known), None)
+
+
+def _identity(path: str) -> Optional[tuple[int, int]]:
+    """What all paths to a plain file have alike; None if there is none."""
+    with suppress(OSError, ValueError):
+        found = os.stat(path)
+        if stat.S_ISREG(found.st_mode):
+            return found.st_dev, found.st_ino
+    return None
 
 
 def write_whole(number: int, line: bytes) -> None:

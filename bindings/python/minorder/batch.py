@@ -11,7 +11,7 @@ from ._calls import certify, exact, levels, sift
 from ._errors import BadArgument, BadPla
 from ._handing_out import Waiting
 from ._threads import Crew, workers_of
-from ._writing import path_of, write_file
+from ._writing import overwritten, path_of, write_file
 from .files import LIMIT, pla_of
 
 Path = Union[str, "os.PathLike[str]"]
@@ -148,6 +148,9 @@ def certificates_of(files: Sequence[str], folder: str) -> Dict[str, str]:
         other = places.setdefault(place, file)
         if other != file:
             raise BadArgument(f"certificates: {shown(other)} and {shown(file)} would have the same, {place}")
+    lost = overwritten(places, files)
+    if lost is not None:
+        raise BadArgument(f"certificates: {shown(lost)} is one of the files that are read")
     return {file: place for place, file in places.items()}
 
 
@@ -184,7 +187,7 @@ def report_files(
     certificate is put there before its report is yielded, as NAME.cert of NAME.pla. The work is done by ``workers`` threads, as
     many as there are processors if that is left out, or by an executor of ``concurrent.futures`` with so many workers, which
     have this package and the library; this process alone reads and writes files. Raises BadArgument if two files have the same
-    name of a certificate, and OSError if the folder can't be made.
+    name of a certificate or one is in its place, and OSError if the folder can't be made.
     """
     files, places, ordered = files_of(paths), {}, truth_of(ordered, "ordered")
     if certificates is not None:

@@ -93,7 +93,7 @@ def part_of(file: Pla, wanted: Wanted) -> tuple[str, Diagram]:
     return OWN if made.order == own_order(file) else wanted.said, made
 
 
-def check_out(path: str, both: bool) -> None:
+def check_suffix(path: str, both: bool) -> None:
     suffix = suffix_of(path)
     if both and suffix in TEXTS:
         raise _ends.Refused(_ends.BAD_WORDS, f"{path}: a {suffix} file has one diagram, and --both draws two")
@@ -101,7 +101,8 @@ def check_out(path: str, both: bool) -> None:
 
 def command(given: argparse.Namespace) -> int:
     if given.out is not None:
-        check_out(given.out, given.both)
+        check_suffix(given.out, given.both)
+        _ends.check_out(given.out, [given.file])
     file = read(given.file)
     own = Wanted(own_order(file), OWN)
     if given.order:

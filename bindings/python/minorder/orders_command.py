@@ -12,7 +12,7 @@ from __future__ import annotations
 import argparse
 import re
 import sys
-from typing import Iterator, Optional, Sequence, Union
+from typing import Iterator, Mapping, Optional, Sequence, Union
 
 from . import _ends
 from ._all_orders import sizes
@@ -23,12 +23,12 @@ from ._errors import BadSize
 from ._orders import MOST_DIGITS
 from ._size_files import TEXTS, median_of, suffix_of, write_sizes
 from ._sizes import Sizes
-from ._tables import Pla
 from .diagram_command import order_of
 from .levels_command import read
 
 NAME = "minorder-orders"
 VARIABLE = "(?:0|1[0-5]|[1-9])"
+Value = Union[int, list[int]]
 PAIRS = re.compile(f"{VARIABLE},{VARIABLE}(?::{VARIABLE},{VARIABLE})*")
 
 
@@ -51,7 +51,7 @@ def marks_of(words: Sequence[str]) -> dict[str, str]:
     return found
 
 
-def value_of(name: str, value: str, inputs: Sequence[str]) -> Union[int, list[int]]:
+def value_of(name: str, value: str, inputs: Sequence[str]) -> Value:
     """The size or the order that a mark stands for."""
     try:
         if not value.isascii() or not value.isdigit():
@@ -72,14 +72,19 @@ def pairs_of(text: Optional[str]) -> list[tuple[int, int]]:
     return [(int(above), int(below)) for above, below in (pair.split(",") for pair in text.split(":"))]
 
 
-def sizes_of(file: Pla, marks: dict[str, str], above: Sequence[tuple[int, int]], most: Optional[int]) -> Sizes:
+def marked(found: Sizes, values: Mapping[str, Value]) -> Sizes:
     """The sizes of a file's functions, with what is marked."""
-    values = {name: value_of(name, value, file.inputs) for name, value in marks.items()}
-    found = sizes(file, above=above, most=most)
     try:
         return found.marked(**values)
     except BadSize as error:
         raise NotOfFile(str(error).partition(": ")[2]) from None
+
+
+def notes_of(values: Mapping[str, Value], above: Sequence[tuple[int, int]]) -> Iterator[str]:
+    """A note of each marked order that doesn't keep the pairs."""
+    for name, order in values.items():
+        if isinstance(order, list) and any(order.index(one) > order.index(other) for one, other in above):
+            yield f"--mark {shortened(name)}: the order doesn't keep the pairs of --above"
 
 
 def orders_said(count: int) -> str:
@@ -115,16 +120,21 @@ def text_of(parts: Parts) -> str:
 def command(given: argparse.Namespace) -> int:
     if given.out is not None:
         suffix_of(given.out)
+        _ends.check_out(given.out, given.files)
     if given.marks and (given.text == ".csv" or (given.out or "").lower().endswith(".csv")):
         raise _ends.Refused(_ends.BAD_WORDS, "--mark: CSV has no marks")
     marks, above = marks_of(given.marks), pairs_of(given.above)
-    parts = []
+    parts, notes = [], []
     for path in given.files:
+        file, begin = read(path), f"{path}: " if len(given.files) > 1 else ""
         try:
-            parts.append((path, sizes_of(read(path), marks, above, given.most)))
+            values = {name: value_of(name, value, file.inputs) for name, value in marks.items()}
+            found = sizes(file, above=above, most=given.most)
+            notes += [f"{begin}{note}" for note in notes_of(values, above)]
+            parts.append((path, marked(found, values)))
         except NotOfFile as refusal:
-            file = f"{path}: " if len(given.files) > 1 else ""
-            raise _ends.Refused(_ends.BAD_WORDS, f"{file}--mark {refusal}") from None
+            raise _ends.Refused(_ends.BAD_WORDS, *notes, f"{begin}--mark {refusal}") from None
+    _ends.say(NAME, *notes)
     if given.out is not None:
         write_sizes(given.out, parts)
     else:

@@ -100,6 +100,8 @@ def command(parser: argparse.ArgumentParser, given: argparse.Namespace) -> int:
         parser.error("--jobs: at least 1")
     if given.picture and not given.picture.endswith((".svg", ".png", ".pdf")):
         parser.error("--picture: the name of a file that ends in .svg, .png or .pdf")
+    if given.picture:
+        _ends.check_out(given.picture, [given.results])
     try:
         families = families_of(given.families)
     except benchmarks.UnknownName as error:

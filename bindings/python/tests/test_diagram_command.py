@@ -98,8 +98,9 @@ class Command(unittest.TestCase):
             self.assertEqual(file.read(), other.read())
 
     def test_refusals_are_a_line_and_leave_no_file(self):
-        with open(f"{self.folder}/hello.pla", "w") as file:
-            file.write("hello\n")
+        for name in ("hello.pla", "hello.dot"):
+            with open(f"{self.folder}/{name}", "w") as file:
+                file.write("hello\n")
         ends = "the name of a diagram's file ends in .bdd, .json, .dot, .pdf, .png or .svg"
         for words, given, status, message in (
                 (("no.pla",), None, 5, "no.pla: No such file or directory"),
@@ -129,10 +130,11 @@ class Command(unittest.TestCase):
                 (("-o", "it.gif", MULTIPLEXER), None, 2, f"it.gif: {ends}"),
                 (("-o", "", MULTIPLEXER), None, 2, f"'': {ends}"),
                 (("-o", "no/.SVG", MULTIPLEXER), None, 2, "no/.SVG: a diagram's file has a name in front of its suffix"),
+                (("-o", "hello.dot", "hello.dot"), None, 2, "hello.dot: it is one of the files that are read"),
                 (("-o", "it.bdd", "--both", MULTIPLEXER), None, 2, "it.bdd: a .bdd file has one diagram, and --both draws two"),
                 (("-o", "no/it.dot", MULTIPLEXER), None, 5, "no/it.dot: No such file or directory")):
             self.assertEqual(self.ran(*words, given=given), (status, "", f"minorder-diagram: {message}\n"), words)
-        self.assertEqual(os.listdir(self.folder), ["hello.pla"])
+        self.assertEqual(sorted(os.listdir(self.folder)), ["hello.dot", "hello.pla"])
 
     def test_a_temporary_file_that_is_not_written(self):
         limit = "import resource; resource.setrlimit(resource.RLIMIT_FSIZE, (1024, 1024)); "

@@ -75,6 +75,25 @@ class Command(unittest.TestCase):
         wanted = TEXT.replace("median: 4 nodes", "median: above 3 nodes")
         self.assertEqual(self.ran("--most", "3", MULTIPLEXER), (0, f"file: {MULTIPLEXER}\n{wanted}", ""))
 
+    def test_marks_of_orders_that_do_not_keep_the_pairs(self):
+        note = "minorder-orders: --mark m: the order doesn't keep the pairs of --above\n"
+        for words in ((), ("--json",), ("-o", "it.svg")):
+            status, _, errors = self.ran(*words, "--above", "0,2", "--mark", "m=2,0,1", "--mark", "n=0,1,2", MULTIPLEXER)
+            self.assertEqual((status, errors), (0, note))
+        status, _, errors = self.ran("--above", "2,0", "--most", "3", "--mark", "m=0,1,2", MULTIPLEXER)
+        beyond = "minorder-orders: --mark m: 5: beyond 3 nodes, up to which sizes are counted\n"
+        self.assertEqual((status, errors), (2, note + beyond))
+
+    def test_a_file_that_is_read_is_not_written(self):
+        shutil.copy(MULTIPLEXER, f"{self.folder}/it.csv")
+        os.link(f"{self.folder}/it.csv", f"{self.folder}/same.csv")
+        os.symlink("it.csv", f"{self.folder}/link.csv")
+        for name in ("it.csv", "./it.csv", "same.csv", "link.csv"):
+            self.assertEqual(self.ran("-o", name, MULTIPLEXER, "it.csv"), (
+                2, "", f"minorder-orders: {name}: it is one of the files that are read\n"))
+        with open(MULTIPLEXER) as file:
+            self.assertEqual([file.read()] * 2, [self.content("it.csv"), self.content("same.csv")])
+
     def test_json_and_csv(self):
         status, text, _ = self.ran("--json", MULTIPLEXER, HIDDEN, "--mark", "own=5")
         rows = [json.loads(line) for line in text.splitlines()]

@@ -2,6 +2,7 @@
 
     python3 -m unittest discover -s bindings/python/tests -p test_resume.py
 """
+import codecs
 import concurrent.futures
 import contextlib
 import errno
@@ -80,7 +81,7 @@ class Resumed(InFolder):
         status, written, errors = self.ended("--", *files)
         self.assertEqual((status, [json.loads(it)["file"] for it in written.splitlines()], errors), (0, files, b""))
         self.assertEqual(self.ended("--", NAMES[0])[0], 0)
-        listed = self.put("list", b"\n".join(os.fsencode(it) for it in files if "\n" not in it))
+        listed = self.put("list", codecs.BOM_UTF8 + b"\n".join(os.fsencode(it) for it in files if "\n" not in it))
         _, written, _ = self.ended("--list", listed)
         self.assertEqual([json.loads(it)["file"] for it in written.splitlines()], [it for it in files if "\n" not in it])
         self.put("list", b"a.pla\nb.pla\0c.pla\0")
@@ -196,6 +197,13 @@ class Resumed(InFolder):
 
     def test_files_that_are_no_place_for_rows(self):
         first = self.put("a.pla", MULTIPLEXER)
+        empty = self.put("empty.cert", "")
+        for words, said in (
+                (("--resume", empty, first, empty), f"{empty}: it is one of the files that are read"),
+                (("--list", empty, "--resume", empty, first), f"{empty}: it is one of the files that are read"),
+                (("--certificates", self.folder, first, empty), f"certificates: {empty!r} is one of the files that are read")):
+            self.assertEqual(self.run_in(*words), (2, f"minorder-batch: {said}\n"))
+        self.assertEqual(self.content("empty.cert"), b"")
         os.mkfifo(f"{self.folder}/pipe")
         for place in ("/dev/null", f"{self.folder}/pipe"):
             said = f"minorder-batch: {place}: no plain file, as --resume needs\n"

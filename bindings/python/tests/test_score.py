@@ -330,7 +330,9 @@ class Commands(unittest.TestCase):
         self.assertEqual(scored("name,nodes\nhwb8,43\n")[0], 3)
         self.assertEqual(scored("name,nodes\nhwb8,44\n", "--json", "--csv")[0], 2)
         self.assertEqual(scored("name,nodes\nhwb8,44\n", "--picture", "it.txt")[0], 2)
-        with contextlib.redirect_stderr(io.StringIO()):
+        with contextlib.redirect_stderr(io.StringIO()) as errors, tempfile.NamedTemporaryFile(suffix=".svg") as file:
+            self.assertEqual(score.main([file.name, "--picture", file.name]), 2)
+            self.assertEqual(errors.getvalue(), f"minorder-score: {file.name}: it is one of the files that are read\n")
             self.assertEqual(score.main(["/there/is/none.csv"]), 5)
 
 
