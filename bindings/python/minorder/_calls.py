@@ -1,6 +1,6 @@
 """The calls, each one call of the library."""
 from ctypes import Array, byref, c_size_t, c_uint8, c_uint32, c_uint64
-from functools import cached_property
+from functools import cached_property, lru_cache
 from struct import iter_unpack
 from typing import Iterable, Mapping, NamedTuple, Optional, Sequence, Tuple, Type, Union
 
@@ -242,11 +242,12 @@ def _diagram_of(functions: Functions, order: Tuple[int, ...]) -> Diagram:
     return Diagram(order, tuple(map(Node._make, rows)), tuple(roots), *functions.names)
 
 
-def level_bounds(inputs: int, outputs: int) -> Sequence[int]:
+@lru_cache(maxsize=None)
+def level_bounds(inputs: int, outputs: int) -> Tuple[int, ...]:
     """No diagram has more nodes on a level, top first: one for each assignment of the variables above and each output, and one
     for each function of the variables from the level on that depends on the first of them."""
     levels = ((outputs << level, 1 << (1 << (inputs - level)), 1 << (1 << (inputs - level - 1))) for level in range(inputs))
-    return [min(assigned, functions - without) for assigned, functions, without in levels]
+    return tuple(min(assigned, functions - without) for assigned, functions, without in levels)
 
 
 def most_nodes(inputs: int, outputs: int) -> int:

@@ -5,7 +5,7 @@ import json
 import os
 from typing import BinaryIO, Dict, Iterable, Iterator, List, Sequence, Tuple, Union
 
-from ._row_rules import COLUMNS, row_of, values_of
+from ._row_rules import COLUMNS, number_of, row_of, values_of
 from .batch import FileReport
 from .files import LIMIT
 
@@ -24,7 +24,7 @@ class JsonRows:
     def said(self, row: bytes) -> FileReport:
         """Raises ValueError with why it is no row."""
         try:
-            found = json.loads(row, object_pairs_hook=_object)
+            found = json.loads(row, object_pairs_hook=_object, parse_int=number_of)
         except (json.JSONDecodeError, UnicodeDecodeError, RecursionError):
             raise ValueError("it is no JSON") from None
         if not isinstance(found, dict):

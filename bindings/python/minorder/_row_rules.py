@@ -1,7 +1,8 @@
 """What a row of minorder-batch or a report of minorder may say, whatever its form."""
 import re
 from dataclasses import fields
-from typing import Dict, List, Mapping, Tuple
+from functools import lru_cache
+from typing import Any, Dict, List, Mapping, Tuple
 
 from ._arguments import MOST, shortened, shown
 from ._calls import level_bounds
@@ -18,14 +19,18 @@ KEYS = tuple(frozenset(keys) for keys in (("file", "status", *OF_REPORT), COLUMN
 NUMBER, NAME = re.compile("0|[1-9][0-9]{0,8}"), re.compile("[!-~]+")
 
 
+def number_of(word: str) -> object:
+    """The number that a word spells as minorder does, else the word."""
+    return int(word) if NUMBER.fullmatch(word) else word
+
+
 def values_of(cells: Mapping[str, str]) -> Dict[str, object]:
-    """What cells of CSV or lines of a report say by name; a word that spells no number stays one."""
+    """What cells of CSV or lines of a report say by name."""
     found: Dict[str, object] = {}
     for name, cell in cells.items():
-        words: List[object] = list(cell.split(" ")) if name in LISTS else [cell]
-        if name not in TEXTS:
-            words = [int(word) if isinstance(word, str) and NUMBER.fullmatch(word) else word for word in words]
-        found[name] = words if name in LISTS else words[0]
+        words = cell.split(" ") if name in LISTS else [cell]
+        said: List[object] = [word if name in TEXTS else number_of(word) for word in words]
+        found[name] = said if name in LISTS else said[0]
     return found
 
 
@@ -50,6 +55,7 @@ def row_of(found: Mapping[str, object]) -> FileReport:
     return FileReport(file, Status(status), fault, report)
 
 
+@lru_cache(maxsize=None)
 def _faults_of(status: int) -> Mapping[bool, str]:
     """The faults that a file with a status has, as patterns: one where it has a report, one where it has none."""
     if status == Status.REFUSED:
@@ -61,7 +67,7 @@ def _faults_of(status: int) -> Mapping[bool, str]:
     return others.get(status, {})
 
 
-def report_of(found: Mapping[str, object]) -> Report:
+def report_of(found: Mapping[str, Any]) -> Report:
     """The report with these values. Raises ValueError with why minorder reports no such thing."""
     for name in OF_REPORT:
         values = found[name] if name in LISTS else [found[name]]
@@ -72,7 +78,7 @@ def report_of(found: Mapping[str, object]) -> Report:
                 raise ValueError(f"names: {shown(value)} is no name")
             if name != "names" and (type(value) is not int or value < 0):
                 raise ValueError(f"{name}: {shown(value)} is no number from 0 on")
-    report = Report(**{name: tuple(it) if isinstance(it := found[name], list) else it for name in OF_REPORT})  # type: ignore
+    report = Report(**{name: tuple(found[name]) if name in LISTS else found[name] for name in OF_REPORT})
     _check_counts(report)
     _sizes_of(report)
     return report
