@@ -112,9 +112,14 @@ def _fault_of_certificate(report: Report, place: str) -> str:
         return f"isn't read: {error.strerror}"
     except BadCertificate as fault:
         return f"is refused: {BadCertificate(fault.line, fault.kind)}"
-    lines = {"inputs": [report.inputs], "outputs": [report.outputs], "order": report.order, "levels": report.levels}
-    head = "".join(f"{name} {' '.join(map(str, it))}\n" for name, it in lines.items()) + f"total {report.nodes}\n"
-    return "" if text.partition(b"\n")[2].startswith(head.encode()) else "is another problem's"
+    return "" if text.startswith(_head_of(report)) else "is another problem's"
+
+
+def _head_of(report: Report) -> bytes:
+    """How the certificate of a report begins, which is one about all orders."""
+    order, levels = (" ".join(map(str, it)) for it in (report.order, report.levels))
+    sizes = f"inputs {report.inputs}\noutputs {report.outputs}\norder {order}\nlevels {levels}\ntotal {report.nodes}\n"
+    return f"bddorder-certificate 2\n{sizes}pairs 0\n".encode("ascii")
 
 
 def _may_begin(cut: bytes, rows: Rows, left: CounterOf[str], is_first: bool) -> bool:

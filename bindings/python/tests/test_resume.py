@@ -193,6 +193,10 @@ class Resumed(InFolder):
         self.ended("--certificates", self.folder, self.put("a.pla", MULTIPLEXER.replace("11 1", "11 0")))
         fails("is another problem's")
         self.ended("--certificates", self.folder, self.put("a.pla", MULTIPLEXER))
+        kept = self.content("a.cert")
+        self.put("a.cert", kept.replace(b"pairs 0", b"pairs 1\n2 0"))
+        fails("is another problem's")
+        self.put("a.cert", kept)
         out = self.put("rows", row)
         self.assertEqual(self.run_in("--certificates", self.folder, "--resume", out, first), (0, ""))
 
