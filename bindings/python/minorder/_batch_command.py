@@ -104,6 +104,8 @@ def command(words: argparse.ArgumentParser, given: argparse.Namespace) -> int:
     if given.resume is not None:
         _ends.check_out(given.resume, [*files, *([] if given.list is None else [given.list])])
     places = {} if given.certificates is None else certificates_of(files, given.certificates)
+    if given.resume is not None and os.path.realpath(given.resume) in {os.path.realpath(place) for place in places.values()}:
+        raise _ends.Refused(_ends.BAD_WORDS, f"{given.resume}: it is the place of a certificate, too")
     rows: Rows = CsvRows() if given.csv else JsonRows()
     with ExitStack() as stack:
         output = None if given.resume is None else stack.enter_context(opened(given.resume))

@@ -206,7 +206,9 @@ class Resumed(InFolder):
         for words, said in (
                 (("--resume", empty, first, empty), f"{empty}: it is one of the files that are read"),
                 (("--list", empty, "--resume", empty, first), f"{empty}: it is one of the files that are read"),
-                (("--certificates", self.folder, first, empty), f"certificates: {empty!r} is one of the files that are read")):
+                (("--certificates", self.folder, first, empty), f"certificates: {empty!r} is one of the files that are read"),
+                (("--certificates", self.folder, "--resume", f"{self.folder}/a.cert", first),
+                 f"{self.folder}/a.cert: it is the place of a certificate, too")):
             self.assertEqual(self.run_in(*words), (2, f"minorder-batch: {said}\n"))
         self.assertEqual(self.content("empty.cert"), b"")
         os.mkfifo(f"{self.folder}/pipe")
