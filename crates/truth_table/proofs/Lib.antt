@@ -10,5 +10,6 @@ pub mod OfCovers
 pub mod Lists
 pub mod Refs
 pub mod NumberedNodes
+pub mod TabledNumbers
 pub mod Sizes
 pub mod LevelDiagrams

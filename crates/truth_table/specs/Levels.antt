@@ -5,8 +5,9 @@
 --     IsNumberOf base keys u c      the number of the ref that has the refs of a pair as its children
 --     Seeks base x u keys keys' nodes nodes' c      the ref for a pair of children is found, or a node for it is appended
 --     SeeksAmong base x u nodes nodes' c      the same of numbered nodes, those of variable x standing from place `base` on
+--     IsTabled base keys table      a table has the numbers of the refs for the pairs of the first four refs
 --     IsNumbered x old pairs keys nodes numbers, IsLevelAbove x old below nodes above      the refs of a level
-use Rattle.std.specs.Prelude.{◌≡◌, ◌≢◌, ℕ, ◌+◌, ◌<◌, ◌≤◌, ◌⊎◌, List, [], ◌∷◌, ◌++◌, drop, length, map, slice_index, get_or, slice_get}
+use Rattle.std.specs.Prelude.{◌≡◌, ◌≢◌, ℕ, ◌+◌, ◌*◌, ◌<◌, ◌≤◌, ◌⊎◌, false, List, [], ◌∷◌, ◌++◌, drop, length, map, slice_index, get_or, slice_get}
 use Rattle.std.specs.List.{IsDistinct}
 use Rattle.std.specs.declared.option.Option.TheVariants.{Some}
 use Rattle.definitions.specs.Widths.{same_pair}
@@ -46,6 +47,12 @@ pub record Seeks (base x : ℕ) (u : ℕ × ℕ) (keys keys' : List (ℕ × ℕ)
 abbrev pub SeeksAmong : ℕ → ℕ → ℕ × ℕ → List NumberedNode → List NumberedNode → ℕ → Type 0
 SeeksAmong base x u nodes nodes' c =
     Seeks base x u (children_from base nodes) (children_from base nodes') (map node_named nodes) (map node_named nodes') c
+
+-- the numbers of the refs for all pairs of the first four refs: at place 4 * u.0 + u.1 that for the pair u, and 2 ^ 32 - 1 if the pair has no node
+pub record IsTabled (base : ℕ) (keys : List (ℕ × ℕ)) (table : List ℕ) : Type 0 where
+  pub numbered : (u : ℕ × ℕ) → u.0 < 4 → u.1 < 4 → get_or table (4 * u.0 + u.1) 0 ≢ 4294967295 → IsNumberOf base keys u (get_or table (4 * u.0 + u.1) 0)
+  pub missing : (u : ℕ × ℕ) → u.0 < 4 → u.1 < 4 → get_or table (4 * u.0 + u.1) 0 ≡ 4294967295 →
+      (u.0 ≢ u.1) × ((k : ℕ) → k < length keys → same_pair u (get_or keys k (0, 0)) ≡ false)
 
 -- the refs of some pairs have these numbers, and the level's nodes are those of the keys
 pub record IsNumbered (x : ℕ) (old : List Node) (pairs keys : List (ℕ × ℕ)) (nodes : List Node) (numbers : List ℕ) : Type 0 where

@@ -25,8 +25,6 @@ pub struct DiagramMemory {
     /// The number of each output's root, as children are numbered. While a diagram is made, the
     /// values of the functions at all points.
     pub roots: Vec<u32>,
-    /// Working memory: the points of all assignments.
-    points: Vec<u32>,
     /// Working memory: the children of a level's nodes.
     pairs: IndexSet<(u32, u32)>,
 }
@@ -37,7 +35,6 @@ impl DiagramMemory {
         DiagramMemory {
             nodes: Vec::new(alloc),
             roots: Vec::new(alloc),
-            points: Vec::new(alloc),
             pairs: IndexSet::new(alloc),
         }
     }
@@ -46,7 +43,8 @@ impl DiagramMemory {
 /// Turns the values that `memory.roots` has into the reduced diagram under `order`. If memory is
 /// refused, `memory` has no meaning.
 fn add_levels(order: &[VarIx], memory: &mut DiagramMemory) -> Result<(), AllocError>
-    requires { length memory.old.roots.items ≤ 2 ^ 20 }
+    requires few { length memory.old.roots.items ≤ 2 ^ 20 }
+    requires small { All (λ c. c < 2) memory.old.roots.items }
     ensures diagram { OnOk result ((t : TruthTables) →
         AreValuesUnder t order.now memory.old.roots.items →
         IsNumberedDiagram t.inputs (functions t) order.now memory.new.nodes.items
@@ -82,7 +80,7 @@ pub fn make_diagram(
         memory.new.nodes.items memory.new.roots.items) }
     ensures few { OnOk result (length memory.new.nodes.items ≤ 2 ^ 20) }
 {
-    write_packed_values(n, m, words, order, &mut memory.points, &mut memory.roots)?;
+    write_packed_values(n, m, words, order, &mut memory.roots)?;
     add_levels(order, memory)?;
     Ok(())
 }
@@ -99,7 +97,7 @@ fn draw_tables(
         memory.new.nodes.items memory.new.roots.items) }
     ensures few { OnOk result (length memory.new.nodes.items ≤ 2 ^ 20) }
 {
-    tables.write_values(order, &mut memory.points, &mut memory.roots)?;
+    tables.write_values(order, &mut memory.roots)?;
     add_levels(order, memory)?;
     Ok(())
 }

@@ -1,6 +1,6 @@
 //! Class numbers of subfunctions, level by level.
 
-ghost use Rattle.std.specs.Prelude.{◌≡◌, [], ◌++◌, ◌/◌, ◌<◌, ◌≤◌, ◌^◌, bit_or, if◌then◌else◌, length, map, IfOk, OnOk};
+ghost use Rattle.std.specs.Prelude.{◌≡◌, [], ◌++◌, ◌*◌, ◌/◌, ◌<◌, ◌≤◌, ◌^◌, bit_or, if◌then◌else◌, length, map, take, IfOk};
 ghost use Rattle.std.specs.List.{All};
 ghost use Rattle.definitions.specs.Problems.{packed_bit};
 ghost use Rattle.truth_table.specs.Assignments.{assignments};
@@ -59,49 +59,52 @@ pub(crate) fn merge(alloc: Global, classes: &[u32]) -> Result<Merged, AllocError
     number_pairs(alloc, classes, &mut seen)
 }
 
-/// Appends a copy of each of `points` with bit x set. If memory is refused, some may be appended.
-fn push_upper(points: &mut Vec<u32>, x: VarIx) -> Result<(), AllocError>
-    requires { x < 16 }
-    ensures { OnOk result
-        (points.new.items ≡ points.old.items ++ map (λ k. bit_or k (2 ^ x)) points.old.items) }
+/// Overwrites `upper` with a copy of each of `points` with bit x set.
+fn write_upper(points: &[u32], x: VarIx, upper: &mut [u32])
+    requires variable { x < 16 }
+    requires long { length upper.old ≡ length points.now }
+    ensures { upper.new ≡ map (λ k. bit_or k (2 ^ x)) points.now }
 {
-    for i in 0..points.len() {
-        let upper = points[i] | 1 << x;
-        points.push(upper)?;
+    for i in 0..upper.len() {
+        upper[i] = points[i] | 1 << x;
     }
-    Ok(())
+}
+
+/// Doubles the first `size` of `points`: a copy of each with bit x set follows them.
+fn add_upper(points: &mut [u32], size: usize, x: VarIx)
+    requires variable { x < 16 }
+    requires room { 2 * size ≤ length points.old }
+    ensures doubled { take (2 * size) points.new
+        ≡ take size points.old ++ map (λ k. bit_or k (2 ^ x)) (take size points.old) }
+    ensures long { length points.new ≡ length points.old }
+{
+    let (lower, others) = points.split_at_mut(size);
+    let (upper, _) = others.split_at_mut(size);
+    write_upper(lower, x, upper);
 }
 
 /// Overwrites `points` with the points of all assignments to `variables`, the last of which changes
-/// fastest. If memory is refused, `points` has no meaning.
-pub(crate) fn write_points(points: &mut Vec<u32>, variables: &[VarIx]) -> Result<(), AllocError>
+/// fastest.
+pub(crate) fn write_points(points: &mut [u32], variables: &[VarIx])
     requires small { All (λ x. x < 16) variables.now }
     requires few { length variables.now ≤ 16 }
-    ensures { OnOk result (points.new.items ≡ assignments variables.now) }
+    requires long { length points.old ≡ 2 ^ length variables.now }
+    ensures { points.new ≡ assignments variables.now }
 {
-    points.clear();
-    points.reserve(1usize << variables.len())?;
-    points.push(0u32)?;
+    points[0] = 0;
+    let mut size = 1usize;
     for i in (0..variables.len()).rev() {
-        push_upper(points, variables[i])?;
+        add_upper(points, size, variables[i]);
+        size *= 2;
     }
-    Ok(())
 }
 
-/// Appends the values, 0 or 1, of the packed truth table `words` at `points`. If memory is refused,
-/// some may be appended.
-pub(crate) fn push_values(
-    values: &mut Vec<u32>,
-    words: &[u64],
-    points: &[u32],
-) -> Result<(), AllocError>
-    requires { All (λ k. k / 64 < length words.now) points.now }
-    ensures { OnOk result
-        (values.new.items ≡ values.old.items
-        ++ map (λ k. if packed_bit words.now k then 1 else 0) points.now) }
+/// Turns each of `points` into the value there, 0 or 1, of the packed truth table `words`.
+pub(crate) fn evaluate(words: &[u64], points: &mut [u32])
+    requires { All (λ k. k / 64 < length words.now) points.old }
+    ensures { points.new ≡ map (λ k. if packed_bit words.now k then 1 else 0) points.old }
 {
-    for point in points {
-        values.push(bit_of(words, *point as usize) as u32)?;
+    for i in 0..points.len() {
+        points[i] = u32::from(bit_of(words, points[i] as usize));
     }
-    Ok(())
 }

@@ -1,9 +1,9 @@
 //! One level of a reduced diagram, made from the level below.
 
-ghost use Rattle.std.specs.Prelude.{◌≡◌, ◌≢◌, ◌+◌, ◌<◌, ◌≤◌, ◌^◌, length, IfOk, IsTrue, OnOk, map};
-ghost use Rattle.std.specs.List.{position_or_len};
+ghost use Rattle.std.specs.Prelude.{◌≡◌, ◌≢◌, ◌+◌, ◌<◌, ◌≤◌, ◌^◌, ℕ, length, IfOk, IsTrue, OnOk, map};
+ghost use Rattle.std.specs.List.{All, position_or_len};
 ghost use Rattle.definitions.specs.Widths.{same_pair};
-ghost use Rattle.truth_table.specs.Levels.{IsLevelAbove, SeeksAmong, children_from, node_named, ref_named};
+ghost use Rattle.truth_table.specs.Levels.{IsLevelAbove, IsTabled, SeeksAmong, children_from, node_named, ref_named};
 
 use indexmap::IndexSet;
 use order_model::Ref;
@@ -11,6 +11,18 @@ use std::alloc::AllocError;
 
 /// Up to so many pairs of children, comparing one node after the other is faster than hashing.
 const MOST_COMPARED: usize = 64;
+
+/// A table of the numbers of all pairs of children is faster than both over at most so many nodes.
+const MOST_TABLED: usize = 2;
+
+/// What a table has for a pair of children that has no node yet.
+const NO_NUMBER: u32 = u32::MAX;
+
+/// The numbers of all pairs of the children 0 to 3, row by row, while no pair has a node.
+const NO_NODES: [u32; 16] = [
+    0, NO_NUMBER, NO_NUMBER, NO_NUMBER, NO_NUMBER, 1, NO_NUMBER, NO_NUMBER, NO_NUMBER, NO_NUMBER,
+    2, NO_NUMBER, NO_NUMBER, NO_NUMBER, NO_NUMBER, 3,
+];
 
 /// A node and the numbers of its children: 0 and 1 are the terminals, and k + 2 is node k of the
 /// diagram's list of nodes.
@@ -130,6 +142,68 @@ fn number_over(
     compared_number(nodes, base, x, children)
 }
 
+/// The number of the node of x with these children, or of the child if both are equal. The node is
+/// appended if it isn't in `table`, which has the numbers of all pairs of children. Takes no branch
+/// that depends on them.
+#[inline(always)]
+fn tabled_number(
+    nodes: &mut Vec<NumberedNode>,
+    table: &mut [u32; 16],
+    x: u32,
+    children: (u32, u32),
+) -> Result<u32, AllocError>
+    requires low { children.0 < 4 }
+    requires high { children.1 < 4 }
+    requires few { length nodes.old.items < 2 ^ 31 }
+    ensures number { IfOk result (λ c. (base : ℕ) → base ≤ length nodes.old.items →
+        IsTabled base (children_from base nodes.old.items) table.old →
+        SeeksAmong base x children nodes.old.items nodes.new.items c) }
+    ensures tabled { OnOk result ((base : ℕ) → base ≤ length nodes.old.items →
+        IsTabled base (children_from base nodes.old.items) table.old →
+        IsTabled base (children_from base nodes.new.items) table.new) }
+{
+    let (low, high) = children;
+    let at = (4 * low + high) as usize;
+    let known = table[at];
+    let before = nodes.len();
+    nodes.push(NumberedNode {
+        variable: x,
+        low,
+        high,
+    })?;
+    let (number, kept) = if known == NO_NUMBER {
+        (before as u32 + 2, before + 1)
+    } else {
+        (known, before)
+    };
+    nodes.truncate(kept);
+    table[at] = number;
+    Ok(number)
+}
+
+/// Does what `add_level` does over at most two nodes.
+fn add_low_level(
+    nodes: &mut Vec<NumberedNode>,
+    x: u32,
+    numbers: &mut Vec<u32>,
+) -> Result<(), AllocError>
+    requires few { length nodes.old.items + length numbers.old.items < 2 ^ 31 }
+    requires small { All (λ c. c < 4) numbers.old.items }
+    ensures { OnOk result
+        (IsLevelAbove x (map node_named nodes.old.items) numbers.old.items
+        (map node_named nodes.new.items) numbers.new.items) }
+{
+    let half = numbers.len() / 2;
+    let mut table = NO_NODES;
+    for j in 0..half {
+        let low = numbers[2 * j];
+        let high = numbers[2 * j + 1];
+        numbers[j] = tabled_number(nodes, &mut table, x, (low, high))?;
+    }
+    numbers.truncate(half);
+    Ok(())
+}
+
 /// Appends the nodes of variable x over the children whose numbers `numbers` lists. The node with
 /// the children `numbers[2j]` and `numbers[2j + 1]`, or the child if they are equal, becomes entry
 /// j; an odd last entry is ignored. `pairs` is working memory. If memory is refused, none of the
@@ -141,14 +215,17 @@ pub(crate) fn add_level(
     numbers: &mut Vec<u32>,
 ) -> Result<(), AllocError>
     requires few { length nodes.old.items + length numbers.old.items < 2 ^ 31 }
+    requires refs { All (λ c. c < length nodes.old.items + 2) numbers.old.items }
     ensures { OnOk result
         (IsLevelAbove x (map node_named nodes.old.items) numbers.old.items
         (map node_named nodes.new.items) numbers.new.items) }
 {
+    if nodes.len() <= MOST_TABLED {
+        return add_low_level(nodes, x, numbers);
+    }
     let half = numbers.len() / 2;
     let base = nodes.len();
-    // Over two nodes or fewer there are few, however many numbers there are.
-    let hashes = half > MOST_COMPARED && base > 2;
+    let hashes = half > MOST_COMPARED;
     if hashes {
         pairs.clear();
     }

@@ -117,7 +117,6 @@ impl Tables {
     pub(crate) fn write_values(
         &self,
         order: &[VarIx],
-        points: &mut Vec<u32>,
         values: &mut Vec<u32>,
     ) -> Result<(), AllocError>
         requires { IsOrder self.now.inputs order.now }
@@ -125,7 +124,7 @@ impl Tables {
         ensures few { OnOk result (length values.new.items ≤ 2 ^ 20) }
     {
         let (n, m) = (self.problem.inputs(), self.problem.outputs());
-        write_packed_values(n, m, self.problem.all_words(), order, points, values)
+        write_packed_values(n, m, self.problem.all_words(), order, values)
     }
 
     /// The level counts under `order`, counted in the truth tables, without making the diagram.
@@ -136,9 +135,8 @@ impl Tables {
     {
         prove!(self.problem.outputs() <= 16);
         let n = order.len();
-        let mut points = Vec::new(alloc);
         let mut classes = Vec::new(alloc);
-        self.write_values(order.variables(), &mut points, &mut classes)?;
+        self.write_values(order.variables(), &mut classes)?;
         let mut counts = vec![in alloc; 0u32; n]?;
         for level in (0..n).rev() {
             let above = merge(alloc, &classes)?;

@@ -6,7 +6,7 @@ use Rattle.std.proofs.lemmas.Grind.{common_steps}
 use Rattle.std.proofs.lemmas.List.{get_or_read}
 use Rattle.truth_table.proofs.levels.add_level.Goals as goal
 use Rattle.truth_table.proofs.levels.add_level.Goals.{then-hashes, else-hashes}
-use Rattle.std.proofs.lemmas.Bool.{true≢false}
+use Rattle.std.proofs.lemmas.Bool.{ltb-true}
 
 pub loop-j-init : goal.loop-j-init
 loop-j-init c =
@@ -21,7 +21,7 @@ loop-j-init c =
       rest = λ k h. grind arith;
       pairs = λ h. elim c.if-hashes.branch [
         | then-hashes w ↦ ap (λ p. p.keys) w.pairs-is ∙ w.clear.ensures.empty ∙ sym (ap (λ b. children_from b c.args.nodes.now.items) base ∙ none)
-        | else-hashes w ↦ absurd (true≢false (sym h ∙ w.if-hashes.false))
+        | else-hashes w ↦ absurd (omega (arith, ltb-true _ _ h, w.if-hashes.false))
       ];
     }
 
@@ -53,3 +53,6 @@ returns c =
     (subst (λ (ns : List ℕ). IsNumbered c.args.x (map node_named c.args.nodes.now.items) (take c.loop-j.j (pairs_of c.args.numbers.now.items))
     (children_from c.len-base.result c.loop-j.nodes.items) (map node_named c.loop-j.nodes.items) ns)
     (sym (c.truncate.ensures.items ∙ ap (λ k. take k c.loop-j.numbers.items) (omega arith))) c.loop-j.invariant.numbered)
+
+pub add_low_level-requires-clause-small : goal.add_low_level-requires-clause-small
+add_low_level-requires-clause-small c k d h = let below = c.requires.refs k d h in omega (arith, below)
