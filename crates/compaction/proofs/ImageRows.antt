@@ -1,11 +1,8 @@
 -- The row of a set from that of its image.
---     row_of_none      where nothing is wanted all widths are 0
 --     row_of_image      each member has the width of the variable to which it goes
-use Rattle.std.proofs.Common.{◌≡◌, ℕ, ◌+◌, ◌*◌, ◌/◌, ◌%◌, ◌<◌, ◌≤◌, cond, eqb, inl, inr, List, [], length, slice_index, get_or, replicate, sym, ap, ◌∙◌, subst, arith, eq-eqb, ne_eqb}
+use Rattle.std.proofs.Common.{◌≡◌, ℕ, ◌+◌, ◌*◌, ◌/◌, ◌%◌, ◌<◌, ◌≤◌, cond, eqb, inl, inr, List, [], length, slice_index, get_or, sym, ap, ◌∙◌, subst, arith, eq-eqb, ne_eqb}
 use Rattle.std.specs.Int.{bit_at}
 use Rattle.std.proofs.lemmas.Bool.{cases_eq, and_parts}
-use Rattle.std.proofs.lemmas.List.{get_or-replicate}
-use Rattle.std.proofs.lemmas.Nat.Bits.{bit_at-zero}
 use Rattle.definitions.specs.Orders.{members, without}
 use Rattle.definitions.specs.Problems.{TruthTables, functions}
 use Rattle.definitions.specs.Widths.{width}
@@ -14,14 +11,6 @@ use Rattle.definitions.proofs.Bits.Masks.{has_members}
 use Rattle.symmetries.specs.Orbits.{TakesWidths, width_into}
 use Rattle.compaction.specs.Requests.{AreMembersOf}
 use Rattle.compaction.specs.Rows.{AreByteRows, HoldsWidths, IsWidthRow, width_wanted}
-
--- where nothing is wanted all widths are 0
-pub row_of_none : (p : TruthTables) (set wanted : ℕ) → wanted ≡ 0 → IsWidthRow p set wanted (replicate 16 0)
-unfolding width_wanted
-row_of_none p set wanted none x small =
-    get_or-replicate 16 x 0 0 small
-    ∙ ap (λ b. cond b (width p.inputs (functions p) (without x (members p.inputs set)) x) 0)
-    (sym (ne_eqb (bit_at wanted x) 1 (λ one. absurd (omega (arith, ap (λ m. bit_at m x) none ∙ bit_at-zero x)))))
 
 -- what is wanted of a set are variables
 wanted_variable : (n set wanted x : ℕ) → AreMembersOf n set wanted → bit_at wanted x ≡ 1 → x < n

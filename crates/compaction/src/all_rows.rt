@@ -22,7 +22,8 @@ impl<'a> Preparation<'a> {
         let mut rows = Vec::with_capacity(alloc, sets as usize)?;
         for number in 0..sets {
             let set = number as Mask;
-            rows.push(self.row(alloc, set, set)?)?;
+            let image = self.image_of(set);
+            rows.push(self.row(alloc, set, set, &image)?)?;
         }
         Ok(rows)
     }

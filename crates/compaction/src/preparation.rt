@@ -2,8 +2,8 @@
 //! Pairs decide only of which sets rows are found; the rows depend on the functions alone.
 
 ghost use Rattle.std.specs.Prelude.{◌≡◌, ◌<◌, ◌%◌, ◌^◌, [], All, IfOk, IfSome};
-ghost use Rattle.symmetries.specs.Orbits.{TakesWidths};
 ghost use Rattle.symmetries.specs.Renamings.{renamed_of};
+ghost use Rattle.compaction.specs.Preparations.{IsImageOf};
 ghost use Rattle.compaction.specs.Rows.{HoldsRows};
 
 use crate::found_rows::Turns;
@@ -161,8 +161,7 @@ impl<'a> Preparation<'a> {
     /// first set of its orbit, whose row has the widths of `set`.
     pub fn image_of(&self, set: Mask) -> Image
         requires { set < 2 ^ self.now.problem.inputs }
-        ensures { TakesWidths self.now.problem (renamed_of self.now.problem self.now.renamed) set
-            result.set result.variables }
+        ensures { IsImageOf self.now set result }
     {
         prove!(self.renaming.problem().inputs() <= 16);
         let image = self.renaming.image_of(set);
@@ -201,7 +200,8 @@ impl<'a> Preparation<'a> {
     /// appended.
     fn take(&mut self, found: Vec<ByteRows>, end: u8) -> Result<(), AllocError>
         requires { All (HoldsRows (renamed_of self.old.problem self.old.renamed)) found.items }
-        ensures { self.new.problem ≡ self.old.problem }
+        ensures problem { self.new.problem ≡ self.old.problem }
+        ensures renamed { self.new.renamed ≡ self.old.renamed }
     {
         let mut found = found;
         if end > self.end {
@@ -221,7 +221,8 @@ impl<'a> Preparation<'a> {
         requests: &Requests,
         end: u8,
     ) -> Result<(), AllocError>
-        ensures { self.new.problem ≡ self.old.problem }
+        ensures problem { self.new.problem ≡ self.old.problem }
+        ensures renamed { self.new.renamed ≡ self.old.renamed }
     {
         let found = self.shared.rows_by_turns(alloc, requests, &Turns::new())?;
         self.take(found, end)
@@ -247,7 +248,8 @@ impl<'a> Preparation<'a> {
         end: u8,
         workers: Workers,
     ) -> Result<(), AllocError>
-        ensures { self.new.problem ≡ self.old.problem }
+        ensures problem { self.new.problem ≡ self.old.problem }
+        ensures renamed { self.new.renamed ≡ self.old.renamed }
     {
         let found = self.shared.rows_by_workers(rt, alloc, requests, workers)?;
         self.take(found, end)

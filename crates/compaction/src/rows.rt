@@ -2,6 +2,7 @@
 //! ahead belongs to one set, and serves every set whose image that set is.
 
 ghost use Rattle.std.specs.Prelude.{◌≡◌, ◌^◌, ◌<◌, ◌≤◌, IfOk, IfSome};
+ghost use Rattle.compaction.specs.Preparations.{IsImageOf};
 ghost use Rattle.compaction.specs.Requests.{AreMembersOf};
 ghost use Rattle.compaction.specs.Rows.{IsWidthRow};
 
@@ -11,6 +12,7 @@ use crate::request::WidthRequest;
 use crate::strips::members_only;
 use order_model::{Mask, Problem, WidthRow};
 use std::alloc::{AllocError, Global};
+use symmetries::Image;
 
 /// At each x in `needed` the width of x over the other members of `set`, and 0 elsewhere, found by
 /// a walk of its own.
@@ -41,30 +43,34 @@ impl<'a> Preparation<'a> {
         }
     }
 
-    /// The row of `set` for the members in `needed`, from the row of the set's image in the renamed
-    /// problem. None if one of these widths was not found ahead.
-    fn found_row(&self, set: Mask, needed: Mask) -> Option<WidthRow>
-        requires set { set < 2 ^ self.now.problem.inputs }
+    /// The row of `set` for the members in `needed`, from the row of `image`, the set's image in
+    /// the renamed problem. None if one of these widths was not found ahead.
+    fn found_row(&self, set: Mask, needed: Mask, image: &Image) -> Option<WidthRow>
         requires members { AreMembersOf self.now.problem.inputs set needed }
+        requires image { IsImageOf self.now set image.now }
         ensures { IfSome result (IsWidthRow self.now.problem set needed) }
     {
-        if needed == 0 {
-            return Some([0; 16]);
-        }
         prove!(self.problem().inputs() <= 16);
-        let image = self.image_of(set);
         let byte = self.rows_at(image.set)?;
-        byte.row_by_image(&image, needed)
+        byte.row_by_image(image, needed)
     }
 
     /// At each x in `needed` the width of x over the other members of `set`, and 0 elsewhere. They
     /// are read from the rows that were found ahead or, if one is missing there, found by a walk.
-    pub fn row(&self, alloc: Global, set: Mask, needed: Mask) -> Result<WidthRow, AllocError>
+    /// `image` is the set's image.
+    pub fn row(
+        &self,
+        alloc: Global,
+        set: Mask,
+        needed: Mask,
+        image: &Image,
+    ) -> Result<WidthRow, AllocError>
         requires set { set < 2 ^ self.now.problem.inputs }
         requires members { AreMembersOf self.now.problem.inputs set needed }
+        requires image { IsImageOf self.now set image.now }
         ensures { IfOk result (IsWidthRow self.now.problem set needed) }
     {
-        match self.found_row(set, needed) {
+        match self.found_row(set, needed, image) {
             Some(row) => Ok(row),
             None => walked_row(alloc, self.problem(), set, needed),
         }

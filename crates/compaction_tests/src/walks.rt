@@ -36,7 +36,9 @@ fn row_found(rt: &impl Abort, alloc: Global, renaming: &Renaming<'_>, block: &Bl
     let found = prepared.find_alone(alloc, &requests, 2);
     found.expect(rt, "memory");
     assert!(rt; prepared.is_found(image.set));
-    prepared.row(alloc, needed, needed).expect(rt, "memory")
+    prepared
+        .row(alloc, needed, needed, &image)
+        .expect(rt, "memory")
 }
 
 /// The row of the set of the two lowest variables: by itself, from a row that is found, and from

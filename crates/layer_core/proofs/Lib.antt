@@ -11,5 +11,7 @@ pub mod CoreSteps
 pub mod Filters
 pub mod WantedMembers
 pub mod NeedsByCosts
+pub mod NeedLists
+pub mod CellsByNeeds
 pub mod BlockPlaces
 pub mod CellPlaces

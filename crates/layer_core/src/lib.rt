@@ -4,6 +4,7 @@
 #![tactic(auto)]
 
 // What a search is for, and the cells of a layer.
+mod cells;
 mod instance;
 mod needs;
 mod results;
@@ -16,5 +17,5 @@ mod machine;
 pub use events::{Event, Reply};
 pub use instance::Instance;
 pub use machine::Core;
-pub use needs::{asked_members, needs_of_layer};
+pub use needs::{SetNeeds, asked_members, needs_of_layer};
 pub use results::CellResult;

@@ -4,7 +4,7 @@ ghost use Rattle.std.specs.Prelude.{IfOk};
 ghost use Rattle.subset_layers.specs.Layers.{masks_of};
 ghost use Rattle.layer_core.specs.LayerCosts.{AreCells};
 
-use crate::cells::cell_of_set;
+use crate::cells::cell_at;
 use crate::context::LayerContext;
 use compaction::Tally;
 use std::alloc::{AllocError, Global};
@@ -20,7 +20,7 @@ pub fn cells_alone(alloc: Global, context: &LayerContext<'_>) -> Result<Vec<Cell
     let mut cells = Vec::with_capacity(alloc, layer.len())?;
     for place in 0..layer.len() {
         let mut tally = Tally::new();
-        cells.push(cell_of_set(alloc, context, layer.mask_at(place), &mut tally)?)?;
+        cells.push(cell_at(alloc, context, place, &mut tally)?)?;
     }
     Ok(cells)
 }

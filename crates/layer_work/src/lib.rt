@@ -5,8 +5,10 @@
 mod alone;
 mod cells;
 mod context;
+mod images;
 mod worker;
 
 pub use alone::cells_alone;
 pub use context::LayerContext;
+pub use images::images_of_layer;
 pub use worker::{WorkerResult, work_layer};

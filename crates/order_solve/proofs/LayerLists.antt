@@ -3,15 +3,23 @@
 --     layers_push      one layer more
 --     each_cell      a cell for each set
 --     last_layer      the last one that is done
-use Rattle.std.proofs.Common.{◌≡◌, ℕ, ◌+◌, ◌-◌, ◌<◌, get_or, inl, inr, List, [], ◌∷◌, ◌++◌, length, length-append, Some, sym, ap, ◌∙◌, subst, arith}
+--     images_kept      the images of sets, after rows were found
+use Rattle.std.proofs.Common.{◌≡◌, ℕ, ◌+◌, ◌-◌, ◌<◌, get_or, inl, inr, List, [], ◌∷◌, ◌++◌, length, length-append, slice_index, Option, Some, None, sym, ap, ◌∙◌, subst, arith}
 use Rattle.std.proofs.lemmas.Bool.{cases_lt}
 use Rattle.std.proofs.lemmas.List.{get_or_append_left, get_or_push, length-map}
 use Rattle.std.proofs.lemmas.Option.{slice_get_within, slice_get-get_or, get_or_from_slice_get}
+use Rattle.definitions.specs.Problems.{TruthTables}
+use Rattle.symmetries.specs.Orbits.{TakesWidths}
+use Rattle.symmetries.specs.Renamings.{RenamedOf, renamed_of}
+use Rattle.symmetries.specs.declared.orbits.Image.{Image}
 use Rattle.subset_layers.specs.Costs.{CostsOf}
 use Rattle.subset_layers.specs.declared.costs.Cell.{Cell}
 use Rattle.layer_core.specs.Pairing.{pair_of}
 use Rattle.layer_core.specs.Instances.{InstanceOf, cell_for}
 use Rattle.layer_core.specs.LayerCosts.{AreCells, AreDone, IsLayerFor, AreLayersFor}
+use Rattle.layer_core.specs.Needs.{AreOfSets}
+use Rattle.compaction.specs.Preparations.{PreparedOf}
+use Rattle.layer_work.specs.LayerContexts.{IsImageFor}
 
 pub layers_done : (t : InstanceOf) (done layers : List CostsOf) (size n : ℕ) → done ≡ layers → length layers ≡ size + 1 → size < n →
     n ≡ t.problem.inputs → AreLayersFor t layers → AreDone t done
@@ -41,3 +49,19 @@ pub last_layer : (t : InstanceOf) (done : List CostsOf) (last : CostsOf) → Are
 last_layer t done last h e =
     h.layers_are (length done - 1) last
     (slice_get-get_or done (length done - 1) last (let some = h.some in omega (arith, some)) ∙ ap Some (sym e))
+
+-- rows that are found change no image
+pub images_kept : (t : InstanceOf) (masks : List ℕ) (images : List (Option Image)) (v w : PreparedOf) → w.problem ≡ v.problem → w.renamed ≡ v.renamed →
+    AreOfSets (IsImageFor t v) masks images → AreOfSets (IsImageFor t w) masks images
+images_kept t masks images v w problem renamed are = record {
+  each = are.each;
+  are = λ i d lt. kept (slice_index masks i) (get_or images i d) (are.are i d lt);
+}
+  where
+    kept : (mask : ℕ) (image : Option Image) → IsImageFor t v mask image → IsImageFor t w mask image
+    kept mask None none = none
+    kept mask (Some image) is = (
+      is.0,
+      subst (λ (p : TruthTables). TakesWidths p (renamed_of p w.renamed) mask image.set image.variables) (sym problem)
+          (subst (λ (r : Option RenamedOf). TakesWidths v.problem (renamed_of v.problem r) mask image.set image.variables) (sym renamed) is.1),
+    )

@@ -1,10 +1,11 @@
 //! Computes the cells of all sets, one layer (the sets of one size) after another.
 
-ghost use Rattle.std.specs.Prelude.{◌≡◌, IfOk, length, map};
+ghost use Rattle.std.specs.Prelude.{◌≡◌, IfOk, length};
 ghost use Rattle.std.specs.Fn.{FnReturnsAt};
-ghost use Rattle.subset_layers.specs.Layers.{layer_with, masks_of};
+ghost use Rattle.subset_layers.specs.Layers.{masks_of};
 ghost use Rattle.layer_core.specs.LayerCosts.{AreDone, AreLayersFor, IsLayerFor};
-ghost use Rattle.layer_core.specs.Needs.{needed};
+ghost use Rattle.layer_core.specs.Needs.{AreNeedsOf, AreOfSets};
+ghost use Rattle.layer_work.specs.LayerContexts.{context_with, IsContext, IsImageFor};
 ghost use Rattle.order_solve.specs.CellFinders.{FindsCells};
 ghost use Rattle.solutions.specs.Bounded.{IsBounded};
 
@@ -38,9 +39,9 @@ fn find_rows<S: RowFinder>(
     needs: &LayerNeeds,
 ) -> Result<(), AllocError>
     requires ready { S.ready finder.now }
-    requires prepared { needs.now.layer.inputs ≡ prepared.old.problem.inputs }
     requires done { AreDone instance.now done.now }
-    ensures { prepared.new.problem ≡ prepared.old.problem }
+    ensures problem { prepared.new.problem ≡ prepared.old.problem }
+    ensures renamed { prepared.new.renamed ≡ prepared.old.renamed }
 {
     if let Some(ahead) = look_ahead(alloc, instance, prepared, done, needs)? {
         finder.find_rows(alloc, prepared, &ahead)?;
@@ -48,26 +49,28 @@ fn find_rows<S: RowFinder>(
     Ok(())
 }
 
-/// Computes the layer of `needs`, which comes after those in `done`. `cells_of` gives the cells of
-/// a layer.
+/// Computes the layer of `needs`. `cells_of` gives the cells of a layer.
 fn next_layer<C: Fn(&LayerContext<'_>) -> Result<Vec<Cell>, AllocError>>(
     cells_of: &C,
     instance: &Instance<'_>,
     prepared: &Preparation<'_>,
-    done: &[Costs],
     needs: LayerNeeds,
 ) -> Result<Costs, AllocError>
     requires callable { C.IsAlwaysCallable cells_of.now }
     requires cells { FindsCells (FnReturnsAt C.Fn cells_of.now) }
     requires prepared { prepared.now.problem ≡ instance.now.problem }
-    requires done { AreDone instance.now done.now }
-    requires layer { needs.layer ≡ layer_with instance.now.problem.inputs (length done.now) }
-    requires members { needs.members.items ≡ map (needed instance.now) (masks_of needs.layer) }
-    ensures { IfOk result (IsLayerFor instance.now (length done.now)) }
+    requires context { IsContext (context_with instance.now needs.layer) }
+    requires sets { AreOfSets (AreNeedsOf instance.now) (masks_of needs.layer) needs.sets.items }
+    requires images { AreOfSets (IsImageFor instance.now prepared.now) (masks_of needs.layer)
+        needs.images.items }
+    ensures { IfOk result (IsLayerFor instance.now needs.layer.size) }
 {
-    let LayerNeeds { layer, members } = needs;
-    let before = &done[done.len() - 1];
-    let context = LayerContext::new(instance, &layer, before, &members, prepared);
+    let LayerNeeds {
+        layer,
+        sets,
+        images,
+    } = needs;
+    let context = LayerContext::new(instance, &layer, &sets, &images, prepared);
     let cells = cells_of(&context)?;
     Ok(Costs::of(layer, cells))
 }
@@ -94,9 +97,9 @@ pub(crate) fn all_cells<
 {
     let mut layers = first_layer(alloc, instance)?;
     for _size in 0..instance.inputs() {
-        let needs = LayerNeeds::after(alloc, instance, &layers)?;
+        let needs = LayerNeeds::after(alloc, instance, &*prepared, &layers)?;
         find_rows(finder, alloc, instance, prepared, &layers, &needs)?;
-        let next = next_layer(cells_of, instance, &*prepared, &layers, needs)?;
+        let next = next_layer(cells_of, instance, &*prepared, needs)?;
         layers.push(next)?;
     }
     AllCells::of_layers(alloc, instance, &layers)

@@ -15,7 +15,7 @@ mod solver;
 
 pub use compaction::{Preparation, renaming_of};
 pub use layer_core::{Instance, needs_of_layer};
-pub use layer_work::{LayerContext, WorkerResult, work_layer};
+pub use layer_work::{LayerContext, WorkerResult, images_of_layer, work_layer};
 pub use preparation::{SearchStart, prepare};
 pub use solutions::Solution;
 pub use solver::{count_widths, find_optimum, find_optimum_alone, solve, solve_alone};

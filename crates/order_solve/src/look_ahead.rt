@@ -1,8 +1,6 @@
 //! Which rows of widths are computed before the cells of a layer need them. A row has the widths of
 //! a set's members.
 
-ghost use Rattle.std.specs.Prelude.{◌≡◌, length};
-ghost use Rattle.subset_layers.specs.Layers.{masks_of};
 ghost use Rattle.layer_core.specs.LayerCosts.{AreDone};
 
 use crate::guesses::likely_end;
@@ -26,16 +24,13 @@ fn requests_of_layer(
     alloc: Global,
     prepared: &Preparation<'_>,
     needs: &LayerNeeds,
-) -> Result<Requests, AllocError>
-    requires inputs { needs.now.layer.inputs ≡ prepared.now.problem.inputs }
-{
+) -> Result<Requests, AllocError> {
     let mut requests = prepared.requests(alloc)?;
-    for (place, needed) in needs.members.iter().enumerate() {
-        if *needed != 0 {
-            let image = prepared.image_of(needs.layer.mask_at(place));
-            if !prepared.is_found(image.set) {
-                requests.add_image(&image, *needed);
-            }
+    for (set, image) in needs.sets.iter().zip(&needs.images) {
+        if let Some(image) = image
+            && !prepared.is_found(image.set)
+        {
+            requests.add_image(image, set.members);
         }
     }
     Ok(requests)
@@ -51,8 +46,7 @@ pub(crate) fn look_ahead(
     done: &[Costs],
     needs: &LayerNeeds,
 ) -> Result<Option<LookAhead>, AllocError>
-    requires done { AreDone instance.now done.now }
-    requires inputs { needs.now.layer.inputs ≡ prepared.now.problem.inputs }
+    requires { AreDone instance.now done.now }
 {
     let mut requests = requests_of_layer(alloc, prepared, needs)?;
     if requests.is_empty() {

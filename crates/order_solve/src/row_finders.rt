@@ -21,7 +21,8 @@ pub(crate) trait RowFinder {
         ahead: &LookAhead,
     ) -> Result<(), AllocError>
         requires { ready self.now }
-        ensures { prepared.new.problem ≡ prepared.old.problem };
+        ensures problem { prepared.new.problem ≡ prepared.old.problem }
+        ensures renamed { prepared.new.renamed ≡ prepared.old.renamed };
 }
 
 /// The calling thread.

@@ -3,10 +3,10 @@
 ghost use Rattle.std.specs.Prelude.{◌≡◌, ◌+◌, ◌<◌};
 
 use crate::searches::tables_of;
-use order_model::{LowerBound, LowerBounds, Mask, Pairs};
+use order_model::{LowerBound, LowerBounds, Mask};
 use std::alloc::Global;
 use std::process::Abort;
-use subset_layers::{Cell, Costs, Layer, least_cell};
+use subset_layers::{Cell, Costs, Layer, lawful_cell};
 
 /// Low bytes of sets, how many sets have each, and the first of these.
 static BLOCKS: [(u8, usize, Mask); 5] = [
@@ -96,12 +96,13 @@ fn are_least(layer: &Layer, costs: &Costs, lower_bounds: &LowerBounds<'_>, rows:
 {
     for (i, row) in rows.iter().enumerate() {
         let (mask, widths, _, _) = row;
-        if layer.position(*mask) != Some(i) {
+        if layer.position(*mask) != Some(i) || *mask == 0 || *mask >= 8 {
             return false;
         }
         let mut padded = [0; 16];
         padded[..3].copy_from_slice(widths);
-        if least_cell(*mask, costs, &padded, 3, lower_bounds, &Pairs::none(3)) != cell_of(row) {
+        let below = costs.below(*mask);
+        if lawful_cell(*mask, 3, &below, &padded, 3, lower_bounds) != cell_of(row) {
             return false;
         }
     }

@@ -5,13 +5,15 @@ ghost use Rattle.subset_layers.specs.Layers.{masks_of, layer_with};
 ghost use Rattle.layer_core.specs.Pairing.{pair_of};
 ghost use Rattle.layer_core.specs.Instances.{cell_for};
 ghost use Rattle.layer_core.specs.LayerCosts.{IsLayerFor};
-ghost use Rattle.layer_work.specs.LayerContexts.{IsContext, context_with};
+ghost use Rattle.solver_tests.specs.Examples.{IsAfter};
 
 use crate::boards::{error_of_closing, is_stranger, lone_board};
 use crate::searches::tables_of;
 use layer_board::{Board, BoardSeat, CloseError, PostRefused};
 use order_model::{Limit, LowerBound, Mask, NoGate, Pairs, Workers};
-use order_solve::{Instance, LayerContext, Preparation, needs_of_layer, renaming_of, work_layer};
+use order_solve::{
+    Instance, LayerContext, Preparation, images_of_layer, needs_of_layer, renaming_of, work_layer,
+};
 use std::alloc::Global;
 use std::process::Abort;
 use std::thread;
@@ -49,12 +51,13 @@ fn cells_by_one(
     before: &Costs,
     prepared: &Preparation<'_>,
 ) -> Vec<Cell>
-    requires context { IsContext (context_with instance.now layer.now before.now) }
+    requires after { IsAfter instance.now layer.now before.now }
     requires prepared { prepared.now.problem ≡ instance.now.problem }
     ensures { map pair_of result.items ≡ map (cell_for instance.now) (masks_of layer.now) }
 {
     let needs = needs_of_layer(alloc, instance, before, layer).expect(rt, "memory");
-    let context = LayerContext::new(instance, layer, before, &needs, prepared);
+    let images = images_of_layer(alloc, prepared, layer, &needs).expect(rt, "memory");
+    let context = LayerContext::new(instance, layer, &needs, &images, prepared);
     let limit = instance.limit();
     let (board, seat) = lone_board(
         rt,
@@ -115,7 +118,7 @@ fn first_cell(
     before: &Costs,
     prepared: &Preparation<'_>,
 ) -> (Mask, Cell)
-    requires context { IsContext (context_with instance.now layer.now before.now) }
+    requires after { IsAfter instance.now layer.now before.now }
     requires prepared { prepared.now.problem ≡ instance.now.problem }
     ensures { pair_of result.1 ≡ cell_for instance.now result.0 }
 {
@@ -329,12 +332,13 @@ fn hold_claims<R: Abort + Threads + Sync>(
     before: &Costs,
     prepared: &Preparation<'_>,
 )
-    requires context { IsContext (context_with instance.now layer.now before.now) }
+    requires after { IsAfter instance.now layer.now before.now }
     requires prepared { prepared.now.problem ≡ instance.now.problem }
 {
     let (mask, cell) = first_cell(rt, alloc, instance, layer, before, prepared);
     let needs = needs_of_layer(alloc, instance, before, layer).expect(rt, "memory");
-    let context = LayerContext::new(instance, layer, before, &needs, prepared);
+    let images = images_of_layer(alloc, prepared, layer, &needs).expect(rt, "memory");
+    let context = LayerContext::new(instance, layer, &needs, &images, prepared);
     hold_and_leave(rt, alloc, instance, layer, &context, mask, cell);
     hold_and_post(rt, alloc, instance, layer, &context, mask, cell);
 }

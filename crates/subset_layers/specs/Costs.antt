@@ -2,19 +2,16 @@
 --     CostsOf, layer_of_costs c      a finished layer, with a cell for each set but the empty one; the layer itself
 --     cell_at c mask, cost_at c mask      the cell and the cost of a set, if it is in the layer; the empty set has the cost 0
 --     AreTrueCosts n F P r bound c      the costs are those of the definition's cells
---     AreWidthsFor n F P r bound mask costs widths      the widths that the cell of a set takes are the definition's
 --     IsCellFrom v P bound mask below widths cell      the definition's cell of a set, if the costs of smaller sets and the widths are the definition's
---     IsCellOnce v P bound mask costs widths cell      the definition's cell of a set, if the costs of a layer and the widths are the definition's
 use Rattle.std.specs.Prelude.{◌≡◌, ℕ, ◌-◌, ◌^◌, ◌≤◌, Option, Some, None, List, [], if◌then◌else◌, ◌<◌, IsTrue, nat_eq, length, slice_get, slice_index, unwrap_or}
 use Rattle.std.specs.Option.{option_map_or}
 use Rattle.definitions.specs.Functions.{Function}
-use Rattle.definitions.specs.Orders.{has, members, without, place_in}
-use Rattle.definitions.specs.Pairs.{Pair, is_lawful}
-use Rattle.definitions.specs.Widths.{width}
+use Rattle.definitions.specs.Orders.{has, place_in}
+use Rattle.definitions.specs.Pairs.{Pair}
 use Rattle.definitions.specs.Problems.{functions}
 use Rattle.definitions.specs.LowerBounds.{LowerBoundsOf}
 use Rattle.definitions.specs.declared.limits.LowerBound.{LowerBound}
-use Rattle.definitions.specs.Cells.{cell_of, cell_cost, asked, AreForCell}
+use Rattle.definitions.specs.Cells.{cell_of, cell_cost, AreForCell}
 use Rattle.subset_layers.specs.declared.costs.Cell.{Cell}
 use Rattle.subset_layers.specs.Layers.{LayerOf, layer_with, masks_of}
 
@@ -75,16 +72,3 @@ abbrev pub IsCellFrom : LowerBoundsOf → List Pair → ℕ → ℕ → List ℕ
 IsCellFrom v P bound mask below widths cell =
     AreForCell v.problem.inputs (functions v.problem) P v.lower_bound bound mask (slice_index below) (slice_index widths) →
     cell ≡ cell_of v.problem.inputs (functions v.problem) P v.lower_bound bound mask
-
--- the widths that the cell of a lawful set takes are the definition's
-abbrev pub AreWidthsFor : ℕ → List Function → List Pair → LowerBound → ℕ → ℕ → CostsOf → List ℕ → Type 0
-AreWidthsFor n F P r bound mask c widths =
-    IsTrue (is_lawful P (members n mask)) → (x : ℕ) → IsTrue (has (asked n r bound mask (cost_without c mask)) x) →
-    slice_index widths x ≡ width n F (without x (members n mask)) x
-
--- the definition's cell of a set, if the costs of the layer before and the widths that the cell takes are the definition's
-abbrev pub IsCellOnce : LowerBoundsOf → List Pair → ℕ → ℕ → CostsOf → List ℕ → ℕ × ℕ → Type 0
-IsCellOnce v P bound mask c widths cell =
-    AreTrueCosts c.inputs (functions v.problem) P v.lower_bound bound c →
-    AreWidthsFor c.inputs (functions v.problem) P v.lower_bound bound mask c widths →
-    cell ≡ cell_of c.inputs (functions v.problem) P v.lower_bound bound mask

@@ -1,15 +1,15 @@
 //! The cells and costs of a layer.
 
-ghost use Rattle.std.specs.Prelude.{◌≡◌, ℕ, ◌<◌, ◌≤◌, ◌↔◌, List, length, IfOk, IfSome, IsSome, IsTrue};
+ghost use Rattle.std.specs.Prelude.{◌≡◌, ℕ, ◌+◌, ◌<◌, ◌≤◌, ◌↔◌, List, length, slice_index, IfOk, IfSome, IsSome, IsTrue};
 ghost use Rattle.definitions.specs.Functions.{Function};
-ghost use Rattle.definitions.specs.Orders.{has};
+ghost use Rattle.definitions.specs.Orders.{has, members};
 ghost use Rattle.definitions.specs.Pairs.{Pair};
 ghost use Rattle.definitions.specs.declared.limits.LowerBound.{LowerBound};
 ghost use Rattle.definitions.specs.Cells.{cell_of};
 ghost use Rattle.subset_layers.specs.Layers as layers;
 
 use crate::layers::Layer;
-use order_model::{Mask, VarIx};
+use order_model::{Mask, VarIx, next_member};
 use std::alloc::{AllocError, Global};
 use std::marker::Model;
 
@@ -40,7 +40,7 @@ impl Model for Costs {
 }
 
 impl Costs {
-    ghost use Rattle.subset_layers.specs.Costs.{start_costs, costs_with, layer_of_costs, cell_at, cost_at, as_pair, AreTrueCosts, AreTrueCells};
+    ghost use Rattle.subset_layers.specs.Costs.{start_costs, costs_with, layer_of_costs, cell_at, cost_at, cost_without, as_pair, AreTrueCosts, AreTrueCells};
 
     /// The costs of the layer of the empty set.
     pub fn start(alloc: Global, inputs: u8) -> Result<Costs, AllocError>
@@ -108,5 +108,22 @@ impl Costs {
         } else {
             Some(0)
         }
+    }
+
+    /// At each member x of `mask`, a set of the next layer, the cost of the set without x.
+    pub fn below(&self, mask: Mask) -> [u32; 16]
+        requires { IsTrue
+            (has (layers.masks_of (layers.layer_with self.now.inputs (self.now.size + 1))) mask) }
+        ensures { (x : ℕ) → IsTrue (has (members self.now.inputs mask) x) →
+            slice_index result x ≡ cost_without self.now mask x }
+    {
+        let mut below = [0; 16];
+        let mut from = 0;
+        while let Some(x) = next_member(mask, from) {
+            let cost = self.cost_of(mask - (1 << x)).unwrap();
+            below[x as usize] = cost;
+            from = x + 1;
+        }
+        below
     }
 }

@@ -9,4 +9,4 @@ mod selection;
 
 pub use costs::{Cell, Costs};
 pub use layers::{Block, Layer};
-pub use recurrence::least_cell;
+pub use recurrence::{clipped_cell, lawful_cell};

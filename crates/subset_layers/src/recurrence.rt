@@ -1,15 +1,14 @@
 //! The cell of a set, from the costs of the sets with one variable less.
 
-ghost use Rattle.std.specs.Prelude.{Option, ◌≡◌, ℕ, ◌+◌, ◌-◌, ◌^◌, ◌<◌, ◌≤◌, List, slice_index, IfSome, IsNone, IsTrue};
+ghost use Rattle.std.specs.Prelude.{Option, ◌≡◌, ℕ, ◌+◌, ◌^◌, ◌<◌, ◌≤◌, List, slice_index, IfSome, IsNone, IsTrue};
 ghost use Rattle.definitions.specs.Orders.{has, members, IsOrder};
 ghost use Rattle.definitions.specs.Pairs.{Pair, Keeps, is_lawful};
 ghost use Rattle.definitions.specs.Cells.{first_of};
-ghost use Rattle.subset_layers.specs.Layers.{masks_of, layer_with};
-ghost use Rattle.subset_layers.specs.Costs.{cost_without, as_pair, IsCellFrom, IsCellOnce};
+ghost use Rattle.subset_layers.specs.Costs.{as_pair, IsCellFrom};
 ghost use Rattle.subset_layers.specs.Sums.{IsBest};
 
-use crate::costs::{Cell, Costs};
-use order_model::{LowerBounds, Mask, Pairs, VarIx, WidthRow, next_member};
+use crate::costs::Cell;
+use order_model::{LowerBounds, Mask, VarIx, WidthRow, next_member};
 
 /// The cost of a set without its member `variable`, plus this member's width.
 #[derive(Clone, Copy)]
@@ -55,7 +54,7 @@ fn best_sum(mask: Mask, inputs: u8, below: &[u32; 16], widths: &WidthRow, bound:
 }
 
 /// The cell of the set `mask` if it is pruned.
-fn clipped_cell(mask: Mask, bound: u32) -> Cell
+pub fn clipped_cell(mask: Mask, bound: u32) -> Cell
     requires some { 0 < mask }
     requires room { bound + 1 < 2 ^ 32 }
     ensures { (n : ℕ) → mask < 2 ^ n → as_pair result ≡ (bound + 1, first_of (members n mask)) }
@@ -69,8 +68,9 @@ fn clipped_cell(mask: Mask, bound: u32) -> Cell
 /// The cell of the lawful set `mask`: the least sum `below[x] + widths[x]` over its members x, and
 /// the smallest x that gives it. `below[x]` is the cost of the set without x, and `widths[x]` the
 /// width of x over the other members. If the sum plus the lower bound on the nodes above exceeds
-/// `bound`, the set is pruned.
-fn lawful_cell(
+/// `bound`, the set is pruned. By variables `widths[x]` isn't read where `below[x]` exceeds
+/// `bound`.
+pub fn lawful_cell(
     mask: Mask,
     inputs: u8,
     below: &[u32; 16],
@@ -100,49 +100,5 @@ fn lawful_cell(
                 clipped_cell(mask, bound)
             }
         }
-    }
-}
-
-/// At each member x of the set `mask` the cost of the set without x.
-fn costs_below(mask: Mask, costs: &Costs) -> [u32; 16]
-    requires { IsTrue (has (masks_of (layer_with costs.now.inputs (costs.now.size + 1))) mask) }
-    ensures { (x : ℕ) → IsTrue (has (members costs.now.inputs mask) x) →
-        slice_index result x ≡ cost_without costs.now mask x }
-{
-    let mut below = [0; 16];
-    let mut from = 0;
-    while let Some(x) = next_member(mask, from) {
-        let cost = costs.cost_of(mask - (1 << x)).unwrap();
-        below[x as usize] = cost;
-        from = x + 1;
-    }
-    below
-}
-
-/// The cell of the set `mask`, by the costs of the sets with one member less, and the widths of its
-/// members over the others. A set that isn't lawful is pruned. By variables `widths[x]` isn't read
-/// where the cost without x exceeds `bound`.
-pub fn least_cell(
-    mask: Mask,
-    costs: &Costs,
-    widths: &WidthRow,
-    bound: u32,
-    lower_bounds: &LowerBounds<'_>,
-    pairs: &Pairs,
-) -> Cell
-    requires next { IsTrue
-        (has (masks_of (layer_with costs.now.inputs (costs.now.size + 1))) mask) }
-    requires inputs { pairs.now.inputs ≡ costs.now.inputs }
-    requires functions { lower_bounds.now.problem.inputs ≡ costs.now.inputs }
-    requires room { bound + 1 < 2 ^ 32 }
-    ensures { IsCellOnce lower_bounds.now pairs.now.pairs bound mask costs.now widths.now
-        (as_pair result) }
-{
-    let below = costs_below(mask, costs);
-    let inputs = pairs.inputs();
-    if pairs.lawful(mask) {
-        lawful_cell(mask, inputs, &below, widths, bound, lower_bounds)
-    } else {
-        clipped_cell(mask, bound)
     }
 }

@@ -1,24 +1,29 @@
-use Rattle.std.proofs.Common.{◌≡◌, ℕ, ◌++◌, List, [], ◌∷◌, true, sym, ap, ap₂, ◌∙◌, subst}
-use Rattle.std.proofs.lemmas.List.{map_more}
-use Rattle.std.proofs.lemmas.Option.{get_or_from_slice_get, slice_get_within}
+use Rattle.std.proofs.Common.{◌≡◌, ℕ, ◌+◌, List, [], ◌∷◌, ◌++◌, true, sym, ◌∙◌, subst}
+use Rattle.std.proofs.lemmas.Option.{get_or_from_slice_get}
 use Rattle.definitions.specs.Orders.{has}
 use Rattle.subset_layers.specs.Layers.{LayerOf, masks_of}
 use Rattle.subset_layers.proofs.BlockLists.{has_slice_get}
-use Rattle.layer_core.specs.Needs.{needed}
+use Rattle.layer_core.specs.Needs.{AreNeedsOf}
+use Rattle.layer_core.specs.declared.needs.SetNeeds.{SetNeeds}
+use Rattle.layer_core.proofs.NeedLists.{AreOfFirst, sets_none, sets_pushed}
 use Rattle.layer_core.proofs.needs.needs_of_layer.Goals as goal
 
-pub needed_members-requires-clause-next : goal.needed_members-requires-clause-next
-needed_members-requires-clause-next c =
+pub needs_of_set-requires-clause-next : goal.needs_of_set-requires-clause-next
+needs_of_set-requires-clause-next c =
     subst (λ (l : LayerOf). has (masks_of l) c.mask_at.result ≡ true) c.requires.next
     (has_slice_get (masks_of c.args.layer.now) c.loop-place.place c.mask_at.result c.mask_at.ensures)
+
+pub loop-place-init : goal.loop-place-init
+loop-place-init c =
+    subst (λ (xs : List SetNeeds). AreOfFirst (AreNeedsOf c.args.instance.now) (masks_of c.args.layer.now) 0 xs) (sym c.in_ok-needs.ensures.items)
+    (sets_none (AreNeedsOf c.args.instance.now) (masks_of c.args.layer.now))
 
 pub loop-place-preserved : goal.loop-place-preserved
 loop-place-preserved c =
     let t = c.args.instance.now in
     let masks = masks_of c.args.layer.now in
     let i = c.loop-place.place in
-    let mask = c.mask_at.result in
-    c.in_ok-push.ensures.items
-    ∙ ap₂ (λ (xs : List ℕ) (y : ℕ). xs ++ y ∷ []) c.loop-place.invariant
-    (c.needed_members.ensures ∙ ap (needed t) (sym (get_or_from_slice_get masks i mask 0 c.mask_at.ensures)))
-    ∙ sym (map_more (needed t) masks i 0 (slice_get_within masks i mask c.mask_at.ensures))
+    subst (λ (xs : List SetNeeds). AreOfFirst (AreNeedsOf t) masks (i + 1) xs) (sym c.in_ok-push.ensures.items)
+    (sets_pushed (AreNeedsOf t) masks i c.loop-place.needs.items c.needs_of_set.result c.loop-place.invariant
+    (subst (λ (m : ℕ). AreNeedsOf t m c.needs_of_set.result) (sym (get_or_from_slice_get masks i c.mask_at.result 0 c.mask_at.ensures))
+    c.needs_of_set.ensures))

@@ -51,7 +51,7 @@ cell_of_set-requires-clause-room g c =
     let v = c.inputs.ensures.value ∙ ap (λ (z : ContextOf). z.instance.problem.inputs) c.context.view_is in omega (arith, f, v)) in
     let few = few_gained t c.args.seat s1 t.problem.inputs small
     (ap (λ (z : BoardId). z.brief.layer.inputs) c.requires.seat ∙ ap (λ (l : LayerOf). l.inputs) c.requires.layer
-    ∙ ap (λ (z : ContextOf). z.layer.inputs) (sym c.context.view_is) ∙ ap (λ (l : LayerOf). l.inputs) c.context.invariant.0.layer
+    ∙ ap (λ (z : ContextOf). z.layer.inputs) (sym c.context.view_is) ∙ c.context.invariant.context.inputs
     ∙ ap (λ (z : ContextOf). z.instance.problem.inputs) c.context.view_is)
     small in
     let is = c.masks-mask-items.ensures ∙ ap (λ (z : BlockOf). block_masks z) c.block.ensures in

@@ -1,20 +1,17 @@
-use Rattle.std.proofs.Common.{map, length, ap, ◌∙◌, arith, rules, Ok}
-use Rattle.std.proofs.lemmas.Option.{slice_get_read}
-use Rattle.subset_layers.specs.Layers.{masks_of}
+use Rattle.std.proofs.Common.{ℕ, map, length, ap, ◌∙◌, rules, Ok}
+use Rattle.subset_layers.specs.Layers.{layer_with, masks_of}
 use Rattle.layer_core.specs.Instances.{cell_for}
 use Rattle.layer_work.specs.LayerContexts.{ContextOf}
 use Rattle.layer_core.proofs.CellPlaces.{layer_is}
 use Rattle.order_solve.proofs.LayerLists.{each_cell}
 use Rattle.order_solve.proofs.layers.next_layer.Goals as goal
 
-pub new-context-requires-clause-context : goal.new-context-requires-clause-context
-new-context-requires-clause-context g c = grind (arith, slice_get_read)
-
 pub returns : goal.returns
 returns g c =
+    let l = c.args.needs.layer in
     let cells = c.requires.cells c.new-context.result (Ok c.in_ok-cells.cells) (search rules) in
-    layer_is c.args.instance.now (length c.args.done.now) c.args.needs.layer c.in_ok-cells.cells.items c.of.result
-    c.requires.layer c.of.ensures.value
+    layer_is c.args.instance.now l.size l c.in_ok-cells.cells.items c.of.result
+    (ap (λ (n : ℕ). layer_with n l.size) c.requires.context.inputs) c.of.ensures.value
     (cells
     ∙ ap (λ (b : ContextOf). map (cell_for b.instance) (masks_of b.layer)) c.new-context.ensures)
     c.of.ensures.exact

@@ -9,7 +9,7 @@ use Rattle.subset_layers.specs.Costs.{cost_at, cost_without}
 use Rattle.subset_layers.proofs.BlockLists.{has_masks}
 use Rattle.subset_layers.proofs.CostLists.{member_from_bit, power_le_mask, shifted_bit, less_one}
 use Rattle.subset_layers.proofs.Rows.{row_written}
-use Rattle.subset_layers.proofs.recurrence.costs_below.Goals as goal
+use Rattle.subset_layers.proofs.costs.Costs.below.Goals as goal
 
 pub overflow_sub-mask : goal.overflow_sub-mask
 overflow_sub-mask c = omega (arith, power_le_mask c.args.mask c.in-Some.x (shr_and_one c.args.mask c.in-Some.x ∙ c.in-Some.ensures.member.2))
@@ -19,7 +19,7 @@ unwrap-cost-requires c = grind (arith, shifted_bit, shr_and_one, member_from_bit
 
 pub loop-x-preserved : goal.loop-x-preserved
 loop-x-preserved c =
-    let costs = c.args.costs.now in
+    let costs = c.args.self.now in
     let mask = c.args.mask in
     let x = c.in-Some.x in
     let below = c.loop-x.below in
@@ -42,5 +42,5 @@ loop-x-preserved c =
 pub returns : goal.returns
 returns c = λ x m. c.loop-x.invariant.found x (elim (cases_lt x c.loop-x.from) [
   | inl lt ↦ lt
-  | inr le ↦ absurd (let z = c.in_default.ensures.none refl x le in let o = (member_bit c.args.costs.now.inputs c.args.mask x m).1 in omega arith)
+  | inr le ↦ absurd (let z = c.in_default.ensures.none refl x le in let o = (member_bit c.args.self.now.inputs c.args.mask x m).1 in omega arith)
 ]) m
