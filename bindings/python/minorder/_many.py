@@ -10,7 +10,7 @@ from ._calls import Result, done
 from ._errors import BadArgument, BadShape, MinorderError
 from ._library import library
 from ._tables import Pla, Tables, inputs_said, listed, names_said, no_inputs, words_of
-from ._threads import Crew, workers_of
+from ._threads import Crew, checked_executor, workers_of
 
 # of a chunk: inputs, outputs, and how many functions
 HEAD = Struct("<III")
@@ -30,6 +30,10 @@ def exact_many(
     ``exact`` does, and names the function.
     """
     each = _functions_of(tables)
+    workers_of(workers)
+    checked_executor(executor)
+    if inputs is not None:
+        checked_inputs(inputs)
     if not each:
         return []
     try:

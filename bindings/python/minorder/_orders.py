@@ -17,7 +17,7 @@ def fault_of(words: Sequence[str], inputs: int, names: Optional[Sequence[str]] =
     seen: set[int] = set()
     called = names or [str(x) for x in range(inputs)]
     for word in words:
-        if not word.isascii() or not word.isdigit():
+        if not word.isascii() or not word.isdigit() or word != word.lstrip("0") and word != "0":
             return f"{shortened(word)} is no input of the file"
         if len(word) > MOST_DIGITS or int(word) >= inputs:
             return f"{shortened(word)} is out of range: the file's inputs are 0 to {inputs - 1}"

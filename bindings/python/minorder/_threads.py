@@ -95,15 +95,20 @@ def workers_of(workers: Optional[int]) -> int:
     return number
 
 
+def checked_executor(executor: Optional[Executor]) -> Optional[Executor]:
+    """Raises BadArgument."""
+    if executor is not None and (isinstance(executor, type) or not callable(getattr(executor, "submit", None))):
+        raise BadArgument(f"executor: {shown(executor)} is no executor of concurrent.futures")
+    return executor
+
+
 class Crew(Generic[Key]):
     """Threads, or an executor's workers, which are given tasks, each with a key, and give what the work makes of them as it is
     done. A task that fails with an executor is done here, with a warning. Raises BadArgument, BadShape."""
 
     def __init__(self, work: Callable[[bytes], bytes], workers: Optional[int], executor: Optional[Executor]) -> None:
         count = workers_of(workers)
-        if executor is not None and (isinstance(executor, type) or not callable(getattr(executor, "submit", None))):
-            raise BadArgument(f"executor: {shown(executor)} is no executor of concurrent.futures")
-        self._work, self._executor = work, executor
+        self._work, self._executor = work, checked_executor(executor)
         self._pool = Threads(count) if executor is None else executor
         # one more than there are threads, so that none waits for its next task
         self._room = count + 1 if executor is None else max(AHEAD, 2 * count)

@@ -10,7 +10,7 @@ from ._arguments import items_of, shown, truth_of
 from ._calls import certify, exact, levels, sift
 from ._errors import BadArgument, BadPla
 from ._handing_out import Waiting
-from ._threads import Crew, workers_of
+from ._threads import Crew, checked_executor, workers_of
 from ._writing import overwritten, path_of, write_file
 from .files import LIMIT, pla_of
 
@@ -193,15 +193,21 @@ def report_files(
     if certificates is not None:
         places = certificates_of(files, path_of(certificates, "certificates"))
         os.makedirs(certificates, exist_ok=True)
-    count, first = workers_of(workers), 0
-    waiting = Waiting(files, count)
+    return _reports(files, places, workers_of(workers), checked_executor(executor), ordered)
+
+
+def _reports(
+        files: Sequence[str], places: Dict[str, str], count: int, executor: Optional[Executor], ordered: bool,
+) -> Iterator[FileReport]:
+    """The reports of files, some of which have a place for a certificate."""
+    waiting, first = Waiting(files, count), 0
     held: Dict[int, FileReport] = {}
     with Crew[Part](report_chunk, count, executor) as crew:
         while True:
             end = first + MOST_AHEAD * count if ordered else len(files)
             numbers = waiting.next(end) if crew.has_room() else []
             if numbers:
-                crew.give(*_part_of(numbers, files, certificates is not None))
+                crew.give(*_part_of(numbers, files, bool(places)))
                 if not crew.is_any_done():
                     continue
             if not crew.has_tasks():

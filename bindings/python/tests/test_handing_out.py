@@ -134,7 +134,7 @@ except KeyboardInterrupt:
     def test_one_path_is_no_sequence(self):
         for paths in ("it.pla", b"it.pla", pathlib.Path("it.pla")):
             with self.assertRaises(minorder.BadArgument) as caught:
-                next(minorder.report_files(paths))
+                minorder.report_files(paths)
             self.assertTrue(str(caught.exception).startswith("paths: "))
 
 

@@ -215,7 +215,7 @@ class Files(unittest.TestCase):
                 place = f"{folder}/{os.path.basename(report.file)[:-3]}cert"
                 with open(f"{self.folder}/its.cert") as wanted, open(place) as found:
                     self.assertEqual(found.read(), wanted.read())
-        self.assertRaises(minorder.BadArgument, list, minorder.report_files(["a/it.pla", "b/it.pla"], folder))
+        self.assertRaises(minorder.BadArgument, minorder.report_files, ["a/it.pla", "b/it.pla"], folder)
 
     def command(self, *words):
         with contextlib.redirect_stdout(io.StringIO()) as written, contextlib.redirect_stderr(io.StringIO()):
@@ -240,16 +240,19 @@ class Files(unittest.TestCase):
     def test_what_is_no_path(self):
         for paths in ("it.pla", [3], [None], [b"it.pla"], None, 3, pathlib.Path("it.pla")):
             with self.assertRaisesRegex(minorder.BadArgument, "^paths: "):
-                list(minorder.report_files(paths))
+                minorder.report_files(paths)
 
     def test_other_arguments(self):
         for executor in (5, "x", [], concurrent.futures.ThreadPoolExecutor):
             for call in (lambda: minorder.exact_many([6], 2, executor=executor),
-                         lambda: list(minorder.report_files([], executor=executor))):
+                         lambda: minorder.exact_many([], executor=executor),
+                         lambda: minorder.report_files([], executor=executor)):
                 with self.assertRaisesRegex(minorder.BadArgument, "^executor: .* is no executor of concurrent.futures$"):
                     call()
         with self.assertRaisesRegex(minorder.BadArgument, "^ordered: 'no' is neither True nor False$"):
-            list(minorder.report_files([], ordered="no"))
+            minorder.report_files([], ordered="no")
+        for words in ({"workers": 0}, {"inputs": 17}):
+            self.assertRaises(minorder.BadShape, minorder.exact_many, [], **words)
 
     def test_the_command(self):
         inner = f"{self.folder}/inner"

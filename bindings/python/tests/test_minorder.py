@@ -303,7 +303,7 @@ class Refusals(unittest.TestCase):
         found, table = minorder.exact(multiplexer), minorder.TruthTable(0b10, 1)
         self.refused(minorder.BadArgument, "path", minorder.read_pla, "\ud800")
         self.refused(minorder.BadArgument, "path", found._diagram.save, "\ud800.svg")
-        self.refused(minorder.BadArgument, "certificates", next, minorder.report_files(["a.pla"], certificates="\ud800"))
+        self.refused(minorder.BadArgument, "certificates", minorder.report_files, ["a.pla"], certificates="\ud800")
         for names in ("\ud800 b", ["\ud800", "b"], ["\udc80"]):
             self.refused(minorder.BadArgument, "inputs", minorder.variables, names)
         self.refused(minorder.BadArgument, "names", minorder.TruthTable, 0b10, 1, ("\ud800",))
