@@ -42,7 +42,8 @@ class Orders(unittest.TestCase):
         self.assertEqual(numbered(["x", "y", "x"], ["x", "x", "y"]), ["0", "2", "1"])
 
     def test_what_is_no_order_is_told(self):
-        for words, fault in (("0 0 1", "0 is repeated"), ("0 1", "2 is missing"), ("0 1 x", "x is no input of the file"), ("00 1 2", "00 is no input of the file"),
+        for words, fault in (("0 0 1", "0 is repeated"), ("0 1", "2 is missing"), ("0 1 x", "x is no input of the file"),
+                             ("00 1 2", "00 is no input of the file"),
                              ("2", "0, 1 are missing"), ("0 1 2", None)):
             self.assertEqual(fault_of(words.split(), 3), fault)
         self.assertEqual(fault_of([], 3), "an order is empty")
