@@ -13,6 +13,7 @@ import os
 import pty
 import re
 import resource
+import select
 import signal
 import subprocess
 import sys
@@ -270,7 +271,8 @@ class Lines(InFolder):
         name = "n" * 100000
         files = [self.put(f"{number}.pla", f".i 1\n.o 1\n.ilb {name}\n1 1\n") for number in range(20)]
         with self.process(*files, stdout=subprocess.PIPE) as process:
-            time.sleep(1)
+            select.select((process.stdout,), (), (), 60)
+            time.sleep(0.3)
             process.send_signal(signal.SIGTERM)
             time.sleep(0.3)
             written = process.stdout.read()
